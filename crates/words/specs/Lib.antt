@@ -1,0 +1,4 @@
+pub mod Choice
+pub mod First
+pub mod Run
+pub mod Overlay

@@ -1,0 +1,65 @@
+-- Laws of runs. Assumes nothing.
+use Prim.Native.Nat.{ℕ, zero, suc, _+_, _-_, _≤_, _<_}
+use mathlib.Core.List.{List, [], _∷_, _++_, map}
+use mathlib.Core.Path.{_≡_, refl, sym, _∙_, ap, ap₂}
+use native.Mathlib.Omega.{arith}
+use native.Mathlib.Nat.{zero-add, suc-add, add-zero}
+use native.Mathlib.Numerals.{add-one, sub-one}
+use lib.ListN.{length, getD, take, drop}
+use lib.Seq.{drop-cons, take-suc}
+use Rattle.words.specs.Run.{run, All}
+
+-- ---- run
+pub run-none : (l : List ℕ) (a n : ℕ) → n ≤ 0 → run l a n ≡ []
+unfolding run
+run-none l a n h = let z : n ≡ 0 = omega arith in rw z
+
+-- the first word, and the rest as the code counts on
+pub run-more : (l : List ℕ) (a n : ℕ) → 0 < n → run l a n ≡ getD l a 0 ∷ run l (a + 1) (n - 1)
+unfolding run
+run-more l a zero h = absurd (omega arith)
+run-more l a (suc n) h = rw (add-one, sub-one)
+
+pub run-length : (l : List ℕ) (a n : ℕ) → length (run l a n) ≡ n
+unfolding run
+run-length l a zero = refl
+run-length l a (suc n) = ap suc (run-length l (suc a) n)
+
+pub run-getD : (l : List ℕ) (a n i : ℕ) → i < n → getD (run l a n) i 0 ≡ getD l (a + i) 0
+unfolding run
+run-getD l a zero i h = absurd (omega arith)
+run-getD l a (suc n) zero h = rw add-zero
+run-getD l a (suc n) (suc i) h = run-getD l (suc a) n i (omega arith) ∙ ap (λ (k : ℕ). getD l k 0) (omega arith)
+
+pub run-append : (l : List ℕ) (a m n : ℕ) → run l a (m + n) ≡ run l a m ++ run l (a + m) n
+unfolding run
+run-append l a zero n = rw (zero-add, add-zero)
+run-append l a (suc m) n =
+    rw suc-add (ap (λ (r : List ℕ). getD l a 0 ∷ r) (run-append l (suc a) m n ∙ ap (λ (k : ℕ). run l (suc a) m ++ run l k n) (omega arith)))
+
+-- inside the list, a run is what the library calls take of drop
+pub run-take : (l : List ℕ) (a n : ℕ) → a + n ≤ length l → run l a n ≡ take n (drop a l)
+unfolding run
+run-take l a zero h = refl
+run-take l a (suc n) h = rw (drop-cons l a 0 (omega arith)) (ap (λ (r : List ℕ). getD l a 0 ∷ r) (run-take l (suc a) n (omega arith)))
+
+-- ---- All
+pub all-run : (P : ℕ → Type 0) (l : List ℕ) (a n : ℕ) → ((i : ℕ) → i < n → P (getD l (a + i) 0)) → All P (run l a n)
+unfolding run
+all-run P l a zero h = tt
+all-run P l a (suc n) h =
+    (rw add-zero at (h 0 (omega arith)), all-run P l (suc a) n (λ i k. let e : a + suc i ≡ suc a + i = omega arith in rw e at (h (suc i) (omega arith))))
+
+pub all-getD : (P : ℕ → Type 0) (xs : List ℕ) → All P xs → (i : ℕ) → i < length xs → P (getD xs i 0)
+all-getD P [] a i h = absurd (omega arith)
+all-getD P (x ∷ xs) a zero h = a .0
+all-getD P (x ∷ xs) a (suc i) h = all-getD P xs (a .1) i (omega arith)
+
+pub all-imp : (P Q : ℕ → Type 0) → ((x : ℕ) → P x → Q x) → (xs : List ℕ) → All P xs → All Q xs
+all-imp P Q f [] a = tt
+all-imp P Q f (x ∷ xs) a = (f x (a .0), all-imp P Q f xs (a .1))
+
+-- functions that agree where P holds
+pub map-same : {X : Type 0} (P : ℕ → Type 0) (f g : ℕ → X) → ((x : ℕ) → P x → f x ≡ g x) → (xs : List ℕ) → All P xs → map f xs ≡ map g xs
+map-same P f g h [] a = refl
+map-same P f g h (x ∷ xs) a = ap₂ _∷_ (h x (a .0)) (map-same P f g h xs (a .1))

@@ -1,0 +1,360 @@
+//! The book: its words, its rules and the refusals 1 to 9 (document 01, "The book", "The refusals and their order").
+
+use crate::term::{Fold, Form, Shared, Term};
+use std::collections::HashSet;
+use std::fmt;
+use std::hash::BuildHasherDefault;
+
+/// The header's words: four counts, each with the offset of its section.
+pub const HEADER: u64 = 8;
+pub const MOST_ROWS: u32 = 1_024;
+pub const MOST_PARTIES: u32 = 16;
+pub const MOST_STEPS: u32 = 64;
+pub const MOST_POOL: u32 = 8_192;
+/// "Total length is exactly 8+4T+3Q+4L+W, so at most 12,600 words."
+pub const LONGEST: usize = 12_600;
+pub const MOST_TAG: u32 = 65_535;
+pub const MOST_KNOWN: u32 = 256;
+pub const MOST_MESSAGES: u32 = 8;
+/// "No size exceeds 1,024."
+pub const MOST_SIZE: u32 = 1_024;
+
+pub const ATOM: u32 = 0;
+pub const OPERATION: u32 = 1;
+pub const CIPHER: u32 = 2;
+pub const PUBLIC: u32 = 3;
+pub const PRIVATE: u32 = 4;
+
+/// One row of the table: kind 0 atom, 1 operation, 2 cipher (key first), 3 public half, 4 private half.
+#[derive(Clone, PartialEq, Eq, Hash, Debug)]
+pub struct Row {
+    pub kind: u32,
+    pub tag: u32,
+    pub parts: Vec<u32>,
+}
+
+#[derive(Clone, PartialEq, Eq, Debug)]
+pub struct Party {
+    pub name: u32,
+    pub known: Vec<u32>,
+}
+
+#[derive(Clone, PartialEq, Eq, Debug)]
+pub struct Step {
+    pub sender: u32,
+    pub receiver: u32,
+    pub messages: Vec<u32>,
+}
+
+#[derive(Clone, PartialEq, Eq, Debug)]
+pub struct Book {
+    pub rows: Vec<Row>,
+    pub parties: Vec<Party>,
+    pub steps: Vec<Step>,
+}
+
+/// A refusal: its number in document 01's table, and its place (two numbers for refusal 10: step and row).
+#[derive(Clone, PartialEq, Eq, Debug)]
+pub struct Refusal {
+    pub number: u32,
+    pub place: Vec<u32>,
+}
+
+impl Refusal {
+    pub fn new(number: u32, place: &[u32]) -> Refusal {
+        Refusal {
+            number,
+            place: place.to_vec(),
+        }
+    }
+}
+
+impl fmt::Display for Refusal {
+    /// "A refusal as the word "refused", its number and its place, all in decimal on one line with
+    /// single spaces."
+    fn fmt(&self, out: &mut fmt::Formatter<'_>) -> fmt::Result {
+        write!(out, "refused {}", self.number)?;
+        self.place
+            .iter()
+            .try_for_each(|word| write!(out, " {word}"))
+    }
+}
+
+impl Book {
+    /// The book's words. Nothing is tested here: a book that breaks a rule is written as it is.
+    pub fn words(&self) -> Vec<u32> {
+        let (t, q, l) = (self.rows.len(), self.parties.len(), self.steps.len());
+        let lists = (self.rows.iter().map(|row| &row.parts))
+            .chain(self.parties.iter().map(|party| &party.known))
+            .chain(self.steps.iter().map(|step| &step.messages));
+        let pool: Vec<u32> = lists.flatten().copied().collect();
+
+        let rows_at = HEADER as usize;
+        let parties_at = rows_at + 4 * t;
+        let steps_at = parties_at + 3 * q;
+        let pool_at = steps_at + 4 * l;
+        let mut words = Vec::with_capacity(pool_at + pool.len());
+        for number in [t, rows_at, q, parties_at, l, steps_at, pool.len(), pool_at] {
+            words.push(number as u32);
+        }
+        // "Each *first* is the sum of the counts before it (also where its own count is 0)."
+        let mut first = 0;
+        let mut list = |count: usize| {
+            let own = [first, count as u32];
+            first += count as u32;
+            own
+        };
+        for row in &self.rows {
+            words.extend([row.kind, row.tag]);
+            words.extend(list(row.parts.len()));
+        }
+        for party in &self.parties {
+            words.push(party.name);
+            words.extend(list(party.known.len()));
+        }
+        for step in &self.steps {
+            words.extend([step.sender, step.receiver]);
+            words.extend(list(step.messages.len()));
+        }
+        words.extend(pool);
+        words
+    }
+
+    /// The term a row stands for, in a book that keeps the rows' rules (parts stand before their row).
+    pub fn term(&self, row: u32) -> Term {
+        let own = &self.rows[row as usize];
+        let mut parts = own.parts.iter().map(|part| self.term(*part));
+        let mut part = || Box::new(parts.next().expect("a cipher has a key, a half has a part"));
+        match own.kind {
+            ATOM => Term::Atom(row),
+            OPERATION => Term::Operation(own.tag, parts.collect()),
+            CIPHER => Term::Cipher(part(), parts.collect()),
+            PUBLIC => Term::Public(part()),
+            _ => Term::Private(part()),
+        }
+    }
+
+    /// The terms of all rows, each sharing its parts with the rows they are.
+    pub fn shared(&self) -> Vec<Shared> {
+        let mut terms: Vec<Shared> = Vec::with_capacity(self.rows.len());
+        for (number, row) in self.rows.iter().enumerate() {
+            let part = |at: usize| terms[row.parts[at] as usize].clone();
+            let parts = |from: usize| (from..row.parts.len()).map(part).collect();
+            let form = match row.kind {
+                ATOM => Form::Atom(number as u32),
+                OPERATION => Form::Operation(row.tag, parts(0)),
+                CIPHER => Form::Cipher(part(0), parts(1)),
+                PUBLIC => Form::Public(part(0)),
+                _ => Form::Private(part(0)),
+            };
+            terms.push(Shared::new(form));
+        }
+        terms
+    }
+}
+
+/// Reads a book from any words, or gives the first refusal of 1 to 9 that applies.
+pub fn read(words: &[u32]) -> Result<Book, Refusal> {
+    let sections = header(words)?;
+    let mut pool = Pool {
+        words: sections.pool,
+        read: 0,
+    };
+    let rows = rows(sections.rows, &mut pool)?;
+    sizes(&rows)?;
+    repeats(&rows)?;
+    let parties = parties(sections.parties, &rows, &mut pool)?;
+    let steps = steps(sections.steps, rows.len(), parties.len(), &mut pool)?;
+    // "The sum of all counts is W."
+    if pool.read != pool.words.len() {
+        return Err(Refusal::new(9, &[0]));
+    }
+    Ok(Book {
+        rows,
+        parties,
+        steps,
+    })
+}
+
+/// The four sections of a book whose header is right.
+struct Sections<'w> {
+    rows: &'w [u32],
+    parties: &'w [u32],
+    steps: &'w [u32],
+    pool: &'w [u32],
+}
+
+/// Refusals 1 to 3.
+fn header(words: &[u32]) -> Result<Sections<'_>, Refusal> {
+    if words.len() < HEADER as usize {
+        return Err(Refusal::new(1, &[0]));
+    }
+    let bounds = [
+        (0, 1, MOST_ROWS),
+        (2, 1, MOST_PARTIES),
+        (4, 0, MOST_STEPS),
+        (6, 0, MOST_POOL),
+    ];
+    for (word, least, most) in bounds {
+        if !(least..=most).contains(&words[word]) {
+            return Err(Refusal::new(2, &[word as u32]));
+        }
+    }
+    let [t, q, l, w] = [0, 2, 4, 6].map(|word| words[word] as usize);
+    let rows_at = HEADER as usize;
+    let parties_at = rows_at + 4 * t;
+    let steps_at = parties_at + 3 * q;
+    let pool_at = steps_at + 4 * l;
+    for (word, offset) in [(1, rows_at), (3, parties_at), (5, steps_at), (7, pool_at)] {
+        if words[word] as usize != offset {
+            return Err(Refusal::new(3, &[word as u32]));
+        }
+    }
+    if words.len() != pool_at + w {
+        return Err(Refusal::new(3, &[8]));
+    }
+    Ok(Sections {
+        rows: &words[rows_at..parties_at],
+        parties: &words[parties_at..steps_at],
+        steps: &words[steps_at..pool_at],
+        pool: &words[pool_at..],
+    })
+}
+
+/// The pool, and how many of its words the lists so far have taken.
+struct Pool<'w> {
+    words: &'w [u32],
+    read: usize,
+}
+
+impl<'w> Pool<'w> {
+    /// The next list, if its first is the sum of the counts before it, its count at most `most`
+    /// and all of it in the pool.
+    fn list(&mut self, first: u32, count: u32, most: u32) -> Option<&'w [u32]> {
+        if first as usize != self.read || count > most {
+            return None;
+        }
+        let end = self.read + count as usize;
+        let list = self.words.get(self.read..end)?;
+        self.read = end;
+        Some(list)
+    }
+}
+
+/// Refusal 4: the smallest row that breaks its rule.
+fn rows(section: &[u32], pool: &mut Pool) -> Result<Vec<Row>, Refusal> {
+    let mut rows = Vec::with_capacity(section.len() / 4);
+    for (number, words) in section.chunks_exact(4).enumerate() {
+        let row = row(number as u32, words, pool);
+        rows.push(row.ok_or_else(|| Refusal::new(4, &[number as u32]))?);
+    }
+    Ok(rows)
+}
+
+fn row(number: u32, words: &[u32], pool: &mut Pool) -> Option<Row> {
+    let [kind, tag, first, count] = words.try_into().ok()?;
+    let (least, most) = match kind {
+        ATOM => (0, 0),
+        OPERATION => (0, 8),
+        CIPHER => (1, 9),
+        PUBLIC | PRIVATE => (1, 1),
+        _ => return None,
+    };
+    // "Tag is 0 to 65,535 for kind 1 and 0 for all others."
+    if count < least || tag > if kind == OPERATION { MOST_TAG } else { 0 } {
+        return None;
+    }
+    let parts = pool.list(first, count, most)?;
+    // "A row's parts are rows before it."
+    parts.iter().all(|part| *part < number).then(|| Row {
+        kind,
+        tag,
+        parts: parts.to_vec(),
+    })
+}
+
+/// Refusal 5. The first size over the bound ends it, so a sum has at most 9 sizes within the bound.
+fn sizes(rows: &[Row]) -> Result<(), Refusal> {
+    let mut sizes: Vec<u32> = Vec::with_capacity(rows.len());
+    for (number, row) in rows.iter().enumerate() {
+        let own = match row.kind {
+            ATOM | CIPHER => 2,
+            OPERATION => 3,
+            _ => 1,
+        };
+        let size = own
+            + row
+                .parts
+                .iter()
+                .map(|part| sizes[*part as usize])
+                .sum::<u32>();
+        if size > MOST_SIZE {
+            return Err(Refusal::new(5, &[number as u32]));
+        }
+        sizes.push(size);
+    }
+    Ok(())
+}
+
+/// Refusal 6: "Two rows that aren't atoms never agree in kind, tag and parts."
+fn repeats(rows: &[Row]) -> Result<(), Refusal> {
+    let hasher = BuildHasherDefault::<Fold>::default();
+    let mut earlier = HashSet::with_capacity_and_hasher(rows.len(), hasher);
+    for (number, row) in rows.iter().enumerate() {
+        if row.kind != ATOM && !earlier.insert(row) {
+            return Err(Refusal::new(6, &[number as u32]));
+        }
+    }
+    Ok(())
+}
+
+/// Refusal 7: the smallest party that breaks its rule.
+fn parties(section: &[u32], rows: &[Row], pool: &mut Pool) -> Result<Vec<Party>, Refusal> {
+    let mut parties: Vec<Party> = Vec::with_capacity(section.len() / 3);
+    for (number, words) in section.chunks_exact(3).enumerate() {
+        let party = party(words, rows, &parties, pool);
+        parties.push(party.ok_or_else(|| Refusal::new(7, &[number as u32]))?);
+    }
+    Ok(parties)
+}
+
+fn party(words: &[u32], rows: &[Row], earlier: &[Party], pool: &mut Pool) -> Option<Party> {
+    let [name, first, count] = words.try_into().ok()?;
+    // "The name is an atom's row; a party that repeats an earlier party's name breaks the rule."
+    if rows.get(name as usize)?.kind != ATOM || earlier.iter().any(|other| other.name == name) {
+        return None;
+    }
+    let known = pool.list(first, count, MOST_KNOWN)?;
+    // "The known rows stand in strictly increasing order": the last is the largest.
+    let in_order = known.windows(2).all(|pair| pair[0] < pair[1]);
+    let in_range = known.last().is_none_or(|row| (*row as usize) < rows.len());
+    (in_order && in_range).then(|| Party {
+        name,
+        known: known.to_vec(),
+    })
+}
+
+/// Refusal 8: the smallest step that breaks its rule.
+fn steps(section: &[u32], t: usize, q: usize, pool: &mut Pool) -> Result<Vec<Step>, Refusal> {
+    let mut steps = Vec::with_capacity(section.len() / 4);
+    for (number, words) in section.chunks_exact(4).enumerate() {
+        let step = step(words, t, q, pool);
+        steps.push(step.ok_or_else(|| Refusal::new(8, &[number as u32]))?);
+    }
+    Ok(steps)
+}
+
+fn step(words: &[u32], t: usize, q: usize, pool: &mut Pool) -> Option<Step> {
+    let [sender, receiver, first, count] = words.try_into().ok()?;
+    // "Two different party numbers; 0 to 8 messages."
+    if sender == receiver || sender as usize >= q || receiver as usize >= q {
+        return None;
+    }
+    let messages = pool.list(first, count, MOST_MESSAGES)?;
+    let in_range = messages.iter().all(|row| (*row as usize) < t);
+    in_range.then(|| Step {
+        sender,
+        receiver,
+        messages: messages.to_vec(),
+    })
+}

@@ -1,0 +1,12 @@
+//! Nghiralum's second implementation, written from the papers alone, on terms.
+
+pub mod book;
+pub mod compare;
+pub mod corpus;
+pub mod machine;
+pub mod narration;
+pub mod random;
+pub mod rehearse;
+pub mod show;
+pub mod term;
+pub mod translate;

@@ -1,0 +1,158 @@
+//! The commands of the second implementation.
+
+use host::translate;
+use host::{compare, corpus, narration, random, rehearse, show};
+use std::fs::{self, File};
+use std::io::{self, Read, Write};
+use std::path::{Path, PathBuf};
+use std::process::ExitCode;
+use std::thread;
+
+const USE: &str = "\
+host translate [FILE]                   print a book's listing or refusal, as the small program does
+host rehearse FILE SCHEDULE             play a book under a schedule (a file of words): events done
+host narrate FILE [OUT]                 turn a narration into a book
+host show FILE                          tell what a book says
+host words FILE [OUT]                   turn decimal words (# to the line's end is a remark) into a book
+host books [--check] DIR                write (or only check) the files derived in a folder of books
+host random SEED COUNT DIR              write random books
+host compare PROGRAM PATH..             compare a program over books and folders of books
+host compare PROGRAM --random SEED COUNT   compare a program over random books
+host help                               print this
+";
+
+/// Deep terms are walked by recursion; a narration's text may be deeper than any term that passes.
+const STACK: usize = 64 << 20;
+
+fn main() -> ExitCode {
+    let arguments: Vec<String> = (std::env::args_os().skip(1))
+        .map(|argument| argument.to_string_lossy().into_owned())
+        .collect();
+    let worker = thread::Builder::new().stack_size(STACK);
+    let outcome = match worker
+        .spawn(move || run(&arguments))
+        .map(|worker| worker.join())
+    {
+        Ok(Ok(outcome)) => outcome,
+        Ok(Err(_)) => Err("the command came to grief".to_string()),
+        Err(error) => Err(format!("no thread for the command: {error}")),
+    };
+    match outcome {
+        Ok(true) => ExitCode::SUCCESS,
+        Ok(false) => ExitCode::FAILURE,
+        Err(message) => {
+            // Nobody is left to tell if this fails as well.
+            let _ = writeln!(io::stderr(), "host: {message}");
+            ExitCode::from(2)
+        }
+    }
+}
+
+/// Runs one command: whether all is well, or a message about what the command was given.
+fn run(arguments: &[String]) -> Result<bool, String> {
+    let arguments: Vec<&str> = arguments.iter().map(String::as_str).collect();
+    match arguments.as_slice() {
+        [] | ["help"] => say(USE)?,
+        ["translate"] => {
+            let book = up_to(io::stdin(), translate::READ_BYTES, "standard input")?;
+            say(&(translate::print(&book) + "\n"))?;
+        }
+        ["translate", file] => {
+            let book = file_up_to(file, translate::READ_BYTES)?;
+            say(&(translate::print(&book) + "\n"))?;
+        }
+        ["rehearse", file, schedule] => {
+            let book = file_up_to(file, translate::READ_BYTES)?;
+            let schedule = file_up_to(schedule, rehearse::READ_BYTES)?;
+            say(&(rehearse::print(&book, &schedule) + "\n"))?;
+        }
+        ["narrate", file, out @ ..] if out.len() < 2 => {
+            let book = narration::narrate(&text(file)?);
+            let book = book.map_err(|mistake| format!("{file}: {mistake}"))?;
+            give(&random::bytes_of(&book.words()), out.first())?;
+        }
+        ["show", file] => {
+            let bytes = file_up_to(file, translate::READ_BYTES)?;
+            match translate::words_of(&bytes) {
+                Ok(words) => say(&ended(show::show(&words)))?,
+                Err(refusal) => say(&format!("{refusal}\n"))?,
+            }
+        }
+        ["words", file, out @ ..] if out.len() < 2 => {
+            let words = corpus::words(&text(file)?);
+            let words = words.map_err(|mistake| format!("{file}: {mistake}"))?;
+            give(&random::bytes_of(&words), out.first())?;
+        }
+        ["books", "--check", folder] => {
+            let books = corpus::check(Path::new(folder))?;
+            say(&format!("{books} books in {folder} are current\n"))?;
+        }
+        ["books", folder] => {
+            let books = corpus::write(Path::new(folder))?;
+            say(&format!("{books} books in {folder} are written\n"))?;
+        }
+        ["random", seed, count, folder] => {
+            random::write(number(seed)?, number(count)? as usize, Path::new(folder))?;
+        }
+        ["compare", program, "--random", seed, count] => {
+            let (seed, count) = (number(seed)?, number(count)? as usize);
+            return compare::random(program, seed, count, &mut io::stdout());
+        }
+        ["compare", program, first, rest @ ..] if *first != "--random" => {
+            let paths = [&[*first], rest].concat();
+            let paths: Vec<PathBuf> = paths.iter().map(PathBuf::from).collect();
+            return compare::files(program, &paths, &mut io::stdout());
+        }
+        [command, ..] => {
+            return Err(format!(
+                "what is asked with `{command}` isn't clear\n\n{USE}"
+            ));
+        }
+    }
+    Ok(true)
+}
+
+fn number(text: &str) -> Result<u64, String> {
+    let number = text.parse();
+    number.map_err(|_| format!("`{text}` is no number"))
+}
+
+/// The first bytes of a file, "and no further".
+fn file_up_to(name: &str, most: usize) -> Result<Vec<u8>, String> {
+    let file = File::open(name).map_err(|error| format!("{name}: {error}"))?;
+    up_to(file, most, name)
+}
+
+fn up_to(source: impl Read, most: usize, name: &str) -> Result<Vec<u8>, String> {
+    let mut bytes = Vec::new();
+    let read = source.take(most as u64).read_to_end(&mut bytes);
+    read.map_err(|error| format!("{name}: {error}"))?;
+    Ok(bytes)
+}
+
+fn text(name: &str) -> Result<String, String> {
+    fs::read_to_string(name).map_err(|error| format!("{name}: {error}"))
+}
+
+fn ended(mut text: String) -> String {
+    if !text.ends_with('\n') {
+        text.push('\n');
+    }
+    text
+}
+
+fn say(text: &str) -> Result<(), String> {
+    give(text.as_bytes(), None)
+}
+
+/// Writes bytes to a file, or to standard output; a closed pipe is an error like any other.
+fn give(bytes: &[u8], file: Option<&&str>) -> Result<(), String> {
+    match file {
+        Some(name) => fs::write(name, bytes).map_err(|error| format!("{name}: {error}")),
+        None => {
+            let mut out = io::stdout().lock();
+            let written = out.write_all(bytes).and_then(|()| out.flush());
+            written.map_err(|error| format!("standard output: {error}"))
+        }
+    }
+}

@@ -1,0 +1,131 @@
+//! The table while it is filled: each term gets a row when it first appears, its parts before it.
+
+use super::limits;
+use super::mistake::{mistake, Mistake, Spot};
+use super::tags::Tags;
+use super::written::{Form, Written};
+use crate::book::Row;
+use std::collections::{HashMap, HashSet};
+
+pub struct Table<'a> {
+    tags: Tags<'a>,
+    parties: HashSet<&'a str>,
+    rows: Vec<Row>,
+    sizes: Vec<usize>,
+    /// Pool words of all lists so far.
+    pool: usize,
+    atoms: HashMap<&'a str, u32>,
+    /// The rows that are no atoms, by kind, tag and parts: equal terms get equal rows.
+    others: HashMap<(u32, u32, Vec<u32>), u32>,
+}
+
+impl<'a> Table<'a> {
+    pub fn new(tags: Tags<'a>, parties: HashSet<&'a str>) -> Table<'a> {
+        Table {
+            tags,
+            parties,
+            rows: Vec::new(),
+            sizes: Vec::new(),
+            pool: 0,
+            atoms: HashMap::new(),
+            others: HashMap::new(),
+        }
+    }
+
+    pub fn rows(self) -> Vec<Row> {
+        self.rows
+    }
+
+    pub fn atom(&mut self, name: &'a str, spot: Spot) -> Result<u32, Mistake> {
+        if let Some(row) = self.atoms.get(name) {
+            return Ok(*row);
+        }
+        let row = self.push(
+            Row {
+                kind: 0,
+                tag: 0,
+                parts: Vec::new(),
+            },
+            2,
+            spot,
+        )?;
+        self.atoms.insert(name, row);
+        Ok(row)
+    }
+
+    /// The row of a written term. A loop, as terms may nest deeper than the stack.
+    pub fn enter(&mut self, terms: &[Written<'a>], term: usize) -> Result<u32, Mistake> {
+        // The terms begun, each with the rows of its parts entered so far.
+        let mut begun: Vec<(usize, Vec<u32>)> = vec![(term, Vec::new())];
+        loop {
+            let (term, parts) = begun
+                .last()
+                .expect("the outermost term is only popped below");
+            if let Some(part) = terms[*term].form.part(parts.len()) {
+                begun.push((part, Vec::new()));
+                continue;
+            }
+            let (term, parts) = begun.pop().expect("seen just above");
+            let row = self.written(&terms[term], parts)?;
+            match begun.last_mut() {
+                Some((_, parts)) => parts.push(row),
+                None => return Ok(row),
+            }
+        }
+    }
+
+    fn written(&mut self, term: &Written<'a>, parts: Vec<u32>) -> Result<u32, Mistake> {
+        let (kind, tag, own_size) = match &term.form {
+            Form::Atom(name) => return self.atom(name, term.spot),
+            Form::Operation(name, _) => {
+                if self.parties.contains(name) {
+                    let found = format!("`{name}`, which is a party's name");
+                    return Err(mistake(term.spot, "an operation's name", &found));
+                }
+                (1, self.tags.tag(name), 3)
+            }
+            Form::Cipher { .. } => (2, 0, 2),
+            Form::Public(_) => (3, 0, 1),
+            Form::Private(_) => (4, 0, 1),
+        };
+        let key = (kind, tag, parts);
+        if let Some(row) = self.others.get(&key) {
+            return Ok(*row);
+        }
+        let parts = key.2.clone();
+        // At most nine parts of at most 1,024 each.
+        let size = own_size
+            + parts
+                .iter()
+                .map(|part| self.sizes[*part as usize])
+                .sum::<usize>();
+        let row = self.push(Row { kind, tag, parts }, size, term.spot)?;
+        self.others.insert(key, row);
+        Ok(row)
+    }
+
+    fn push(&mut self, row: Row, size: usize, spot: Spot) -> Result<u32, Mistake> {
+        if size > limits::SIZE {
+            let expected = format!("a term of size at most {}", limits::SIZE);
+            return Err(mistake(spot, &expected, &format!("one of size {size}")));
+        }
+        if self.rows.len() == limits::ROWS {
+            let expected = format!("at most {} rows", limits::ROWS);
+            return Err(mistake(spot, &expected, "a term that needs one more"));
+        }
+        self.lists(row.parts.len(), spot)?;
+        self.rows.push(row);
+        self.sizes.push(size);
+        Ok(self.rows.len() as u32 - 1)
+    }
+
+    /// Counts `words` more of the pool.
+    pub fn lists(&mut self, words: usize, spot: Spot) -> Result<(), Mistake> {
+        self.pool += words;
+        if self.pool <= limits::POOL {
+            return Ok(());
+        }
+        let expected = format!("lists of at most {} words in all", limits::POOL);
+        Err(mistake(spot, &expected, "a term that needs more"))
+    }
+}

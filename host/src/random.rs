@@ -1,0 +1,86 @@
+//! Random books: most well formed, about half of those playable, the rest damaged at one place or
+//! another, so that every refusal of document 01's table is met.
+
+mod damage;
+mod shape;
+
+use crate::book::Book;
+use std::fs;
+use std::path::Path;
+
+/// A small generator of pseudorandom numbers (splitmix64): the same seed, the same books.
+pub struct Random {
+    state: u64,
+}
+
+impl Random {
+    pub fn new(seed: u64) -> Random {
+        Random { state: seed }
+    }
+
+    pub fn word(&mut self) -> u64 {
+        self.state = self.state.wrapping_add(0x9e37_79b9_7f4a_7c15);
+        let mut word = self.state;
+        word = (word ^ (word >> 30)).wrapping_mul(0xbf58_476d_1ce4_e5b9);
+        word = (word ^ (word >> 27)).wrapping_mul(0x94d0_49bb_1331_11eb);
+        word ^ (word >> 31)
+    }
+
+    /// A number below `bound`, which isn't 0.
+    pub fn below(&mut self, bound: usize) -> usize {
+        (self.word() % bound as u64) as usize
+    }
+
+    /// A number from `least` to `most`.
+    pub fn between(&mut self, least: usize, most: usize) -> usize {
+        least + self.below(most - least + 1)
+    }
+
+    /// True in so many cases out of a hundred.
+    pub fn percent(&mut self, cases: usize) -> bool {
+        self.below(100) < cases
+    }
+
+    pub fn pick<'a, T>(&mut self, from: &'a [T]) -> &'a T {
+        &from[self.below(from.len())]
+    }
+}
+
+/// The bytes of a book's file: words of four bytes, low byte first.
+pub fn bytes_of(words: &[u32]) -> Vec<u8> {
+    words.iter().flat_map(|word| word.to_le_bytes()).collect()
+}
+
+/// The files of random books, one after another. Each hangs on the seed and its number alone.
+pub fn books(seed: u64, count: usize) -> impl Iterator<Item = Vec<u8>> {
+    (0..count).map(move |number| {
+        let mut random = at(seed, number);
+        if random.percent(35) {
+            damage::bytes(&mut random)
+        } else {
+            bytes_of(&shape::book(&mut random).words())
+        }
+    })
+}
+
+/// Random books that keep their rules, up to the `size` of the shapes (0 tiny to 3 full).
+pub fn well_formed(seed: u64, count: usize, size: usize) -> impl Iterator<Item = Book> {
+    (0..count).map(move |number| shape::book_of(&mut at(seed, number), size))
+}
+
+/// The generator of one book.
+fn at(seed: u64, number: usize) -> Random {
+    let start = Random::new(seed).word();
+    Random::new(start ^ Random::new(number as u64).word())
+}
+
+/// Writes random books as `00000.book` and on into a folder, which is made if it isn't there.
+pub fn write(seed: u64, count: usize, folder: &Path) -> Result<(), String> {
+    let name = |path: &Path| path.display().to_string();
+    fs::create_dir_all(folder).map_err(|error| format!("{}: {error}", name(folder)))?;
+    for (number, bytes) in books(seed, count).enumerate() {
+        let path = folder.join(format!("{number:05}.book"));
+        fs::write(&path, bytes).map_err(|error| format!("{}: {error}", name(&path)))?;
+    }
+    Ok(())
+}

@@ -1,0 +1,67 @@
+//! A party's program, one event a line, each line a comment.
+
+use super::texts::{placeholder, Texts};
+use crate::translate::Event;
+
+pub fn write(party: &str, program: &[Event], texts: &Texts, out: &mut String) {
+    for event in program {
+        out.push_str(&format!("# {party}: "));
+        write_event(event, texts, out);
+        out.push('\n');
+    }
+}
+
+fn write_event(event: &Event, texts: &Texts, out: &mut String) {
+    match event {
+        Event::New { row } => out.push_str(&format!("new {}", texts.row(*row))),
+        Event::Send { step, images } => {
+            out.push_str(&format!("send step {step}: "));
+            texts.images(images, out);
+            nothing_if(images.is_empty(), out);
+        }
+        Event::Receive { step, first, n } => {
+            out.push_str(&format!("receive step {step}: "));
+            placeholders(*first, *n, out);
+        }
+        Event::Check {
+            placeholder: number,
+            image,
+        } => {
+            out.push_str(&format!("check {} = ", placeholder(*number)));
+            texts.image(image, out);
+        }
+        Event::Open {
+            placeholder: number,
+            first,
+            n,
+            key,
+        } => {
+            out.push_str(&format!("open {} with ", placeholder(*number)));
+            texts.image(key, out);
+            out.push_str(": ");
+            placeholders(*first, *n, out);
+        }
+        Event::End { stored } => {
+            out.push_str("end: ");
+            let pair = |(row, number): &(u32, u32)| {
+                format!("{} = {}", texts.row(*row), placeholder(*number))
+            };
+            let pairs: Vec<String> = stored.iter().map(pair).collect();
+            out.push_str(&pairs.join(", "));
+            nothing_if(pairs.is_empty(), out);
+        }
+    }
+}
+
+fn placeholders(first: u32, n: u32, out: &mut String) {
+    let names: Vec<String> = (0..n).map(|i| placeholder(first + i)).collect();
+    out.push_str(&names.join(", "));
+    nothing_if(names.is_empty(), out);
+}
+
+/// An empty list is said, not left to be guessed from a line's end.
+fn nothing_if(empty: bool, out: &mut String) {
+    if empty {
+        out.push_str("nothing");
+    }
+}

@@ -1,0 +1,148 @@
+//! The words of a book that is refused by 1 to 9, section by section, every line a comment. The mark of
+//! the refusal stands right under the header word, row, party or step it names.
+
+use super::why;
+use crate::book::{Refusal, HEADER};
+use crate::translate;
+use std::ops::RangeInclusive;
+
+const NAMES: [&str; HEADER as usize] = [
+    "rows",
+    "offset of the rows",
+    "parties",
+    "offset of the parties",
+    "steps",
+    "offset of the steps",
+    "pool words",
+    "offset of the pool",
+];
+
+pub fn show(words: &[u32], refusal: &Refusal) -> String {
+    let place = refusal.place.first().copied().unwrap_or(0);
+    let mut page = Page {
+        lines: String::new(),
+        number: refusal.number,
+        place: place as usize,
+        reason: why::why(words, refusal.number, place),
+    };
+    if refusal.number == 1 {
+        page.line(&format!("words: {}", list(words)));
+        page.mark(1..=1, 0, "0");
+        return page.lines;
+    }
+    page.header(words);
+    // Before refusal 4 the sections aren't known to be where the header says.
+    if refusal.number >= 4 {
+        page.sections(&Sections::of(words));
+    }
+    page.lines
+}
+
+/// The lines so far, and what the mark under one of them says.
+struct Page {
+    lines: String,
+    number: u32,
+    place: usize,
+    reason: String,
+}
+
+impl Page {
+    fn line(&mut self, text: &str) {
+        self.lines.push_str("# ");
+        self.lines.push_str(text);
+        self.lines.push('\n');
+    }
+
+    /// The mark, if the refusal is one of `numbers` and the last line is at its place.
+    fn mark(&mut self, numbers: RangeInclusive<u32>, place: usize, what: &str) {
+        if numbers.contains(&self.number) && place == self.place {
+            self.line(&format!(
+                "refused {} at {what}: {}",
+                self.number, self.reason
+            ));
+        }
+    }
+
+    fn header(&mut self, words: &[u32]) {
+        for (number, name) in NAMES.iter().enumerate() {
+            self.line(&format!("word {number}, {name}: {}", words[number]));
+            self.mark(2..=3, number, &format!("header word {number}"));
+        }
+        self.line(&format!("length: {}", words.len()));
+        self.mark(3..=3, NAMES.len(), "length");
+    }
+
+    fn sections(&mut self, sections: &Sections) {
+        for (number, row) in sections.rows.chunks_exact(4).enumerate() {
+            let parts = sections.list(row[2], row[3], 9);
+            self.line(&format!(
+                "row {number}: kind {}, tag {}, first {}, count {}; parts: {parts}",
+                row[0], row[1], row[2], row[3]
+            ));
+            self.mark(4..=6, number, &format!("row {number}"));
+        }
+        for (number, party) in sections.parties.chunks_exact(3).enumerate() {
+            let known = sections.list(party[1], party[2], 256);
+            self.line(&format!(
+                "party {number}: name {}, first {}, count {}; known: {known}",
+                party[0], party[1], party[2]
+            ));
+            self.mark(7..=7, number, &format!("party {number}"));
+        }
+        for (number, step) in sections.steps.chunks_exact(4).enumerate() {
+            let messages = sections.list(step[2], step[3], 8);
+            self.line(&format!(
+                "step {number}: sender {}, receiver {}, first {}, count {}; messages: {messages}",
+                step[0], step[1], step[2], step[3]
+            ));
+            self.mark(8..=8, number, &format!("step {number}"));
+        }
+        self.line(&format!("pool: {} words", sections.pool.len()));
+        self.mark(9..=9, 0, "0");
+    }
+}
+
+/// The four sections of words whose header is right.
+pub struct Sections<'w> {
+    pub rows: &'w [u32],
+    pub parties: &'w [u32],
+    pub steps: &'w [u32],
+    pub pool: &'w [u32],
+}
+
+impl<'w> Sections<'w> {
+    /// Only for words that passed refusals 1 to 3.
+    pub fn of(words: &'w [u32]) -> Sections<'w> {
+        let [rows, parties, steps, pool] = [1, 3, 5, 7].map(|word| words[word] as usize);
+        Sections {
+            rows: &words[rows..parties],
+            parties: &words[parties..steps],
+            steps: &words[steps..pool],
+            pool: &words[pool..],
+        }
+    }
+
+    /// As much of a list as lies in the pool, and no more of it than a good list could have.
+    pub fn clipped(&self, first: u32, count: u32, most: usize) -> &'w [u32] {
+        let from = (first as usize).min(self.pool.len());
+        let to = from + (count as usize).min(most).min(self.pool.len() - from);
+        &self.pool[from..to]
+    }
+
+    /// A list, with two dots for what of it can't be shown.
+    fn list(&self, first: u32, count: u32, most: usize) -> String {
+        let words = self.clipped(first, count, most);
+        match words.len() {
+            0 if count > 0 => String::from(".."),
+            shown if shown as u32 == count => list(words),
+            _ => list(words) + " ..",
+        }
+    }
+}
+
+fn list(words: &[u32]) -> String {
+    if words.is_empty() {
+        return String::from("none");
+    }
+    translate::line(words)
+}

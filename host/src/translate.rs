@@ -1,0 +1,414 @@
+//! The translation of figure 3 as document 01 reads it: one program per party (refusals 10 and 12).
+
+use crate::book::{self, Book, Refusal, Step};
+use crate::term::{Form, Shared, SharedMap, SharedSet};
+
+/// "It reads one word more than the longest book, so 12,601 words, and no further."
+pub const READ_BYTES: usize = 4 * (book::LONGEST + 1);
+/// "It lends 16,384 words for the output."
+pub const LENT: usize = 16_384;
+
+#[derive(Clone, PartialEq, Eq, Debug)]
+pub enum Image {
+    /// Held as itself: the row.
+    Itself(u32),
+    Placeholder(u32),
+    Operation(u32, Vec<Image>),
+    Cipher(Box<Image>, Vec<Image>),
+    Public(Box<Image>),
+    Private(Box<Image>),
+}
+
+#[derive(Clone, PartialEq, Eq, Debug)]
+pub enum Event {
+    New {
+        row: u32,
+    },
+    Send {
+        step: u32,
+        images: Vec<Image>,
+    },
+    Receive {
+        step: u32,
+        first: u32,
+        n: u32,
+    },
+    Check {
+        placeholder: u32,
+        image: Image,
+    },
+    Open {
+        placeholder: u32,
+        first: u32,
+        n: u32,
+        key: Image,
+    },
+    /// The stored rows with their placeholders, in the order of storing.
+    End {
+        stored: Vec<(u32, u32)>,
+    },
+}
+
+/// One party's events, END last.
+pub type Program = Vec<Event>;
+
+/// What a party holds: "for each party a dictionary sends rows to images". The rows are there as
+/// their terms, which comes to the same, as equal terms have equal row numbers.
+#[derive(Clone, Default)]
+pub struct Dictionary {
+    images: SharedMap<Image>,
+}
+
+impl Dictionary {
+    /// The image of a buildable term; nothing if it isn't buildable. "The row is in the dictionary;
+    /// or it isn't an atom and all its parts are buildable."
+    pub fn image(&self, term: &Shared) -> Option<Image> {
+        if let Some(entry) = self.images.get(term) {
+            return Some(entry.clone());
+        }
+        let all = |parts: &[Shared]| -> Option<Vec<Image>> {
+            parts.iter().map(|part| self.image(part)).collect()
+        };
+        Some(match term.form() {
+            Form::Atom(_) => return None,
+            Form::Operation(tag, arguments) => Image::Operation(*tag, all(arguments)?),
+            Form::Cipher(key, contents) => {
+                Image::Cipher(Box::new(self.image(key)?), all(contents)?)
+            }
+            Form::Public(part) => Image::Public(Box::new(self.image(part)?)),
+            Form::Private(part) => Image::Private(Box::new(self.image(part)?)),
+        })
+    }
+
+    /// For a cipher the partner of whose key is buildable: that partner's image, and the contents.
+    pub fn opening<'t>(&self, term: &'t Shared) -> Option<(Image, &'t [Shared])> {
+        match term.form() {
+            Form::Cipher(key, contents) => Some((self.image(&key.partner())?, contents)),
+            _ => None,
+        }
+    }
+
+    /// The atoms that sending a term would make, in building order.
+    pub fn missing(&self, term: &Shared, atoms: &mut Vec<u32>) {
+        if self.images.contains_key(term) {
+            return;
+        }
+        match term.form() {
+            Form::Atom(row) if atoms.contains(row) => (),
+            Form::Atom(row) => atoms.push(*row),
+            _ => (term.parts()).for_each(|part| self.missing(part, atoms)),
+        }
+    }
+}
+
+/// One party on its way through the steps.
+struct Side {
+    dictionary: Dictionary,
+    /// "A party's placeholders count from 0": the next one.
+    next: u32,
+    events: Program,
+    stored: Vec<(u32, u32)>,
+}
+
+impl Side {
+    /// The next `n` placeholders; the first of them.
+    fn placeholders(&mut self, n: usize) -> u32 {
+        let first = self.next;
+        self.next += n as u32;
+        first
+    }
+
+    /// Sending one message: its image, or the first taken atom that would have to be made.
+    fn build(&mut self, term: &Shared, taken: &Taken) -> Result<Image, u32> {
+        // "A row in the dictionary gives its entry. Else parts first, a cipher's key before its
+        // contents."
+        if let Some(entry) = self.dictionary.images.get(term) {
+            return Ok(entry.clone());
+        }
+        Ok(match term.form() {
+            Form::Atom(row) => self.make(*row, term, taken)?,
+            Form::Operation(tag, arguments) => {
+                Image::Operation(*tag, self.build_all(arguments, taken)?)
+            }
+            Form::Cipher(key, contents) => {
+                let key = Box::new(self.build(key, taken)?);
+                Image::Cipher(key, self.build_all(contents, taken)?)
+            }
+            Form::Public(part) => Image::Public(Box::new(self.build(part, taken)?)),
+            Form::Private(part) => Image::Private(Box::new(self.build(part, taken)?)),
+        })
+    }
+
+    fn build_all(&mut self, terms: &[Shared], taken: &Taken) -> Result<Vec<Image>, u32> {
+        terms.iter().map(|term| self.build(term, taken)).collect()
+    }
+
+    /// "An atom not in the dictionary is made, and is from then on known as itself. [..] Making a
+    /// taken atom is refusal 10."
+    fn make(&mut self, row: u32, atom: &Shared, taken: &Taken) -> Result<Image, u32> {
+        if taken.has(atom) {
+            return Err(row);
+        }
+        self.events.push(Event::New { row });
+        let images = &mut self.dictionary.images;
+        images.insert(atom.clone(), Image::Itself(row));
+        Ok(Image::Itself(row))
+    }
+
+    /// Receiving: the terms have the placeholders from `first` on; "then, left to right, the first
+    /// rule that fits".
+    fn receive(&mut self, terms: &[Shared], first: u32, rows: &SharedMap<u32>) {
+        for (term, placeholder) in terms.iter().zip(first..) {
+            if let Some(image) = self.dictionary.image(term) {
+                self.events.push(Event::Check { placeholder, image });
+            } else if let Some((key, contents)) = self.dictionary.opening(term) {
+                let first = self.placeholders(contents.len());
+                self.events.push(Event::Open {
+                    placeholder,
+                    first,
+                    n: contents.len() as u32,
+                    key,
+                });
+                self.receive(contents, first, rows);
+            } else {
+                self.stored.push((rows[term], placeholder));
+                let images = &mut self.dictionary.images;
+                images.insert(term.clone(), Image::Placeholder(placeholder));
+            }
+        }
+    }
+}
+
+/// All terms that occur at any depth in a party's starting knowledge or in a message of an earlier
+/// step, and the parties' names: the atoms among them are the taken ones.
+#[derive(Clone, Default)]
+pub struct Taken {
+    terms: SharedSet,
+}
+
+impl Taken {
+    fn add(&mut self, term: &Shared) {
+        // What has been seen has its parts in already.
+        if self.terms.insert(term.clone()) {
+            term.parts().for_each(|part| self.add(part));
+        }
+    }
+
+    pub fn has(&self, atom: &Shared) -> bool {
+        self.terms.contains(atom)
+    }
+}
+
+/// The translation of a book on its way through the steps.
+pub struct Translation {
+    pub terms: Vec<Shared>,
+    rows: SharedMap<u32>,
+    pub taken: Taken,
+    sides: Vec<Side>,
+    step: u32,
+}
+
+impl Translation {
+    /// Before the first step: "it starts with each known row as itself".
+    pub fn start(book: &Book) -> Translation {
+        let terms = book.shared();
+        let mut taken = Taken::default();
+        let mut sides = Vec::with_capacity(book.parties.len());
+        for party in &book.parties {
+            taken.add(&terms[party.name as usize]);
+            let mut dictionary = Dictionary::default();
+            for row in &party.known {
+                let term = &terms[*row as usize];
+                taken.add(term);
+                let images = &mut dictionary.images;
+                images.insert(term.clone(), Image::Itself(*row));
+            }
+            sides.push(Side {
+                dictionary,
+                next: 0,
+                events: Vec::new(),
+                stored: Vec::new(),
+            });
+        }
+        Translation {
+            rows: terms.iter().cloned().zip(0..).collect(),
+            terms,
+            taken,
+            sides,
+            step: 0,
+        }
+    }
+
+    /// What a party holds by now.
+    pub fn dictionary(&self, party: u32) -> &Dictionary {
+        &self.sides[party as usize].dictionary
+    }
+
+    /// The next step: "a party that is neither sender nor receiver does nothing".
+    pub fn step(&mut self, step: &Step) -> Result<(), Refusal> {
+        let number = self.step;
+        self.step += 1;
+        let message = |row: &u32| self.terms[*row as usize].clone();
+        let messages: Vec<Shared> = step.messages.iter().map(message).collect();
+
+        let sender = &mut self.sides[step.sender as usize];
+        let images = (sender.build_all(&messages, &self.taken))
+            .map_err(|atom| Refusal::new(10, &[number, atom]))?;
+        sender.events.push(Event::Send {
+            step: number,
+            images,
+        });
+
+        let receiver = &mut self.sides[step.receiver as usize];
+        let first = receiver.placeholders(messages.len());
+        receiver.events.push(Event::Receive {
+            step: number,
+            first,
+            n: messages.len() as u32,
+        });
+        receiver.receive(&messages, first, &self.rows);
+
+        messages.iter().for_each(|term| self.taken.add(term));
+        Ok(())
+    }
+
+    /// The programs: after its last step each party's END has "all stored rows, in the order of
+    /// storing".
+    pub fn end(self) -> Vec<Program> {
+        let end = |mut side: Side| {
+            side.events.push(Event::End {
+                stored: side.stored,
+            });
+            side.events
+        };
+        self.sides.into_iter().map(end).collect()
+    }
+}
+
+/// One program per party of a book that keeps its rules, or refusal 10. The steps are gone through
+/// in order, so its place is the smallest step.
+pub fn programs(book: &Book) -> Result<Vec<Program>, Refusal> {
+    let mut translation = Translation::start(book);
+    for step in &book.steps {
+        translation.step(step)?;
+    }
+    Ok(translation.end())
+}
+
+/// The listing: "word 0 is Q; then for each party offset and count of its listing; then the
+/// listings in party order".
+pub fn listing(programs: &[Program]) -> Vec<u32> {
+    let mut heads = vec![programs.len() as u32];
+    let mut events = Vec::new();
+    let start = 1 + 2 * programs.len();
+    for program in programs {
+        let before = events.len();
+        program.iter().for_each(|event| event.write(&mut events));
+        heads.push((start + before) as u32);
+        heads.push((events.len() - before) as u32);
+    }
+    heads.extend(events);
+    heads
+}
+
+impl Event {
+    /// The event's words.
+    pub fn write(&self, words: &mut Vec<u32>) {
+        match self {
+            Event::New { row } => words.extend([1, *row]),
+            Event::Send { step, images } => {
+                words.extend([2, *step, images.len() as u32]);
+                images.iter().for_each(|image| image.write(words));
+            }
+            Event::Receive { step, first, n } => words.extend([3, *step, *first, *n]),
+            Event::Check { placeholder, image } => {
+                words.extend([4, *placeholder]);
+                image.write(words);
+            }
+            Event::Open {
+                placeholder,
+                first,
+                n,
+                key,
+            } => {
+                words.extend([5, *placeholder, *first, *n]);
+                key.write(words);
+            }
+            Event::End { stored } => {
+                words.extend([6, stored.len() as u32]);
+                let pairs = stored.iter().flat_map(|(row, holder)| [*row, *holder]);
+                words.extend(pairs);
+            }
+        }
+    }
+}
+
+impl Image {
+    /// "Images in prefix words"; a cipher's key stands after the count of its contents, before them.
+    pub fn write(&self, words: &mut Vec<u32>) {
+        match self {
+            Image::Itself(row) => words.extend([0, *row]),
+            Image::Placeholder(number) => words.extend([1, *number]),
+            Image::Operation(tag, arguments) => {
+                words.extend([2, *tag, arguments.len() as u32]);
+                arguments.iter().for_each(|image| image.write(words));
+            }
+            Image::Cipher(key, contents) => {
+                words.extend([3, contents.len() as u32]);
+                key.write(words);
+                contents.iter().for_each(|image| image.write(words));
+            }
+            Image::Public(part) => {
+                words.push(4);
+                part.write(words);
+            }
+            Image::Private(part) => {
+                words.push(5);
+                part.write(words);
+            }
+        }
+    }
+}
+
+/// Translates a book into `out`: the listing's length, or the first refusal of 1 to 10 and 12. A
+/// refusal leaves all of `out` as it was, an acceptance the words past the length.
+pub fn translate(words: &[u32], out: &mut [u32]) -> Result<usize, Refusal> {
+    let listing = listing(&programs(&book::read(words)?)?);
+    lend(&listing, out)
+}
+
+/// Writes an output into lent words, or gives refusal 12, "the last refusal tested".
+pub fn lend(output: &[u32], out: &mut [u32]) -> Result<usize, Refusal> {
+    match out.get_mut(..output.len()) {
+        Some(lent) => lent.copy_from_slice(output),
+        None => return Err(Refusal::new(12, &[output.len() as u32])),
+    }
+    Ok(output.len())
+}
+
+/// The line the small program prints for a file of these bytes, without the line's end.
+pub fn print(bytes: &[u8]) -> String {
+    let read = &bytes[..bytes.len().min(READ_BYTES)];
+    let mut out = vec![0; LENT];
+    match words_of(read).and_then(|words| translate(&words, &mut out)) {
+        Ok(length) => line(&out[..length]),
+        Err(refusal) => refusal.to_string(),
+    }
+}
+
+/// Words of four bytes, low byte first; "if the count of bytes read isn't a multiple of four it
+/// says refusal 1, place 0".
+pub fn words_of(bytes: &[u8]) -> Result<Vec<u32>, Refusal> {
+    let chunks = bytes.chunks_exact(4);
+    if !chunks.remainder().is_empty() {
+        return Err(Refusal::new(1, &[0]));
+    }
+    let word = |chunk: &[u8]| u32::from_le_bytes([chunk[0], chunk[1], chunk[2], chunk[3]]);
+    Ok(chunks.map(word).collect())
+}
+
+/// Words in decimal on one line with single spaces.
+pub fn line(words: &[u32]) -> String {
+    let words: Vec<String> = words.iter().map(u32::to_string).collect();
+    words.join(" ")
+}

@@ -1,0 +1,213 @@
+//! The folder of example books: current, and each book with the kind of answer it stands for.
+
+use host::corpus::{check, words, write};
+use host::narration::narrate;
+use host::show::show;
+use host::translate::words_of;
+use std::fs;
+use std::path::{Path, PathBuf};
+
+fn books() -> PathBuf {
+    Path::new(env!("CARGO_MANIFEST_DIR")).join("../books")
+}
+
+/// The files of the folder that end so, by the name of the book.
+fn files(end: &str) -> Vec<(String, PathBuf)> {
+    let mut files = Vec::new();
+    for entry in fs::read_dir(books()).unwrap() {
+        let path = entry.unwrap().path();
+        let name = path.file_name().unwrap().to_string_lossy().into_owned();
+        if let Some(name) = name.strip_suffix(end) {
+            files.push((name.to_string(), path));
+        }
+    }
+    files.sort();
+    files
+}
+
+fn listing(name: &str) -> String {
+    let line = fs::read_to_string(books().join(format!("{name}.listing"))).unwrap();
+    line.strip_suffix('\n').expect(name).to_string()
+}
+
+#[test]
+fn the_folder_is_current() {
+    let sources = files(".narration").len() + files(".words").len();
+    assert_eq!(check(&books()), Ok(sources));
+}
+
+/// Books that can't be played, or not by the small program, and don't say so in their names.
+const REFUSED: &[(&str, &str)] = &[
+    ("listing-too-long", "refused 12 16385"),
+    ("protocol-beta-other-form", "refused 10 2 7"),
+    ("sts-one-form", "refused 10 2 16"),
+    ("trial-sender-is-receiver", "refused 8 0"),
+    ("trial-sending-n-itself", "refused 10 1 2"),
+];
+
+#[test]
+fn every_book_has_its_kind_of_answer() {
+    for (name, _) in files(".listing") {
+        let answer = listing(&name);
+        let refused = answer.strip_prefix("refused ");
+        let number = refused.and_then(|refused| refused.split(' ').next());
+        if let Some((_, expected)) = REFUSED.iter().find(|(refused, _)| *refused == name) {
+            assert_eq!(answer, *expected, "{name}");
+        } else if let Some(expected) = name.strip_prefix("refusal-") {
+            assert_eq!(number, expected.split('-').next(), "{name}");
+        } else if name.starts_with("unplayable-") {
+            assert_eq!(number, Some("10"), "{name}");
+        } else {
+            assert_eq!(refused, None, "{name}");
+        }
+    }
+}
+
+/// A source says what it is, and an unplayable one why.
+#[test]
+fn every_source_begins_with_a_comment() {
+    for (name, path) in files(".narration").into_iter().chain(files(".words")) {
+        let text = fs::read_to_string(path).unwrap();
+        assert!(text.starts_with("# "), "{name}");
+        let comments = text.lines().take_while(|line| line.starts_with('#'));
+        let comments: String = comments.collect();
+        if listing(&name).starts_with("refused 10") {
+            assert!(comments.to_lowercase().contains("refusal 10"), "{name}");
+        }
+    }
+}
+
+/// Document 01's trials, word for word.
+const TRIALS: &[(&str, &str)] = &[
+    ("trial-smallest", "1 3 2 6 0"),
+    (
+        "example-1",
+        "2 5 19 24 23 3 0 0 1 2 1 1 3 2 0 2 1 0 0 1 6 1 3 0 \
+         1 3 2 0 1 0 3 3 1 0 1 4 0 3 2 0 2 0 3 0 1 6 0",
+    ),
+    ("unplayable-unopened-nonce", "refused 10 1 3"),
+    (
+        "trial-public-half",
+        "2 5 10 15 8 1 2 2 0 1 4 0 2 6 0 3 0 0 1 6 1 3 0",
+    ),
+    (
+        "trial-partner-no-row",
+        "2 5 15 20 13 3 0 0 1 5 0 1 1 5 0 1 6 1 4 1 1 4 2 0 1 3 1 0 3 0 4 6 0",
+    ),
+    (
+        "trial-stored-operation",
+        "2 5 12 17 8 1 2 2 0 1 2 0 1 0 2 6 0 3 0 0 1 6 1 3 0",
+    ),
+    (
+        "trial-sent-on",
+        "3 7 12 19 13 32 8 1 3 2 0 1 2 0 1 0 3 6 0 3 0 0 1 2 1 1 1 0 6 1 4 0 3 1 0 1 6 1 4 0",
+    ),
+    ("trial-sending-n-itself", "refused 10 1 2"),
+    ("trial-no-messages", "2 5 5 10 6 2 0 0 6 0 3 0 0 0 6 0"),
+    ("trial-sender-is-receiver", "refused 8 0"),
+    ("trial-row-1022", "1 3 2 6 0"),
+    ("refusal-5", "refused 5 1023"),
+];
+
+#[test]
+fn the_trials_of_document_01() {
+    for (name, expected) in TRIALS {
+        assert_eq!(listing(name), *expected, "{name}");
+    }
+}
+
+/// The events that the edges of the folder are there for.
+#[test]
+fn the_edges_are_reached() {
+    let length = |name: &str| listing(name).split(' ').count();
+    assert_eq!(length("listing-longest"), 16_384);
+    assert!((8_192..16_384).contains(&length("full-ring")));
+    let bytes = fs::read(books().join("full-longest.book")).unwrap();
+    assert_eq!(bytes.len(), 4 * 12_600);
+
+    let shown = |name: &str| {
+        let bytes = fs::read(books().join(format!("{name}.book"))).unwrap();
+        show(&words_of(&bytes).unwrap())
+    };
+    let opens = |name: &str| shown(name).matches("# B: open ").count();
+    assert_eq!(opens("deep-ciphers"), 255);
+    assert_eq!(opens("deep-ciphers-halves"), 204);
+    assert_eq!(opens("deep-ciphers-built"), 0);
+    assert_eq!(opens("deep-partner"), 1);
+    assert!(shown("deep-halves").contains(&format!("# B: check x0 = A{}\n", "+".repeat(1022))));
+}
+
+/// What is shown of a book that passes 1 to 9 is a narration of that very book.
+#[test]
+fn every_narration_comes_back() {
+    for (name, path) in files(".narration") {
+        let book = narrate(&fs::read_to_string(path).unwrap()).unwrap();
+        let text = show(&book.words());
+        assert_eq!(narrate(&text).as_ref(), Ok(&book), "{name}\n{text}");
+        assert_eq!(show(&narrate(&text).unwrap().words()), text, "{name}");
+    }
+}
+
+#[test]
+fn words_and_their_mistakes() {
+    assert_eq!(words(""), Ok(vec![]));
+    let text = "1 2\t3\r\n# 4\n  5# 6 x\n4294967295 007";
+    assert_eq!(words(text), Ok(vec![1, 2, 3, 5, 4294967295, 7]));
+    for (text, spot, found) in [
+        ("1 x", "line 1, column 3", "x"),
+        ("1\n 2 -3", "line 2, column 4", "-3"),
+        ("+1", "line 1, column 1", "+1"),
+        ("1\n\n\u{00e9} 4294967296", "line 3, column 1", "\u{00e9}"),
+        ("1, 2", "line 1, column 1", "1,"),
+        ("0 4294967296", "line 1, column 3", "4294967296"),
+    ] {
+        let expected = format!("{spot}: expected a word from 0 to 4294967295, found `{found}`");
+        assert_eq!(words(text), Err(expected));
+    }
+}
+
+#[test]
+fn stale_and_stray_files_are_named() {
+    let dir = Path::new(env!("CARGO_TARGET_TMPDIR")).join("stale-and-stray");
+    let _ = fs::remove_dir_all(&dir);
+    fs::create_dir_all(&dir).unwrap();
+    let put = |name: &str, text: &str| fs::write(dir.join(name), text).unwrap();
+    put("one.narration", "party A\n");
+    put("two.words", "1 2 3\n");
+    assert_eq!(write(&dir), Ok(2));
+    assert_eq!(check(&dir), Ok(2));
+    assert_eq!(fs::read(dir.join("one.listing")).unwrap(), b"1 3 2 6 0\n");
+    assert_eq!(
+        fs::read(dir.join("two.book")).unwrap(),
+        [1, 0, 0, 0, 2, 0, 0, 0, 3, 0, 0, 0]
+    );
+    assert_eq!(fs::read(dir.join("two.listing")).unwrap(), b"refused 1 0\n");
+
+    put("one.listing", "1 3 2 6 0");
+    put("two.narration", "party A\n");
+    put("three.listing", "refused 1 0\n");
+    put("three.narration", "party A\nA -> B: N\n");
+    fs::remove_file(dir.join("one.book")).unwrap();
+    let faults = check(&dir).unwrap_err();
+    let faults: Vec<&str> = faults.lines().collect();
+    assert_eq!(faults[0], "two.words: a second source of one book");
+    assert!(faults[1].starts_with("one.book: "), "{faults:?}");
+    assert_eq!(
+        faults[2],
+        "one.listing: stale, not what one.narration gives"
+    );
+    let unknown = "expected a party's name, found `B`, which no party line declares";
+    assert_eq!(
+        faults[3],
+        format!("three.narration: line 2, column 6: {unknown}")
+    );
+    assert_eq!(faults[4], "two.book: stale, not what two.narration gives");
+    assert_eq!(
+        faults[5],
+        "two.listing: stale, not what two.narration gives"
+    );
+    assert_eq!(faults[6], "three.listing: stray, no source gives it");
+    assert_eq!(faults.len(), 7);
+    assert!(check(&dir.join("none")).is_err());
+    fs::remove_dir_all(&dir).unwrap();
+}

@@ -1,0 +1,527 @@
+//! Document 01's "Trials at the edges", marked P or not, and the examples of source 000 as
+//! document 01 reads them. Every expected word was worked out by hand from figure 3.
+
+use host::book::{read, Book, Party, Refusal, Row, Step};
+use host::translate::{print, translate};
+
+/// What stands in a lent buffer beforehand.
+const OLD: u32 = 0xfeed;
+
+fn refusal(number: u32, place: &[u32]) -> Refusal {
+    Refusal {
+        number,
+        place: place.to_vec(),
+    }
+}
+
+fn row(kind: u32, tag: u32, parts: &[u32]) -> Row {
+    Row {
+        kind,
+        tag,
+        parts: parts.to_vec(),
+    }
+}
+
+fn atoms(count: usize) -> Vec<Row> {
+    vec![row(0, 0, &[]); count]
+}
+
+fn party(name: u32, known: &[u32]) -> Party {
+    Party {
+        name,
+        known: known.to_vec(),
+    }
+}
+
+fn step(sender: u32, receiver: u32, messages: &[u32]) -> Step {
+    Step {
+        sender,
+        receiver,
+        messages: messages.to_vec(),
+    }
+}
+
+fn book(rows: Vec<Row>, parties: &[Party], steps: &[Step]) -> Book {
+    Book {
+        rows,
+        parties: parties.to_vec(),
+        steps: steps.to_vec(),
+    }
+}
+
+/// Translates into a long buffer; the words past the listing must be the old ones, and a refusal
+/// must leave all of them.
+fn listing(words: &[u32]) -> Result<Vec<u32>, Refusal> {
+    let mut out = vec![OLD; 30_000];
+    let answer = translate(words, &mut out);
+    let length = *answer.as_ref().unwrap_or(&0);
+    assert!(out[length..].iter().all(|word| *word == OLD));
+    out.truncate(length);
+    answer.map(|_| out)
+}
+
+/// A listing from the parties' own listings: Q, then offset and count of each, then all of them.
+fn joined(parties: &[&[u32]]) -> Vec<u32> {
+    let mut words = vec![parties.len() as u32];
+    let mut offset = 1 + 2 * parties.len() as u32;
+    for own in parties {
+        words.extend([offset, own.len() as u32]);
+        offset += own.len() as u32;
+    }
+    words.extend(parties.concat());
+    words
+}
+
+fn bytes(words: &[u32]) -> Vec<u8> {
+    words.iter().flat_map(|word| word.to_le_bytes()).collect()
+}
+
+#[test]
+fn one_row_one_party_no_step() {
+    let words = [1, 8, 1, 12, 0, 15, 0, 15, 0, 0, 0, 0, 0, 0, 0];
+    assert_eq!(words.len(), 15);
+    assert_eq!(listing(&words), Ok(vec![1, 3, 2, 6, 0]));
+    assert_eq!(print(&bytes(&words)), "1 3 2 6 0");
+
+    let mut short = [7, 8, 9, 10];
+    assert_eq!(translate(&words, &mut short), Err(refusal(12, &[5])));
+    assert_eq!(short, [7, 8, 9, 10]);
+    let mut none = [];
+    assert_eq!(translate(&words, &mut none), Err(refusal(12, &[5])));
+    let mut exact = [OLD; 5];
+    assert_eq!(translate(&words, &mut exact), Ok(5));
+    assert_eq!(exact, [1, 3, 2, 6, 0]);
+}
+
+const EXAMPLE_1: [u32; 53] = [
+    5, 8, 2, 28, 2, 34, 11, 42, //
+    0, 0, 0, 0, 0, 0, 0, 0, 0, 0, 0, 0, 0, 0, 0, 0, //
+    2, 0, 0, 3, //
+    0, 3, 3, 1, 6, 3, //
+    1, 0, 9, 1, 0, 1, 10, 1, //
+    2, 3, 1, 0, 1, 2, 0, 1, 2, 3, 4,
+];
+
+const LISTING_1: [u32; 47] = [
+    2, 5, 19, 24, 23, //
+    3, 0, 0, 1, 2, 1, 1, 3, 2, 0, 2, 1, 0, 0, 1, 6, 1, 3, 0, //
+    1, 3, 2, 0, 1, 0, 3, 3, 1, 0, 1, 4, 0, 3, 2, 0, 2, 0, 3, 0, 1, 6, 0,
+];
+
+#[test]
+fn example_1() {
+    assert_eq!(listing(&EXAMPLE_1), Ok(LISTING_1.to_vec()));
+    let built = book(
+        [atoms(4), vec![row(2, 0, &[2, 3, 1])]].concat(),
+        &[party(0, &[0, 1, 2]), party(1, &[0, 1, 2])],
+        &[step(1, 0, &[3]), step(0, 1, &[4])],
+    );
+    assert_eq!(built.words(), EXAMPLE_1);
+    assert_eq!(read(&EXAMPLE_1), Ok(built));
+    let line: Vec<String> = LISTING_1.iter().map(u32::to_string).collect();
+    assert_eq!(print(&bytes(&EXAMPLE_1)), line.join(" "));
+}
+
+#[test]
+fn a_taken_atom_would_have_to_be_made() {
+    // Rows A, B, K, N, {N}K; B lacks K.
+    let book = book(
+        [atoms(4), vec![row(2, 0, &[2, 3])]].concat(),
+        &[party(0, &[0, 1, 2]), party(1, &[0, 1])],
+        &[step(0, 1, &[4]), step(1, 0, &[3])],
+    );
+    assert_eq!(listing(&book.words()), Err(refusal(10, &[1, 3])));
+    assert_eq!(print(&bytes(&book.words())), "refused 10 1 3");
+}
+
+#[test]
+fn the_public_half_of_a_free_key() {
+    // Rows A, B, K, K+.
+    let book = book(
+        [atoms(3), vec![row(3, 0, &[2])]].concat(),
+        &[party(0, &[0, 1]), party(1, &[0, 1])],
+        &[step(0, 1, &[3])],
+    );
+    let a = [1, 2, 2, 0, 1, 4, 0, 2, 6, 0];
+    let b = [3, 0, 0, 1, 6, 1, 3, 0];
+    assert_eq!(listing(&book.words()), Ok(joined(&[&a, &b])));
+}
+
+#[test]
+fn opened_with_a_partner_that_is_no_row() {
+    // Rows A, B, K, N, K+, {N}K+; A holds K, and there is no row for K-.
+    let book = book(
+        [atoms(4), vec![row(3, 0, &[2]), row(2, 0, &[4, 3])]].concat(),
+        &[party(0, &[0, 2]), party(1, &[1, 4])],
+        &[step(1, 0, &[5])],
+    );
+    let a = [3, 0, 0, 1, 5, 0, 1, 1, 5, 0, 2, 6, 1, 3, 1];
+    let b = [1, 3, 2, 0, 1, 3, 1, 0, 4, 0, 3, 6, 0];
+    assert_eq!(listing(&book.words()), Ok(joined(&[&a, &b])));
+}
+
+#[test]
+fn signed_with_a_private_half_and_opened_with_the_public_one() {
+    // Rows A, B, K, N, K-, {N}K-, K+. B holds K+ as itself, so the row is the image; A holds K.
+    let book = book(
+        [
+            atoms(4),
+            vec![row(4, 0, &[2]), row(2, 0, &[4, 3]), row(3, 0, &[2])],
+        ]
+        .concat(),
+        &[party(0, &[2]), party(1, &[6])],
+        &[step(0, 1, &[5])],
+    );
+    let a = [1, 3, 2, 0, 1, 3, 1, 5, 0, 2, 0, 3, 6, 0];
+    let b = [3, 0, 0, 1, 5, 0, 1, 1, 0, 6, 6, 1, 3, 1];
+    assert_eq!(listing(&book.words()), Ok(joined(&[&a, &b])));
+}
+
+#[test]
+fn the_operation_over_an_unknown_atom() {
+    // Rows A, B, N, f(N) with tag 7.
+    let rows = [atoms(3), vec![row(1, 7, &[2])]].concat();
+    let parties = [party(0, &[0, 1]), party(1, &[0, 1])];
+    let sent_on = book(
+        rows.clone(),
+        &parties,
+        &[step(0, 1, &[3]), step(1, 0, &[3])],
+    );
+    let a = [
+        1, 2, 2, 0, 1, 2, 7, 1, 0, 2, 3, 1, 0, 1, 4, 0, 2, 7, 1, 0, 2, 6, 0,
+    ];
+    let b = [3, 0, 0, 1, 2, 1, 1, 1, 0, 6, 1, 3, 0];
+    assert_eq!(listing(&sent_on.words()), Ok(joined(&[&a, &b])));
+
+    let itself = book(rows, &parties, &[step(0, 1, &[3]), step(1, 0, &[2])]);
+    assert_eq!(listing(&itself.words()), Err(refusal(10, &[1, 2])));
+}
+
+#[test]
+fn a_step_with_no_messages() {
+    let parties = [party(0, &[]), party(1, &[])];
+    let silent = book(atoms(2), &parties, &[step(0, 1, &[])]);
+    let a = [2, 0, 0, 6, 0];
+    let b = [3, 0, 0, 0, 6, 0];
+    assert_eq!(listing(&silent.words()), Ok(joined(&[&a, &b])));
+}
+
+#[test]
+fn the_sender_is_the_receiver() {
+    let parties = [party(0, &[]), party(1, &[])];
+    let own = book(atoms(2), &parties, &[step(0, 0, &[])]);
+    assert_eq!(listing(&own.words()), Err(refusal(8, &[0])));
+}
+
+/// Row 0 an atom and each later row the public half of the one before, up to row `last`.
+fn halves(last: u32) -> Vec<Row> {
+    let later = (1..=last).map(|number| row(3, 0, &[number - 1]));
+    atoms(1).into_iter().chain(later).collect()
+}
+
+#[test]
+fn a_chain_of_halves() {
+    let parties = [party(0, &[])];
+    let passes = book(halves(1_022), &parties, &[]);
+    assert_eq!(passes.term(1_022).size(), 1_024);
+    assert_eq!(listing(&passes.words()), Ok(vec![1, 3, 2, 6, 0]));
+    let refused = book(halves(1_023), &parties, &[]);
+    assert_eq!(listing(&refused.words()), Err(refusal(5, &[1_023])));
+}
+
+#[test]
+fn the_deepest_halves_are_sent_and_compared() {
+    // Party 0 has row 1,023 for its name and nothing else; party 1 holds row 0.
+    let book = book(
+        [halves(1_022), atoms(1)].concat(),
+        &[party(1_023, &[1_023]), party(0, &[0])],
+        &[step(1, 0, &[1_022, 0]), step(1, 0, &[1_022, 1_021])],
+    );
+    let image = |depth: usize, last: [u32; 2]| [vec![4; depth], last.to_vec()].concat();
+    // Party 0 stores both, then compares row 1,022 with its placeholder and builds row 1,021.
+    let own = [
+        vec![3, 0, 0, 2, 3, 1, 2, 2, 4, 2, 1, 0, 4, 3],
+        image(1_021, [1, 1]),
+        vec![6, 2, 1_022, 0, 0, 1],
+    ];
+    let other = [
+        vec![2, 0, 2],
+        image(1_022, [0, 0]),
+        vec![0, 0, 2, 1, 2],
+        image(1_022, [0, 0]),
+        image(1_021, [0, 0]),
+        vec![6, 0],
+    ];
+    let expected = joined(&[&own.concat(), &other.concat()]);
+    assert_eq!(listing(&book.words()), Ok(expected));
+}
+
+#[test]
+fn the_deepest_ciphers_are_opened() {
+    // Rows A, B, K, N, then {N}K and on, each cipher in the next: 255 deep.
+    let mut rows = atoms(4);
+    for number in 4..259 {
+        rows.push(row(2, 0, &[2, number - 1]));
+    }
+    let deepest = 258;
+    let book = book(
+        rows,
+        &[party(0, &[2]), party(1, &[2])],
+        &[step(0, 1, &[deepest])],
+    );
+    assert_eq!(book.term(deepest).size(), 1_022);
+    let mut a = vec![1, 3, 2, 0, 1];
+    a.extend([3, 1, 0, 2].repeat(255));
+    a.extend([0, 3, 6, 0]);
+    let mut b = vec![3, 0, 0, 1];
+    for placeholder in 0..255 {
+        b.extend([5, placeholder, placeholder + 1, 1, 0, 2]);
+    }
+    b.extend([6, 1, 3, 255]);
+    assert_eq!(listing(&book.words()), Ok(joined(&[&a, &b])));
+}
+
+#[test]
+fn example_2() {
+    // Rows A, B, KA, KB, NA, NB, KA+, KA-, KB+, KB-, {NA,A}KB+, {NA,NB}KA+, {NB}KB+. "In its
+    // example 2 read the private half of K_A in A's knowledge, in place of that of K_B."
+    let halves = [
+        row(3, 0, &[2]),
+        row(4, 0, &[2]),
+        row(3, 0, &[3]),
+        row(4, 0, &[3]),
+    ];
+    let ciphers = [
+        row(2, 0, &[8, 4, 0]),
+        row(2, 0, &[6, 4, 5]),
+        row(2, 0, &[8, 5]),
+    ];
+    let book = book(
+        [atoms(6), halves.to_vec(), ciphers.to_vec()].concat(),
+        &[party(0, &[0, 1, 6, 7, 8]), party(1, &[0, 1, 6, 8, 9])],
+        &[step(0, 1, &[10]), step(1, 0, &[11]), step(0, 1, &[12])],
+    );
+    let a = [
+        &[1, 4][..],                        // new NA
+        &[2, 0, 1, 3, 2, 0, 8, 0, 4, 0, 0], // {NA, A}KB+
+        &[3, 1, 0, 1],                      // y
+        &[5, 0, 1, 2, 0, 7],                // case y of {y1, y2}KA-
+        &[4, 1, 0, 4],                      // y1 = NA
+        &[2, 2, 1, 3, 1, 0, 8, 1, 2],       // {y2}KB+
+        &[6, 1, 5, 2],                      // NB is y2
+    ];
+    let b = [
+        &[3, 0, 0, 1][..],                  // x
+        &[5, 0, 1, 2, 0, 9],                // case x of {x1, x2}KB-
+        &[4, 2, 0, 0],                      // x2 = A
+        &[1, 5],                            // new NB
+        &[2, 1, 1, 3, 2, 0, 6, 1, 1, 0, 5], // {x1, NB}KA+
+        &[3, 2, 3, 1],                      // z
+        &[4, 3, 3, 1, 0, 8, 0, 5],          // z = {NB}KB+, as rule 1 stands before rule 2
+        &[6, 1, 4, 1],                      // NA is x1
+    ];
+    assert_eq!(
+        listing(&book.words()),
+        Ok(joined(&[&a.concat(), &b.concat()]))
+    );
+}
+
+#[test]
+fn example_3() {
+    // Rows A, B, K, NA, NB, K', N', {NA}K, succ(NA), {succ(NA),NB}K, succ(NB), {succ(NB)}K,
+    // {K',N'}K; succ has tag 1.
+    let later = [
+        row(2, 0, &[2, 3]),
+        row(1, 1, &[3]),
+        row(2, 0, &[2, 8, 4]),
+        row(1, 1, &[4]),
+        row(2, 0, &[2, 10]),
+        row(2, 0, &[2, 5, 6]),
+    ];
+    let book = book(
+        [atoms(7), later.to_vec()].concat(),
+        &[party(0, &[0, 1, 2]), party(1, &[0, 1, 2])],
+        &[
+            step(0, 1, &[0, 7]),
+            step(1, 0, &[9]),
+            step(0, 1, &[11]),
+            step(1, 0, &[12]),
+        ],
+    );
+    let a = [
+        &[1, 3][..],                           // new NA
+        &[2, 0, 2, 0, 0, 3, 1, 0, 2, 0, 3],    // A, {NA}K
+        &[3, 1, 0, 1],                         // y
+        &[5, 0, 1, 2, 0, 2],                   // case y of {y1, y2}K
+        &[4, 1, 2, 1, 1, 0, 3],                // y1 = succ(NA)
+        &[2, 2, 1, 3, 1, 0, 2, 2, 1, 1, 1, 2], // {succ(y2)}K
+        &[3, 3, 3, 1],                         // w
+        &[5, 3, 4, 2, 0, 2],                   // case w of {w1, w2}K
+        &[6, 3, 4, 2, 5, 4, 6, 5],             // NB is y2, K' is w1, N' is w2
+    ];
+    let b = [
+        &[3, 0, 0, 2][..],                           // x1, x2
+        &[4, 0, 0, 0],                               // x1 = A
+        &[5, 1, 2, 1, 0, 2],                         // case x2 of {x3}K
+        &[1, 4],                                     // new NB
+        &[2, 1, 1, 3, 2, 0, 2, 2, 1, 1, 1, 2, 0, 4], // {succ(x3), NB}K
+        &[3, 2, 3, 1],                               // z
+        &[4, 3, 3, 1, 0, 2, 2, 1, 1, 0, 4],          // z = {succ(NB)}K, compared, not opened
+        &[1, 5, 1, 6],                               // new K', new N'
+        &[2, 3, 1, 3, 2, 0, 2, 0, 5, 0, 6],          // {K', N'}K
+        &[6, 1, 3, 2],                               // NA is x3, where the example prints z1
+    ];
+    assert_eq!(
+        listing(&book.words()),
+        Ok(joined(&[&a.concat(), &b.concat()]))
+    );
+}
+
+#[test]
+fn example_4() {
+    // Rows A, B, S, KAS, KBS, NB, {NB}KAS, {A,{NB}KAS}KBS, {NB}KBS.
+    let ciphers = [
+        row(2, 0, &[3, 5]),
+        row(2, 0, &[4, 0, 6]),
+        row(2, 0, &[4, 5]),
+    ];
+    let book = book(
+        [atoms(6), ciphers.to_vec()].concat(),
+        &[
+            party(0, &[0, 1, 2, 3]),
+            party(1, &[0, 1, 2, 4]),
+            party(2, &[0, 1, 2, 3, 4]),
+        ],
+        &[
+            step(0, 1, &[0]),
+            step(1, 0, &[5]),
+            step(0, 1, &[6]),
+            step(1, 2, &[7]),
+            step(2, 1, &[8]),
+        ],
+    );
+    let a = [
+        &[2, 0, 1, 0, 0][..],         // A
+        &[3, 1, 0, 1],                // y
+        &[2, 2, 1, 3, 1, 0, 3, 1, 0], // {y}KAS
+        &[6, 1, 5, 0],                // NB is y
+    ];
+    let b = [
+        &[3, 0, 0, 1][..],                  // x
+        &[4, 0, 0, 0],                      // x = A
+        &[1, 5],                            // new NB
+        &[2, 1, 1, 0, 5],                   // NB
+        &[3, 2, 1, 1],                      // z, stored
+        &[2, 3, 1, 3, 2, 0, 4, 0, 0, 1, 1], // {A, z}KBS
+        &[3, 4, 2, 1],                      // u
+        &[4, 2, 3, 1, 0, 4, 0, 5],          // u = {NB}KBS, compared, not opened
+        &[6, 1, 6, 1],                      // {NB}KAS is z
+    ];
+    let s = [
+        &[3, 3, 0, 1][..],            // w
+        &[5, 0, 1, 2, 0, 4],          // case w of {w1, w2}KBS
+        &[4, 1, 0, 0],                // w1 = A
+        &[5, 2, 3, 1, 0, 3],          // case w2 of {w3}KAS
+        &[2, 4, 1, 3, 1, 0, 4, 1, 3], // {w3}KBS
+        &[6, 1, 5, 3],                // NB is w3
+    ];
+    let expected = joined(&[&a.concat(), &b.concat(), &s.concat()]);
+    assert_eq!(listing(&book.words()), Ok(expected));
+}
+
+#[test]
+fn a_stored_cipher_is_not_opened_later() {
+    // Rows A, B, K, N, {N}K. B gets the cipher, then its key, then the cipher again: the first time
+    // it is stored, so the second time it is compared with that placeholder.
+    let book = book(
+        [atoms(4), vec![row(2, 0, &[2, 3])]].concat(),
+        &[party(0, &[2]), party(1, &[])],
+        &[step(0, 1, &[4, 2]), step(0, 1, &[4])],
+    );
+    let a = [
+        1, 3, 2, 0, 2, 3, 1, 0, 2, 0, 3, 0, 2, 2, 1, 1, 3, 1, 0, 2, 0, 3, 6, 0,
+    ];
+    let b = [3, 0, 0, 2, 3, 1, 2, 1, 4, 2, 1, 0, 6, 2, 4, 0, 2, 1];
+    assert_eq!(listing(&book.words()), Ok(joined(&[&a, &b])));
+}
+
+#[test]
+fn contents_are_numbered_before_they_are_received() {
+    // Rows A, B, K, N, M, {M}K, {{M}K, N}K, and a message after it: placeholders 0 and 1 are the
+    // messages, 2 and 3 the outer contents, 4 the inner one.
+    let book = book(
+        [atoms(5), vec![row(2, 0, &[2, 4]), row(2, 0, &[2, 5, 3])]].concat(),
+        &[party(0, &[2]), party(1, &[2])],
+        &[step(0, 1, &[6, 3])],
+    );
+    let b = [
+        3, 0, 0, 2, 5, 0, 2, 2, 0, 2, 5, 2, 4, 1, 0, 2, 4, 1, 1, 3, 6, 2, 4, 4, 3, 3,
+    ];
+    let a = [
+        1, 4, 1, 3, 2, 0, 2, 3, 2, 0, 2, 3, 1, 0, 2, 0, 4, 0, 3, 0, 3, 6, 0,
+    ];
+    assert_eq!(listing(&book.words()), Ok(joined(&[&a, &b])));
+}
+
+/// Two parties that know row 0 send and compare halves of these sizes, one a step: 9 words, and
+/// 9 more and twice the size for each.
+fn halves_of_sizes(sizes: &[u32]) -> Book {
+    let rows = [halves(1_022), atoms(1)].concat();
+    let message = |size: &u32| step(0, 1, &[size - 2]);
+    let steps: Vec<Step> = sizes.iter().map(message).collect();
+    book(rows, &[party(0, &[0]), party(1_023, &[0])], &steps)
+}
+
+#[test]
+fn the_longest_listing_that_is_printed() {
+    let fits = [1_024, 1_024, 1_024, 1_024, 1_024, 1_024, 1_024, 500, 479];
+    let words = halves_of_sizes(&fits).words();
+    assert_eq!(listing(&words).map(|listing| listing.len()), Ok(16_384));
+    assert_eq!(print(&bytes(&words)).split(' ').count(), 16_384);
+
+    let over = [
+        1_024, 1_024, 1_024, 1_024, 1_024, 1_024, 1_024, 500, 400, 75,
+    ];
+    let words = halves_of_sizes(&over).words();
+    assert_eq!(listing(&words).map(|listing| listing.len()), Ok(16_385));
+    assert_eq!(print(&bytes(&words)), "refused 12 16385");
+}
+
+#[test]
+fn the_longest_book() {
+    // 1,024 rows, 16 parties, 64 steps and 8,192 pool words: 448 operations with 8 arguments over
+    // 576 atoms, 256 known rows each, 8 messages each.
+    let operation = |tag| row(1, tag, &[0, 1, 2, 3, 4, 5, 6, 7]);
+    let known: Vec<u32> = (0..256).collect();
+    let parties: Vec<Party> = (0..16).map(|name| party(name, &known)).collect();
+    let messages: Vec<u32> = (1_016..1_024).collect();
+    let step = |number: u32| step(number % 16, (number + 1) % 16, &messages);
+    let steps: Vec<Step> = (0..64).map(step).collect();
+    let rows = [atoms(576), (0..448).map(operation).collect()].concat();
+    let words = book(rows, &parties, &steps).words();
+    assert_eq!(words.len(), 12_600);
+    // Each party sends 4 times 8 images of 19 words, and compares as many.
+    let own = 4 * (3 + 8 * 19) + 4 * (4 + 8 * 21) + 2;
+    let length = listing(&words).map(|listing| listing.len());
+    assert_eq!(length, Ok(33 + 16 * own));
+    assert_eq!(
+        print(&bytes(&words)),
+        format!("refused 12 {}", 33 + 16 * own)
+    );
+}
+
+#[test]
+fn the_small_program_reads_so_far_and_no_further() {
+    let mut file = bytes(&EXAMPLE_1);
+    file.push(0);
+    assert_eq!(print(&file), "refused 1 0");
+    file.extend([0, 0, 0]);
+    assert_eq!(print(&file), "refused 3 8");
+    // 50,404 bytes are read of a longer file, and those are a multiple of four.
+    file.resize(50_405, 0);
+    assert_eq!(print(&file), "refused 3 8");
+    file.resize(50_403, 0);
+    assert_eq!(print(&file), "refused 1 0");
+    assert_eq!(print(&[]), "refused 1 0");
+    assert_eq!(print(&[1]), "refused 1 0");
+}

@@ -4,7 +4,6 @@ use mathlib.Core.Bool.{Bool, true, false, true≢false}
 use mathlib.Core.Path.{_≡_, refl, sym, _∙_, ap}
 use native.Mathlib.Omega.{arith}
 use native.Mathlib.Decide.{ℕ-discrete, decLt}
-use lib.Dec.{ltb}
 use borrow.Author.Tests.{lt-ltb, le-ltb, ltb-true, ltb-false}
 use Rattle.words.specs.First.{first, firstFrom, any}
 
@@ -105,3 +104,8 @@ module _ (t : ℕ → Bool) where
   pub any-no : (n r : ℕ) → r ≡ first t n → n ≤ r → any t n ≡ false
   unfolding any
   any-no n r e h = le-ltb (first t n) n (omega arith)
+
+-- tests that agree below n have the same answer
+pub first-same : (t u : ℕ → Bool) (n : ℕ) → ((k : ℕ) → k < n → t k ≡ u k) → first t n ≡ first u n
+first-same t u n h =
+    first-is u n (first t n) (first-le t n) (λ k l. sym (h k (omega (arith, first-le t n))) ∙ first-fails t n k l) (λ l. sym (h (first t n) l) ∙ first-holds t n l)

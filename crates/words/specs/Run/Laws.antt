@@ -1,13 +1,18 @@
 -- Laws of runs. Assumes nothing.
 use Prim.Native.Nat.{ℕ, zero, suc, _+_, _-_, _≤_, _<_}
+use mathlib.Core.Bool.{Bool, true, false, true≢false}
+use mathlib.Core.Logic.{_↔_}
 use mathlib.Core.List.{List, [], _∷_, _++_, map}
 use mathlib.Core.Path.{_≡_, refl, sym, _∙_, ap, ap₂}
 use native.Mathlib.Omega.{arith}
 use native.Mathlib.Nat.{zero-add, suc-add, add-zero}
 use native.Mathlib.Numerals.{add-one, sub-one}
 use lib.ListN.{length, getD, take, drop}
-use lib.Seq.{drop-cons, take-suc}
-use Rattle.words.specs.Run.{run, All}
+use lib.Dec.{eqb}
+use borrow.Author.Tests.{eqb-true, eq-eqb}
+use Rattle.words.specs.Choice.Laws.{pick-true, pick-false}
+use lib.Seq.{drop-cons}
+use Rattle.words.specs.Run.{run, All, values, sameWords}
 
 -- ---- run
 pub run-none : (l : List ℕ) (a n : ℕ) → n ≤ 0 → run l a n ≡ []
@@ -63,3 +68,35 @@ all-imp P Q f (x ∷ xs) a = (f x (a .0), all-imp P Q f xs (a .1))
 pub map-same : {X : Type 0} (P : ℕ → Type 0) (f g : ℕ → X) → ((x : ℕ) → P x → f x ≡ g x) → (xs : List ℕ) → All P xs → map f xs ≡ map g xs
 map-same P f g h [] a = refl
 map-same P f g h (x ∷ xs) a = ap₂ _∷_ (h x (a .0)) (map-same P f g h xs (a .1))
+
+-- ---- values
+pub values-length {ℓ} : {X : Type ℓ} (f : ℕ → X) (i n : ℕ) → length (values f i n) ≡ n
+unfolding values
+values-length f i zero = refl
+values-length f i (suc n) = ap suc (values-length f (suc i) n)
+
+pub values-getD {ℓ} : {X : Type ℓ} (f : ℕ → X) (i n k : ℕ) (d : X) → k < n → getD (values f i n) k d ≡ f (i + k)
+unfolding values
+values-getD f i zero k d h = absurd (omega arith)
+values-getD f i (suc n) zero d h = rw add-zero
+values-getD f i (suc n) (suc k) d h = values-getD f (suc i) n k d (omega arith) ∙ ap f (omega arith)
+
+-- ---- sameWords
+same-equal : (xs ys : List ℕ) → sameWords xs ys ≡ true → xs ≡ ys
+unfolding sameWords
+same-equal [] [] e = refl
+same-equal [] (y ∷ ys) e = absurd (true≢false (sym e))
+same-equal (x ∷ xs) [] e = absurd (true≢false (sym e))
+same-equal (x ∷ xs) (y ∷ ys) e = go (eqb x y) refl (same-equal xs ys)
+  where
+    go : (v : Bool) → eqb x y ≡ v → (sameWords xs ys ≡ true → xs ≡ ys) → x ∷ xs ≡ y ∷ ys
+    go true q h = ap₂ _∷_ (eqb-true x y q) (h (sym (pick-true _ _ _ q) ∙ e))
+    go false q h = absurd (true≢false (sym e ∙ pick-false _ _ _ q))
+
+same-refl : (xs : List ℕ) → sameWords xs xs ≡ true
+unfolding sameWords
+same-refl [] = refl
+same-refl (x ∷ xs) = pick-true _ _ _ (eq-eqb x x refl) ∙ same-refl xs
+
+pub same-exact : (xs ys : List ℕ) → (sameWords xs ys ≡ true) ↔ (xs ≡ ys)
+same-exact xs ys = (same-equal xs ys, λ e. rw (← e) (same-refl xs))

@@ -1,0 +1,5 @@
+pub mod Layout
+pub mod Rules
+pub mod Said
+pub mod Refusals
+pub mod Valid

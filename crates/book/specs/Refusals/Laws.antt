@@ -1,0 +1,159 @@
+-- "Given exactly when", once over any line of an ordered table. Assumes nothing.
+use Prim.Native.Nat.{ℕ, _<_}
+use mathlib.Core.Bool.{Bool, true, false}
+use mathlib.Core.List.{List, [], _∷_, _++_}
+use mathlib.Core.Logic.{_↔_}
+use mathlib.Core.Path.{_≡_, refl, sym, ap, _∙_}
+use Rattle.words.specs.First.{first}
+use Rattle.words.specs.First.Laws.{clash, first-at, first-fails, first-holds, any-at, any-none, none-any, any-first}
+use Rattle.book.specs.Said.{Said, said}
+use Rattle.book.specs.Refusals.{Line, applies, gives, firstOf}
+
+-- a line with the rule that it tests
+pub record Ruled : Type 1 where
+  pub line : Line
+  pub rule : ℕ → Type 0
+  pub exact : (i : ℕ) → (line .breaks i ≡ false) ↔ rule i
+
+-- the rule is kept at every place
+abbrev pub Keeps : Ruled → Type 0
+Keeps x = (i : ℕ) → i < x .line .among → x .rule i
+
+abbrev pub AllKeep : List Ruled → Type 0
+AllKeep [] = Unit {0}
+AllKeep (x ∷ xs) = Keeps x × AllKeep xs
+
+abbrev pub lines : List Ruled → List Line
+lines [] = []
+lines (x ∷ xs) = x .line ∷ lines xs
+
+-- ---- firstOf: one line
+firstOf-here : (l : Line) (ls : List Line) (rest : Said) → applies l ≡ true → firstOf (l ∷ ls) rest ≡ gives l
+unfolding firstOf
+firstOf-here l ls rest e = rw (e, firstOf)
+
+firstOf-on : (l : Line) (ls : List Line) (rest : Said) → applies l ≡ false → firstOf (l ∷ ls) rest ≡ firstOf ls rest
+unfolding firstOf
+firstOf-on l ls rest e = rw (e, firstOf)
+
+pub firstOf-append : (ls ms : List Line) (rest : Said) → firstOf (ls ++ ms) rest ≡ firstOf ls (firstOf ms rest)
+unfolding firstOf
+firstOf-append [] ms rest = refl
+firstOf-append (l ∷ ls) ms rest = go (applies l) refl (firstOf-append ls ms rest)
+  where
+    go : (v : Bool) → applies l ≡ v → firstOf (ls ++ ms) rest ≡ firstOf ls (firstOf ms rest) → firstOf (l ∷ (ls ++ ms)) rest ≡ firstOf (l ∷ ls) (firstOf ms rest)
+    go true e h = firstOf-here l (ls ++ ms) rest e ∙ sym (firstOf-here l ls (firstOf ms rest) e)
+    go false e h = firstOf-on l (ls ++ ms) rest e ∙ h ∙ sym (firstOf-on l ls (firstOf ms rest) e)
+
+-- a table that refuses needs no more lines
+pub firstOf-stop : (ls ms : List Line) (rest last : Said) → rest .number ≡ 0 → (firstOf ls rest .number ≡ 0 → ⊥) → firstOf (ls ++ ms) last ≡ firstOf ls rest
+unfolding firstOf
+firstOf-stop [] ms rest last z n = absurd (n z)
+firstOf-stop (l ∷ ls) ms rest last z n = go (applies l) refl (firstOf-stop ls ms rest last z)
+  where
+    go : (v : Bool) → applies l ≡ v → ((firstOf ls rest .number ≡ 0 → ⊥) → firstOf (ls ++ ms) last ≡ firstOf ls rest) → firstOf (l ∷ (ls ++ ms)) last ≡ firstOf (l ∷ ls) rest
+    go true e h = firstOf-here l (ls ++ ms) last e ∙ sym (firstOf-here l ls rest e)
+    go false e h = firstOf-on l (ls ++ ms) last e ∙ h (λ y. n (ap (λ (s : Said). s .number) (firstOf-on l ls rest e) ∙ y)) ∙ sym (firstOf-on l ls rest e)
+
+-- ---- applies
+pub keeps-not : (x : Ruled) → Keeps x → applies (x .line) ≡ false
+unfolding applies
+keeps-not x k = any-none (x .line .breaks) (x .line .among) (λ i h. x .exact i .1 (k i h))
+
+pub not-keeps : (x : Ruled) → applies (x .line) ≡ false → Keeps x
+unfolding applies
+not-keeps x e i h = x .exact i .0 (none-any (x .line .breaks) (x .line .among) e i h)
+
+breaks-true : (x : Ruled) (i : ℕ) → (x .rule i → ⊥) → x .line .breaks i ≡ true
+breaks-true x i n = go (x .line .breaks i) refl
+  where
+    go : (v : Bool) → x .line .breaks i ≡ v → x .line .breaks i ≡ true
+    go true e = e
+    go false e = absurd (n (x .exact i .0 e))
+
+-- where no line applies, the rest is given
+pub all-keep : (xs : List Ruled) (ls : List Line) (rest : Said) → AllKeep xs → firstOf (lines xs ++ ls) rest ≡ firstOf ls rest
+all-keep [] ls rest k = refl
+all-keep (x ∷ xs) ls rest k = firstOf-on (x .line) (lines xs ++ ls) rest (keeps-not x (k .0)) ∙ all-keep xs ls rest (k .1)
+
+-- ---- the cause of a refusal: the smallest place that breaks the rule
+pub record Cause (x : Ruled) (vs : List ℕ) : Type 0 where
+  pub place : ℕ
+  pub within : place < x .line .among
+  pub broken : x .rule place → ⊥
+  pub smallest : (k : ℕ) → k < place → x .rule k
+  pub says : vs ≡ x .line .place place
+
+cause-gives : (x : Ruled) (vs : List ℕ) → Cause x vs → (applies (x .line) ≡ true) × (gives (x .line) ≡ said (x .line .number) vs)
+unfolding applies gives
+cause-gives x vs c =
+    let t = breaks-true x (c .place) (c .broken) in
+    let e = first-at (x .line .breaks) (x .line .among) (c .place) (c .within) (λ k h. x .exact k .1 (c .smallest k h)) t in
+    (any-at (x .line .breaks) (x .line .among) (c .place) (c .within) t, ap (said (x .line .number)) (ap (x .line .place) (sym e) ∙ sym (c .says)))
+
+gives-cause : (x : Ruled) → applies (x .line) ≡ true → Cause x (gives (x .line) .values)
+unfolding applies gives
+gives-cause x e =
+    let t = x .line .breaks in
+    let n = x .line .among in
+    let l = any-first t n e in
+    record {
+      place = first t n;
+      within = l;
+      broken = λ r. clash (first-holds t n l) (x .exact (first t n) .1 r);
+      smallest = λ k h. x .exact k .0 (first-fails t n k h);
+      says = refl;
+    }
+
+-- no line of the list has that number
+abbrev pub Apart : ℕ → List Ruled → Type 0
+Apart n [] = Unit {0}
+Apart n (x ∷ xs) = (x .line .number ≡ n → ⊥) × Apart n xs
+
+-- "given exactly when": with the lines xs before it and the lines ys behind it
+module _ (xs : List Ruled) (x : Ruled) (ys : List Ruled) (rest : Said) where
+  abbrev whole : Said
+  whole = firstOf (lines xs ++ (x .line ∷ lines ys)) rest
+
+  pub given : (vs : List ℕ) → AllKeep xs → Cause x vs → whole ≡ said (x .line .number) vs
+  given vs k c = let g = cause-gives x vs c in all-keep xs (x .line ∷ lines ys) rest k ∙ firstOf-here (x .line) (lines ys) rest (g .0) ∙ g .1
+
+-- and it has no other cause
+apart-number : (n : ℕ) (ys : List Ruled) (rest : Said) → Apart n ys → (rest .number ≡ n → ⊥) → firstOf (lines ys) rest .number ≡ n → ⊥
+unfolding firstOf gives
+apart-number n [] rest a z e = z e
+apart-number n (y ∷ ys) rest a z e = go (applies (y .line)) refl (apart-number n ys rest (a .1) z)
+  where
+    go : (v : Bool) → applies (y .line) ≡ v → (firstOf (lines ys) rest .number ≡ n → ⊥) → ⊥
+    go true q h = a .0 (sym (ap (λ (s : Said). s .number) (firstOf-here (y .line) (lines ys) rest q)) ∙ e)
+    go false q h = h (sym (ap (λ (s : Said). s .number) (firstOf-on (y .line) (lines ys) rest q)) ∙ e)
+
+pub caused : (xs : List Ruled) (x : Ruled) (ys : List Ruled) (rest : Said) (vs : List ℕ)
+    → Apart (x .line .number) xs → Apart (x .line .number) ys → (rest .number ≡ x .line .number → ⊥)
+    → firstOf (lines xs ++ (x .line ∷ lines ys)) rest ≡ said (x .line .number) vs → AllKeep xs × Cause x vs
+unfolding gives
+caused [] x ys rest vs a b z e = go (applies (x .line)) refl
+  where
+    go : (v : Bool) → applies (x .line) ≡ v → Unit {0} × Cause x vs
+    go true q =
+        let s = sym (firstOf-here (x .line) (lines ys) rest q) ∙ e in
+        let c = gives-cause x q in
+        (tt, record { place = c .place; within = c .within; broken = c .broken; smallest = c .smallest; says = sym (ap (λ (s : Said). s .values) s) ∙ c .says })
+    go false q = absurd (apart-number (x .line .number) ys rest b z (ap (λ (s : Said). s .number) (sym (firstOf-on (x .line) (lines ys) rest q) ∙ e)))
+caused (w ∷ xs) x ys rest vs a b z e = go (applies (w .line)) refl (caused xs x ys rest vs (a .1) b z)
+  where
+    go : (v : Bool) → applies (w .line) ≡ v → (firstOf (lines xs ++ (x .line ∷ lines ys)) rest ≡ said (x .line .number) vs → AllKeep xs × Cause x vs) → (Keeps w × AllKeep xs) × Cause x vs
+    go true q h = absurd (a .0 (ap (λ (s : Said). s .number) (sym (firstOf-here (w .line) (lines xs ++ (x .line ∷ lines ys)) rest q) ∙ e)))
+    go false q h =
+        let r = h (sym (firstOf-on (w .line) (lines xs ++ (x .line ∷ lines ys)) rest q) ∙ e) in
+        ((not-keeps w q, r .0), r .1)
+
+-- ---- acceptance
+pub none-given : (xs : List Ruled) (rest : Said) → Apart 0 xs → firstOf (lines xs) rest .number ≡ 0 → AllKeep xs
+unfolding gives
+none-given [] rest a e = tt
+none-given (x ∷ xs) rest a e = go (applies (x .line)) refl (none-given xs rest (a .1))
+  where
+    go : (v : Bool) → applies (x .line) ≡ v → (firstOf (lines xs) rest .number ≡ 0 → AllKeep xs) → Keeps x × AllKeep xs
+    go true q h = absurd (a .0 (sym (ap (λ (s : Said). s .number) (firstOf-here (x .line) (lines xs) rest q)) ∙ e))
+    go false q h = (not-keeps x q, h (sym (ap (λ (s : Said). s .number) (firstOf-on (x .line) (lines xs) rest q)) ∙ e))

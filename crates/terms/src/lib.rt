@@ -1,0 +1,1 @@
+// Terms, images and tables of rows: meaning only.

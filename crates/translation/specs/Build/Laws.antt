@@ -1,0 +1,193 @@
+-- Laws of building: what it makes, and that it makes only free atoms exactly where there is a derivation. Assumes nothing.
+use Prim.Native.Nat.{ℕ, _≤_}
+use mathlib.Core.Bool.{true, false, true≢false}
+use mathlib.Core.List.{List, [], _∷_, _++_, List·Memᴰ, List·Memᴰ·head, List·Memᴰ·tail, List·Memᴰ·append-cases, List·Memᴰ·not-nil, List·Memᴰ·eq-of-singleton, Memᴰ·append-left, Memᴰ·append-right}
+use mathlib.Core.Logic.{_⊎_, inl, inr, ⊎-elim}
+use mathlib.Core.Path.{_≡_, refl, sym, ap, _∙_, subst}
+use native.Mathlib.Omega.{arith}
+use lib.ListN.{length, length-append}
+use Rattle.terms.specs.Term.{Term, Terms, size, sizes, Occurs, OccursIn}
+use Rattle.terms.specs.Term.Laws.{size-two}
+use Rattle.terms.specs.Image.{words, wordsOf}
+use Rattle.translation.specs.Dictionary.{Held, Dictionary, isHeld, enter, Derives, DerivesAll}
+use Rattle.translation.specs.Dictionary.Laws.{enter-same, enter-ind, Grows, derivesAll-from}
+use Rattle.translation.specs.Build.{Built, builtOr, build, buildAll}
+
+abbrev pub NoRepeat : List ℕ → Type 0
+NoRepeat [] = Unit {0}
+NoRepeat (r ∷ rs) = (List·Memᴰ r rs → ⊥) × NoRepeat rs
+
+pub no-repeat-append : (a b : List ℕ) → NoRepeat a → NoRepeat b → ((r : ℕ) → List·Memᴰ r a → List·Memᴰ r b → ⊥) → NoRepeat (a ++ b)
+no-repeat-append [] b p q d = q
+no-repeat-append (x ∷ a) b p q d =
+    (λ m. ⊎-elim (p .0) (λ n. d x (List·Memᴰ·head refl) n) (List·Memᴰ·append-cases a m), no-repeat-append a b (p .1) q (λ r m n. d r (List·Memᴰ·tail m) n))
+
+abbrev Holds : Dictionary → Term → Type 0
+Holds δ t = isHeld (δ t) ≡ true
+
+-- ---- what building does, from the dictionary δ to ε: the atoms made are new, each made once, each in the term; and the
+-- dictionary gains them and nothing else
+pub record Making (δ ε : Dictionary) (made : List ℕ) (In : ℕ → Type 0) : Type 0 where
+  pub grows : Grows δ ε
+  pub fresh : (r : ℕ) → List·Memᴰ r made → Holds δ (Term.atom r) → ⊥
+  pub gained : (r : ℕ) → List·Memᴰ r made → Holds ε (Term.atom r)
+  pub once : NoRepeat made
+  pub within : (r : ℕ) → List·Memᴰ r made → In r
+  pub back : (u : Term) → Holds ε u → Holds δ u ⊎ ((r : ℕ) × (u ≡ Term.atom r) × List·Memᴰ r made)
+
+making-none : (δ : Dictionary) (In : ℕ → Type 0) → Making δ δ [] In
+making-none δ In =
+    record { grows = λ u h. h; fresh = λ r m h. List·Memᴰ·not-nil m; gained = λ r m. absurd (List·Memᴰ·not-nil m); once = tt; within = λ r m. absurd (List·Memᴰ·not-nil m); back = λ u h. inl h }
+
+making-in : {δ ε : Dictionary} {made : List ℕ} {In Out : ℕ → Type 0} → ((r : ℕ) → In r → Out r) → Making δ ε made In → Making δ ε made Out
+making-in f m = record { grows = m .grows; fresh = m .fresh; gained = m .gained; once = m .once; within = λ r h. f r (m .within r h); back = m .back }
+
+making-then : {δ ε ζ : Dictionary} {a b : List ℕ} {In : ℕ → Type 0} → Making δ ε a In → Making ε ζ b In → Making δ ζ (a ++ b) In
+making-then {a = a} {b = b} p q =
+    record {
+      grows = λ u h. q .grows u (p .grows u h);
+      fresh = λ r m h. ⊎-elim (λ x. p .fresh r x h) (λ y. q .fresh r y (p .grows _ h)) (List·Memᴰ·append-cases a m);
+      gained = λ r m. ⊎-elim (λ x. q .grows _ (p .gained r x)) (λ y. q .gained r y) (List·Memᴰ·append-cases a m);
+      once = no-repeat-append a _ (p .once) (q .once) (λ r x y. q .fresh r y (p .gained r x));
+      within = λ r m. ⊎-elim (p .within r) (q .within r) (List·Memᴰ·append-cases a m);
+      back = λ u h. ⊎-elim (λ x. ⊎-elim (λ y. inl y) (λ y. inr (y .0, y .1, Memᴰ·append-left b (y .2))) (p .back u x)) (λ x. inr (x .0, x .1, Memᴰ·append-right a (x .2))) (q .back u h);
+    }
+
+making-one : (r : ℕ) (δ : Dictionary) → isHeld (δ (Term.atom r)) ≡ false → Making δ (enter δ (Term.atom r) Held.itself) (r ∷ []) (λ q. Occurs q (Term.atom r))
+making-one r δ e =
+    record {
+      grows = λ u h. enter-ind (λ x. isHeld x ≡ true) δ (Term.atom r) Held.itself u (λ p. refl) (λ p. h);
+      fresh = λ q m h. true≢false (sym h ∙ ap (λ z. isHeld (δ (Term.atom z))) (List·Memᴰ·eq-of-singleton m) ∙ e);
+      gained = λ q m. subst (λ z. Holds (enter δ (Term.atom r) Held.itself) (Term.atom z)) (sym (List·Memᴰ·eq-of-singleton m)) (ap isHeld (enter-same δ (Term.atom r) Held.itself));
+      once = (λ m. List·Memᴰ·not-nil m, tt);
+      within = λ q m. subst (λ z. Occurs z (Term.atom r)) (sym (List·Memᴰ·eq-of-singleton m)) Occurs.atom;
+      back = λ u. enter-ind (λ x. isHeld x ≡ true → Holds δ u ⊎ ((q : ℕ) × (u ≡ Term.atom q) × List·Memᴰ q (r ∷ []))) δ (Term.atom r) Held.itself u (λ p h. inr (r, sym p, List·Memᴰ·head refl)) (λ p h. inl h);
+    }
+
+-- a term that is held makes nothing; of one that is not, what is said of the rest
+built-or : (P : Built → Type 0) (h : Held) (t : Term) (δ : Dictionary) (b : Built) → ((c : Built) → c .dictionary ≡ δ → c .made ≡ [] → isHeld h ≡ true → P c) → (isHeld h ≡ false → P b) → P (builtOr h t δ b)
+unfolding builtOr
+built-or P Held.free t δ b f g = g refl
+built-or P Held.itself t δ b f g = f _ refl refl refl
+built-or P (Held.placeholder x) t δ b f g = f _ refl refl refl
+
+abbrev Makes : Term → Dictionary → Built → Type 0
+Makes t δ b = Making δ (b .dictionary) (b .made) (λ r. Occurs r t)
+
+or-makes : (t : Term) (δ : Dictionary) (b : Built) → (isHeld (δ t) ≡ false → Makes t δ b) → Makes t δ (builtOr (δ t) t δ b)
+or-makes t δ b g =
+    built-or (Makes t δ) (δ t) t δ b
+    (λ c d m h. subst (λ ε. Making δ ε (c .made) (λ r. Occurs r t)) (sym d) (subst (λ l. Making δ δ l (λ r. Occurs r t)) (sym m) (making-none δ _))) g
+
+mutual
+  unfolding build
+
+  pub build-makes : (t : Term) (δ : Dictionary) → Makes t δ (build t δ)
+  build-makes (Term.atom r) δ = or-makes (Term.atom r) δ _ (λ e. making-one r δ e)
+  build-makes (Term.operation g ts) δ = or-makes (Term.operation g ts) δ _ (λ e. making-in (λ r h. Occurs.operation h) (buildAll-makes ts δ))
+  build-makes (Term.cipher k ts) δ =
+      or-makes (Term.cipher k ts) δ _ (λ e. making-then (making-in (λ r h. Occurs.key h) (build-makes k δ)) (making-in (λ r h. Occurs.contents h) (buildAll-makes ts _)))
+  build-makes (Term.public t) δ = or-makes (Term.public t) δ _ (λ e. making-in (λ r h. Occurs.public h) (build-makes t δ))
+  build-makes (Term.private t) δ = or-makes (Term.private t) δ _ (λ e. making-in (λ r h. Occurs.private h) (build-makes t δ))
+
+  pub buildAll-makes : (ts : Terms) (δ : Dictionary) → Making δ ((buildAll ts δ) .dictionary) ((buildAll ts δ) .made) (λ r. OccursIn r ts)
+  buildAll-makes Terms.nil δ = making-none δ _
+  buildAll-makes (Terms.cons t ts) δ = making-then (making-in (λ r h. OccursIn.here h) (build-makes t δ)) (making-in (λ r h. OccursIn.later h) (buildAll-makes ts _))
+
+-- ---- only free atoms are made ⇔ there is a derivation
+module _ (free : ℕ → Type 0) where
+  abbrev pub AllFree : List ℕ → Type 0
+  AllFree l = (r : ℕ) → List·Memᴰ r l → free r
+
+  free-append : (a b : List ℕ) → AllFree a → AllFree b → AllFree (a ++ b)
+  free-append a b p q r m = ⊎-elim (p r) (q r) (List·Memᴰ·append-cases a m)
+
+  free-left : (a b : List ℕ) → AllFree (a ++ b) → AllFree a
+  free-left a b p r m = p r (Memᴰ·append-left b m)
+
+  free-right : (a b : List ℕ) → AllFree (a ++ b) → AllFree b
+  free-right a b p r m = p r (Memᴰ·append-right a m)
+
+  or-free : (t : Term) (δ : Dictionary) (b : Built) → (isHeld (δ t) ≡ false → AllFree (b .made)) → AllFree ((builtOr (δ t) t δ b) .made)
+  or-free t δ b g = built-or (λ c. AllFree (c .made)) (δ t) t δ b (λ c d m h. subst AllFree (sym m) (λ r x. absurd (List·Memᴰ·not-nil x))) g
+
+  -- what the dictionary held before is still derivable afterwards
+  kept : (t : Term) (δ : Dictionary) → (u : Term) → isHeld (δ u) ≡ true → Derives free ((build t δ) .dictionary) u
+  kept t δ u h = Derives.held (build-makes t δ .grows u h)
+
+  mutual
+    unfolding build
+
+    pub derives-free : (t : Term) (δ : Dictionary) → Derives free δ t → AllFree ((build t δ) .made)
+    derives-free (Term.atom r) δ (Derives.held h) = or-free (Term.atom r) δ _ (λ e. absurd (true≢false (sym h ∙ e)))
+    derives-free (Term.atom r) δ (Derives.make f) = or-free (Term.atom r) δ _ (λ e q m. subst free (sym (List·Memᴰ·eq-of-singleton m)) f)
+    derives-free (Term.operation g ts) δ (Derives.held h) = or-free (Term.operation g ts) δ _ (λ e. absurd (true≢false (sym h ∙ e)))
+    derives-free (Term.operation g ts) δ (Derives.operation h) = or-free (Term.operation g ts) δ _ (λ e. derivesAll-free ts δ h)
+    derives-free (Term.cipher k ts) δ (Derives.held h) = or-free (Term.cipher k ts) δ _ (λ e. absurd (true≢false (sym h ∙ e)))
+    derives-free (Term.cipher k ts) δ (Derives.cipher x h) =
+        or-free (Term.cipher k ts) δ _ (λ e. free-append ((build k δ) .made) _ (derives-free k δ x) (derivesAll-free ts ((build k δ) .dictionary) (derivesAll-from free (kept k δ) h)))
+    derives-free (Term.public t) δ (Derives.held h) = or-free (Term.public t) δ _ (λ e. absurd (true≢false (sym h ∙ e)))
+    derives-free (Term.public t) δ (Derives.public h) = or-free (Term.public t) δ _ (λ e. derives-free t δ h)
+    derives-free (Term.private t) δ (Derives.held h) = or-free (Term.private t) δ _ (λ e. absurd (true≢false (sym h ∙ e)))
+    derives-free (Term.private t) δ (Derives.private h) = or-free (Term.private t) δ _ (λ e. derives-free t δ h)
+
+    pub derivesAll-free : (ts : Terms) (δ : Dictionary) → DerivesAll free δ ts → AllFree ((buildAll ts δ) .made)
+    derivesAll-free Terms.nil δ h = λ r x. absurd (List·Memᴰ·not-nil x)
+    derivesAll-free (Terms.cons t ts) δ (DerivesAll.cons x h) =
+        free-append ((build t δ) .made) _ (derives-free t δ x) (derivesAll-free ts ((build t δ) .dictionary) (derivesAll-from free (kept t δ) h))
+
+  -- what the dictionary holds afterwards was derivable before
+  gave : (t : Term) (δ : Dictionary) → AllFree ((build t δ) .made) → (u : Term) → isHeld ((build t δ) .dictionary u) ≡ true → Derives free δ u
+  gave t δ a u h = ⊎-elim (λ x. Derives.held x) (λ x. subst (λ v. Derives free δ v) (sym (x .1)) (Derives.make (a (x .0) (x .2)))) (build-makes t δ .back u h)
+
+  or-derives : (t : Term) (δ : Dictionary) (b : Built) → (AllFree (b .made) → Derives free δ t) → AllFree ((builtOr (δ t) t δ b) .made) → Derives free δ t
+  or-derives t δ b g = built-or (λ c. AllFree (c .made) → Derives free δ t) (δ t) t δ b (λ c d m h a. Derives.held h) (λ e. g)
+
+  mutual
+    unfolding build
+
+    pub free-derives : (t : Term) (δ : Dictionary) → AllFree ((build t δ) .made) → Derives free δ t
+    free-derives (Term.atom r) δ = or-derives (Term.atom r) δ _ (λ a. Derives.make (a r (List·Memᴰ·head refl)))
+    free-derives (Term.operation g ts) δ = or-derives (Term.operation g ts) δ _ (λ a. Derives.operation (freeAll-derives ts δ a))
+    free-derives (Term.cipher k ts) δ =
+        or-derives (Term.cipher k ts) δ _
+        (λ a.
+        let x = free-left ((build k δ) .made) _ a in
+        Derives.cipher (free-derives k δ x) (derivesAll-from free (gave k δ x) (freeAll-derives ts ((build k δ) .dictionary) (free-right ((build k δ) .made) _ a))))
+    free-derives (Term.public t) δ = or-derives (Term.public t) δ _ (λ a. Derives.public (free-derives t δ a))
+    free-derives (Term.private t) δ = or-derives (Term.private t) δ _ (λ a. Derives.private (free-derives t δ a))
+
+    pub freeAll-derives : (ts : Terms) (δ : Dictionary) → AllFree ((buildAll ts δ) .made) → DerivesAll free δ ts
+    freeAll-derives Terms.nil δ a = DerivesAll.nil
+    freeAll-derives (Terms.cons t ts) δ a =
+        let x = free-left ((build t δ) .made) _ a in
+        DerivesAll.cons (free-derives t δ x) (derivesAll-from free (gave t δ x) (freeAll-derives ts ((build t δ) .dictionary) (free-right ((build t δ) .made) _ a)))
+
+-- ---- the image that building gives is never longer than its row's size
+module _ (row : Term → ℕ) where
+  short-built : (h : Held) (t : Term) (δ : Dictionary) (b : Built) → length (words row (b .image)) ≤ size t → length (words row ((builtOr h t δ b) .image)) ≤ size t
+  unfolding builtOr words
+  short-built Held.free t δ b l = l
+  short-built Held.itself t δ b l = size-two t
+  short-built (Held.placeholder x) t δ b l = size-two t
+
+  mutual
+    unfolding build words size
+
+    pub build-short : (t : Term) (δ : Dictionary) → length (words row ((build t δ) .image)) ≤ size t
+    build-short (Term.atom r) δ = short-built (δ (Term.atom r)) (Term.atom r) δ _ (omega arith)
+    build-short (Term.operation g ts) δ = short-built (δ (Term.operation g ts)) (Term.operation g ts) δ _ (let h = buildAll-short ts δ in omega arith)
+    build-short (Term.cipher k ts) δ =
+        short-built (δ (Term.cipher k ts)) (Term.cipher k ts) δ _
+        (let g = build-short k δ in
+        let h = buildAll-short ts ((build k δ) .dictionary) in
+        omega (arith, length-append (words row ((build k δ) .image)) (wordsOf row ((buildAll ts ((build k δ) .dictionary)) .images))))
+    build-short (Term.public t) δ = short-built (δ (Term.public t)) (Term.public t) δ _ (let h = build-short t δ in omega arith)
+    build-short (Term.private t) δ = short-built (δ (Term.private t)) (Term.private t) δ _ (let h = build-short t δ in omega arith)
+
+    pub buildAll-short : (ts : Terms) (δ : Dictionary) → length (wordsOf row ((buildAll ts δ) .images)) ≤ sizes ts
+    buildAll-short Terms.nil δ = omega arith
+    buildAll-short (Terms.cons t ts) δ =
+        let g = build-short t δ in
+        let h = buildAll-short ts ((build t δ) .dictionary) in
+        omega (arith, length-append (words row ((build t δ) .image)) (wordsOf row ((buildAll ts ((build t δ) .dictionary)) .images)))

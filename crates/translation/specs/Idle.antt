@@ -1,0 +1,82 @@
+-- Four kinds of idle program. Document 01: "One that refuses all books, one that writes a constant listing, and one that writes nothing and
+-- says "accepted" all break demand 2. One that translates the first step and skips the others would satisfy demand 3 alone." Each is
+-- caught: it breaks the promise at a book of the P trials. The third says "accepted" or anything else: it is caught all the same.
+use Prim.Native.Nat.{ℕ}
+use mathlib.Core.List.{List, [], _∷_}
+use mathlib.Core.Path.{_≡_, sym, ap, _∙_}
+use native.Mathlib.Omega.{arith}
+use lib.ListN.{length, getD, take}
+use lib.Seq.{sets}
+use Rattle.words.specs.Run.{values}
+use Rattle.terms.specs.Table.{number}
+use Rattle.book.specs.Layout.{table, rows, parties}
+use Rattle.book.specs.Said.{said}
+use Rattle.translation.specs.Narration.{Narration, narration, programOf}
+use Rattle.translation.specs.Listing.{programWords, framed}
+use Rattle.translation.specs.Outcome.{Outcome}
+use Rattle.translation.specs.Outcome.Laws.{Promise}
+use Rattle.translation.specs.Trials.{trial, trials, computed}
+
+abbrev pub Translator : Type 0
+Translator = List ℕ → List ℕ → Outcome
+
+-- it doesn't keep the promise for all words and lent words
+abbrev pub Caught : Translator → Type 0
+Caught f = ((b out : List ℕ) → Promise b out (f b out)) → ⊥
+
+-- it refuses whatever is handed in
+abbrev pub RefusesAll : Translator → Type 0
+RefusesAll f = (b out : List ℕ) → f b out .says .number ≡ 0 → ⊥
+
+-- it writes the same words for every book
+unfoldable pub writes-always : List ℕ → Translator
+writes-always ws b out = record { says = said 0 (length ws ∷ []); lent = sets out 0 ws }
+
+-- it leaves all lent words as they were
+abbrev pub WritesNothing : Translator → Type 0
+WritesNothing f = (b out : List ℕ) → f b out .lent ≡ out
+
+-- only the first step is translated
+unfoldable pub firstStep : Narration → Narration
+firstStep N = record { names = N .names; knows = N .knows; says = take 1 (N .says) }
+
+unfoldable pub firstListing : List ℕ → List ℕ
+firstListing b = framed (values (λ p. programWords (number (table b) (rows b)) (programOf (firstStep (narration b)) p)) 0 (parties b))
+
+unfoldable pub skips-steps : Translator
+skips-steps b out = record { says = said 0 (length (firstListing b) ∷ []); lent = sets out 0 (firstListing b) }
+
+-- the smallest book, with 6 words lent, and example 1, with 50 (the first and third of the trials)
+book-at : ℕ → List ℕ
+book-at i = getD trials i (trial [] [] 0 [] []) .book
+
+lent-at : ℕ → List ℕ
+lent-at i = getD trials i (trial [] [] 0 [] []) .lent
+
+-- what stands in word 0 of the lent words afterwards, and what is answered
+first-word : Outcome → ℕ
+first-word o = getD (o .lent) 0 0
+
+first-value : Outcome → ℕ
+first-value o = getD (o .says .values) 0 0
+
+pub refuses-all-caught : (f : Translator) → RefusesAll f → Caught f
+unfolding computed trials book-at lent-at
+refuses-all-caught f r h = r (book-at 0) (lent-at 0) (ap (λ (o : Outcome). o .says .number) (h (book-at 0) (lent-at 0)))
+
+pub writes-always-caught : (ws : List ℕ) → Caught (writes-always ws)
+unfolding computed trials book-at lent-at writes-always first-value
+writes-always-caught ws h =
+    let d : length ws ≡ 5 = ap first-value (h (book-at 0) (lent-at 0)) in
+    let e : length ws ≡ 47 = ap first-value (h (book-at 2) (lent-at 2)) in
+    omega arith
+
+pub writes-nothing-caught : (f : Translator) → WritesNothing f → Caught f
+unfolding computed trials book-at lent-at first-word
+writes-nothing-caught f n h =
+    let e : _≡_ {A = ℕ} 9 1 = ap (λ (l : List ℕ). getD l 0 0) (sym (n (book-at 0) (lent-at 0))) ∙ ap first-word (h (book-at 0) (lent-at 0)) in
+    omega arith
+
+pub skips-steps-caught : Caught skips-steps
+unfolding computed trials book-at lent-at skips-steps firstListing firstStep first-value
+skips-steps-caught h = let e : _≡_ {A = ℕ} 22 47 = ap first-value (h (book-at 2) (lent-at 2)) in omega arith

@@ -1,0 +1,12 @@
+pub mod Dictionary
+pub mod Build
+pub mod Receive
+pub mod Program
+pub mod Narration
+pub mod Taken
+pub mod Rows
+pub mod Listing
+pub mod Spelling
+pub mod Outcome
+pub mod Trials
+pub mod Idle

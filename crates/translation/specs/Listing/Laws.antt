@@ -1,0 +1,54 @@
+-- A party's listing depends on the table, its own knowledge and its own part in the steps, and on nothing else of the book.
+-- Assumes nothing.
+use Prim.Native.Nat.{ℕ, zero, suc, _<_}
+use mathlib.Core.Bool.{true, false}
+use mathlib.Core.List.{List, map}
+use mathlib.Core.Path.{_≡_, sym, ap, ap₂, _∙_}
+use native.Mathlib.Omega.{arith}
+use Rattle.words.specs.Choice.{choose}
+use Rattle.words.specs.First.{first}
+use Rattle.words.specs.First.Laws.{first-same}
+use Rattle.words.specs.Run.Laws.{map-same}
+use Rattle.terms.specs.Term.{Term, same, gathered}
+use Rattle.terms.specs.Table.{Row, form, term, terms, number}
+use Rattle.terms.specs.Table.Laws.{term-row}
+use Rattle.book.specs.Layout.{table, rows}
+use Rattle.book.specs.Valid.{Valid}
+use Rattle.book.specs.Valid.Laws.{formed}
+use Rattle.translation.specs.Program.{own}
+use Rattle.translation.specs.Program.Laws.{program-own}
+use Rattle.translation.specs.Narration.{narration, knownTo, programOf}
+use Rattle.translation.specs.Listing.{programWords, partWords}
+
+-- two books have equal rows
+pub record SameTable (b c : List ℕ) : Type 0 where
+  pub many : rows b ≡ rows c
+  pub each : (r : ℕ) → r < rows b → table b r ≡ table c r
+
+module _ (b c : List ℕ) (v : Valid b) (w : Valid c) (s : SameTable b c) where
+  terms-below : (m r : ℕ) → r < m → r < rows b → term (table b) r ≡ term (table c) r
+  unfolding terms
+  terms-below zero r h l = absurd (omega arith)
+  terms-below (suc m) r h l =
+      let ih : (p : ℕ) → p < r → term (table b) p ≡ term (table c) p = λ p q. terms-below m p (omega arith) (omega arith) in
+      let e = s .each r l in
+      let k = s .many in
+      term-row (rows b) (table b) (formed b v) r l
+      ∙ ap (λ us. form r (table b r .kind) (table b r .tag) (gathered us)) (map-same (λ p. p < r) (term (table b)) (term (table c)) ih (table b r .parts) (formed b v .before r l))
+      ∙ ap (λ (x : Row). form r (x .kind) (x .tag) (gathered (map (term (table c)) (x .parts)))) e
+      ∙ sym (term-row (rows c) (table c) (formed c w) r (omega arith))
+
+  -- equal rows stand for equal terms
+  pub same-terms : (r : ℕ) → r < rows b → term (table b) r ≡ term (table c) r
+  same-terms r l = terms-below (suc r) r (omega arith) l
+
+  pub same-numbers : (t : Term) → number (table b) (rows b) t ≡ number (table c) (rows c) t
+  unfolding number
+  same-numbers t =
+      first-same (λ r. choose (same (term (table b) r) t) true false) (λ r. choose (same (term (table c) r) t) true false) (rows b) (λ r l. ap (λ u. choose (same u t) true false) (same-terms r l))
+      ∙ ap (λ n. first (λ r. choose (same (term (table c) r) t) true false) n) (s .many)
+
+  -- with equal knowledge and equal own parts, the words of the party's program are equal
+  pub part-own : (p : ℕ) → knownTo (narration b) p ≡ knownTo (narration c) p → own p 0 (narration b .says) ≡ own p 0 (narration c .says) → partWords b p ≡ partWords c p
+  unfolding partWords programOf
+  part-own p k o = ap₂ programWords (mathlib.Core.Path.fun-ext same-numbers) (program-own k o)

@@ -1,0 +1,49 @@
+-- The whole outcome of translating, for any words and any lent buffer: what is answered, and every lent word afterwards.
+-- Document 01: "The first that applies, from top to bottom, is given. .. All lent words stay as they were." "On acceptance the answer
+-- is the output's length; words past it are untouched." "12 is the last refusal tested".
+use Prim.Native.Nat.{ℕ}
+use mathlib.Core.List.{List, [], _∷_, _++_}
+use lib.ListN.{length}
+use lib.Seq.{sets}
+use lib.Dec.{ltb, eqb}
+use Rattle.words.specs.Choice.{pick}
+use Rattle.book.specs.Layout.{steps}
+use Rattle.book.specs.Said.{Said, accepted, refusalSays}
+use Rattle.book.specs.Said
+use Rattle.book.specs.Refusals.{Line, line, firstOf, readingTable}
+use Rattle.translation.specs.Narration.{narration}
+use Rattle.translation.specs.Taken.{unplayable, firstTaken}
+use Rattle.translation.specs.Listing.{listing}
+use Rattle.translation.specs.declared.Answer.{Answer}
+use Rattle.translation.specs.declared.Answer.the-variants.{Written, Refused}
+pub mod Laws
+
+-- a taken atom would have to be made: smallest step, and the first such row in building order
+unfoldable pub takenLine : List ℕ → Line
+takenLine b = line 10 (steps b) (unplayable (narration b)) (λ s. s ∷ firstTaken (narration b) s ∷ [])
+
+-- the output buffer is shorter than the output: length needed
+unfoldable pub roomLine : ℕ → ℕ → Line
+roomLine room need = line 12 1 (λ i. ltb room need) (λ i. need ∷ [])
+
+-- refusals 1 to 10, with no buffer
+unfoldable pub acceptance : List ℕ → Said
+acceptance b = firstOf (readingTable b ++ takenLine b ∷ []) accepted
+
+unfoldable pub translationSays : List ℕ → List ℕ → Said
+translationSays b out = firstOf (readingTable b ++ takenLine b ∷ roomLine (length out) (length (listing b)) ∷ []) (Said.said 0 (length (listing b) ∷ []))
+
+pub record Outcome : Type 0 where
+  pub says : Said
+  pub lent : List ℕ
+
+-- of the words b and the lent words out
+unfoldable pub outcome : List ℕ → List ℕ → Outcome
+outcome b out =
+    let s = translationSays b out in
+    record { says = s; lent = pick (eqb (s .number) 0) (sets out 0 (listing b)) out }
+
+-- the paper's number and values of each answer
+abbrev pub answerSays : Answer → Said
+answerSays (Written n) = Said.said 0 (n ∷ [])
+answerSays (Refused f) = refusalSays f

@@ -1,0 +1,89 @@
+-- Receiving, figure 3's R. Document 01: "The n messages get the next n placeholders; a party's placeholders count from 0. Then, left
+-- to right, the first rule that fits". Which rule fits is `rule`'s answer and nobody else's.
+use Prim.Native.Nat.{ℕ, suc, _+_}
+use mathlib.Core.Bool.{Bool, false}
+use mathlib.Core.List.{List, [], _∷_, _++_}
+use lib.ListN.{length}
+use Rattle.words.specs.Choice.{pick}
+use Rattle.terms.specs.Term.{Term, Terms, count, listed, partner}
+use Rattle.terms.specs.Image.{Image, Images}
+use Rattle.translation.specs.Dictionary.{Held, Dictionary, enter, buildable, image}
+pub mod Laws
+
+-- ---- events
+-- "NEW 1, row. SEND 2, step, n, n images. RECEIVE 3, step, first placeholder, n. CHECK 4, placeholder, image. OPEN 5, placeholder,
+-- first new placeholder, n, key image. END 6, m, then m pairs of row and placeholder"
+pub data Event : Type 0 where
+  new : ℕ → Event
+  sends : ℕ → Images → Event
+  receives : ℕ → ℕ → ℕ → Event
+  checks : ℕ → Image → Event
+  opens : ℕ → ℕ → ℕ → Image → Event
+  ends : List (Term × ℕ) → Event
+
+-- What a party's doing adds: the dictionary afterwards; the narration's terms for the placeholders that were handed out, so that
+-- their number is its length; the events; and what was stored under which placeholder, in the order of storing.
+pub record Did : Type 0 where
+  pub dictionary : Dictionary
+  pub given : List Term
+  pub events : List Event
+  pub stored : List (Term × ℕ)
+
+abbrev pub nothing : Dictionary → Did
+nothing δ = record { dictionary = δ; given = []; events = []; stored = [] }
+
+abbrev pub followed : Did → Did → Did
+followed d e = record { dictionary = e .dictionary; given = d .given ++ e .given; events = d .events ++ e .events; stored = d .stored ++ e .stored }
+
+-- ---- the three rules
+pub data Rule : Type 0 where
+  compare : Rule
+  unlock : Rule
+  store : Rule
+
+-- "It is a cipher and the partner of its key is buildable." The partner need not be a row, nor held.
+unfoldable pub canOpen : Dictionary → Term → Bool
+canOpen δ (Term.atom r) = false
+canOpen δ (Term.operation g ts) = false
+canOpen δ (Term.cipher k ts) = buildable δ (partner k)
+canOpen δ (Term.public t) = false
+canOpen δ (Term.private t) = false
+
+-- "1. The row is buildable: the placeholder is compared with its image. 2. It is a cipher and the partner of its key is buildable:
+-- it is opened .. 3. Else the row is stored"
+unfoldable pub rule : Dictionary → Term → Rule
+rule δ t = pick (buildable δ t) compare (pick (canOpen δ t) unlock store)
+
+unfoldable pub byRule : Rule → Did → Did → Did → Did
+byRule compare c o s = c
+byRule unlock c o s = o
+byRule store c o s = s
+
+-- the term t is at placeholder p
+abbrev pub compared : Term → ℕ → Dictionary → Did
+compared t p δ = record { dictionary = δ; given = []; events = Event.checks p (image δ t) ∷ []; stored = [] }
+
+abbrev pub kept : Term → ℕ → Dictionary → Did
+kept t p δ = record { dictionary = enter δ t (Held.placeholder p); given = []; events = []; stored = (t, p) ∷ [] }
+
+-- a cipher under the key k is opened, and its contents get the placeholders from n on
+abbrev pub opened : Term → Terms → ℕ → Dictionary → ℕ → Did
+opened k ts p δ n = record { dictionary = δ; given = listed ts; events = Event.opens p n (count ts) (image δ (partner k)) ∷ []; stored = [] }
+
+-- ---- receiving: the term at placeholder p, where n is the next placeholder. "the contents get the next placeholders and are
+-- received in turn". Only a cipher is ever opened
+unfoldable mutual
+  pub receive : Term → ℕ → Dictionary → ℕ → Did
+  receive (Term.atom r) p δ n = byRule (rule δ (Term.atom r)) (compared (Term.atom r) p δ) (nothing δ) (kept (Term.atom r) p δ)
+  receive (Term.operation g ts) p δ n = byRule (rule δ (Term.operation g ts)) (compared (Term.operation g ts) p δ) (nothing δ) (kept (Term.operation g ts) p δ)
+  receive (Term.cipher k ts) p δ n =
+      byRule (rule δ (Term.cipher k ts)) (compared (Term.cipher k ts) p δ)
+      (followed (opened k ts p δ n) (receiveAll ts n δ (n + count ts))) (kept (Term.cipher k ts) p δ)
+  receive (Term.public t) p δ n = byRule (rule δ (Term.public t)) (compared (Term.public t) p δ) (nothing δ) (kept (Term.public t) p δ)
+  receive (Term.private t) p δ n = byRule (rule δ (Term.private t)) (compared (Term.private t) p δ) (nothing δ) (kept (Term.private t) p δ)
+
+  -- the terms at placeholders p, p + 1, ..
+  pub receiveAll : Terms → ℕ → Dictionary → ℕ → Did
+  receiveAll Terms.nil p δ n = nothing δ
+  receiveAll (Terms.cons t ts) p δ n =
+      let d = receive t p δ n in followed d (receiveAll ts (suc p) (d .dictionary) (n + length (d .given)))

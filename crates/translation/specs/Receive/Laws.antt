@@ -1,0 +1,45 @@
+-- Laws of receiving: everything goes by the cases of `rule`. Assumes nothing.
+use Prim.Native.Nat.{ℕ, _+_}
+use mathlib.Core.Bool.{true, false}
+use mathlib.Core.Path.{_≡_, refl}
+use Rattle.words.specs.Choice.{pick}
+use Rattle.words.specs.Choice.Laws.{pick-ind, pick-true, pick-false}
+use Rattle.terms.specs.Term.{Term, count}
+use Rattle.translation.specs.Dictionary.{Dictionary, buildable}
+use Rattle.translation.specs.Receive.{Did, nothing, followed, Rule, canOpen, rule, byRule, compared, kept, opened, receive, receiveAll}
+
+-- ---- rule
+pub rule-compare : (δ : Dictionary) (t : Term) → buildable δ t ≡ true → rule δ t ≡ Rule.compare
+unfolding rule
+rule-compare δ t e = pick-true _ _ _ e
+
+pub rule-unlock : (δ : Dictionary) (t : Term) → buildable δ t ≡ false → canOpen δ t ≡ true → rule δ t ≡ Rule.unlock
+unfolding rule
+rule-unlock δ t e f = rw (pick-false (buildable δ t) Rule.compare (pick (canOpen δ t) Rule.unlock Rule.store) e) (pick-true _ _ _ f)
+
+pub rule-store : (δ : Dictionary) (t : Term) → buildable δ t ≡ false → canOpen δ t ≡ false → rule δ t ≡ Rule.store
+unfolding rule
+rule-store δ t e f = rw (pick-false (buildable δ t) Rule.compare (pick (canOpen δ t) Rule.unlock Rule.store) e) (pick-false _ _ _ f)
+
+-- what a rule's answer means, whatever order the rules stand in: a term is compared only if it is buildable, and opened only if
+-- it can be
+pub rule-ind : (P : Rule → Type 0) (δ : Dictionary) (t : Term) → (buildable δ t ≡ true → P Rule.compare) → (canOpen δ t ≡ true → P Rule.unlock) → P Rule.store → P (rule δ t)
+unfolding rule
+rule-ind P δ t f g h = pick-ind P (buildable δ t) _ _ f (λ e. pick-ind P (canOpen δ t) _ _ g (λ d. h))
+
+-- ---- receive
+-- what opening adds; a term that is no cipher is never opened
+unfoldable pub opening : Term → ℕ → Dictionary → ℕ → Did
+opening (Term.atom r) p δ n = nothing δ
+opening (Term.operation g ts) p δ n = nothing δ
+opening (Term.cipher k ts) p δ n = followed (opened k ts p δ n) (receiveAll ts n δ (n + count ts))
+opening (Term.public t) p δ n = nothing δ
+opening (Term.private t) p δ n = nothing δ
+
+pub receive-rule : (t : Term) (p : ℕ) (δ : Dictionary) (n : ℕ) → receive t p δ n ≡ byRule (rule δ t) (compared t p δ) (opening t p δ n) (kept t p δ)
+unfolding receive opening
+receive-rule (Term.atom r) p δ n = refl
+receive-rule (Term.operation g ts) p δ n = refl
+receive-rule (Term.cipher k ts) p δ n = refl
+receive-rule (Term.public t) p δ n = refl
+receive-rule (Term.private t) p δ n = refl

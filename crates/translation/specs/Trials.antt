@@ -1,0 +1,95 @@
+-- The P trials of document 01, 'Trials at the edges': one statement over one table, computed from the definitions. A trial is the
+-- book's words and the lent words, 9s; and what is answered and lent afterwards.
+use Prim.Native.Nat.{ℕ}
+use native.Mathlib.Decide.{ℕ-discrete}
+use mathlib.Core.List.{List, [], _∷_}
+use mathlib.Core.Path.{_≡_, refl}
+use lib.ListN.{replicate}
+use Rattle.words.specs.Choice.{pick, choose}
+use Rattle.words.specs.First.{first, firstFrom, any}
+use Rattle.words.specs.Run.{run, values, sameWords}
+use Rattle.words.specs.Sum.{sum}
+use Rattle.terms.specs.Term.{same, count, listed, gathered, partner, size, occurs}
+use Rattle.terms.specs.Image.{words}
+use Rattle.terms.specs.Image as Image
+use Rattle.terms.specs.Table.{level, unfold-by, form, term, terms, own, total, rowSize, number}
+use Rattle.book.specs.Layout.{offset, table}
+use Rattle.book.specs.Rules.{oneOf, outside, differs, countBreaks, stated, offsetBreaks, listBreaks, fewest, largest, largestTag, rowBreaks, sizeBreaks, agrees, repeats, partyBreaks, stepBreaks, totalBreaks}
+use Rattle.book.specs.Said.{said}
+use Rattle.book.specs.Refusals.{applies, gives, firstOf, readingTable}
+use Rattle.translation.specs.Dictionary.{enter, start, buildable, imageOr, image}
+use Rattle.translation.specs.Build.{builtOr, build}
+use Rattle.translation.specs.Receive.{canOpen, rule, byRule, receive}
+use Rattle.translation.specs.Program as Program
+use Rattle.translation.specs.Program.{act, walk, walked, program}
+use Rattle.translation.specs.Narration.{stepAt, narration, knownTo, programOf}
+use Rattle.translation.specs.Taken as Taken
+use Rattle.translation.specs.Taken.{joined, claimed, occursInOne, taken, stepOf, holdsBefore, madeAt, takenAt, unplayable, firstTaken}
+use Rattle.translation.specs.Listing.{pairWords, eventWords, programWords, heads, bodies, framed, partWords, listing}
+use Rattle.translation.specs.Outcome.{Outcome, takenLine, roomLine, translationSays, outcome}
+
+pub record Trial : Type 0 where
+  pub book : List ℕ
+  pub lent : List ℕ
+  pub wanted : Outcome
+
+abbrev pub trial : List ℕ → List ℕ → ℕ → List ℕ → List ℕ → Trial
+trial b old n vs new = record { book = b; lent = old; wanted = record { says = said n vs; lent = new } }
+
+unfoldable pub trials : List Trial
+trials =
+    -- the smallest book
+    trial (1 ∷ 8 ∷ 1 ∷ 12 ∷ 0 ∷ 15 ∷ 0 ∷ 15 ∷ 0 ∷ 0 ∷ 0 ∷ 0 ∷ 0 ∷ 0 ∷ 0 ∷ [])
+    (replicate 6 9) 0 (5 ∷ [])
+    (1 ∷ 3 ∷ 2 ∷ 6 ∷ 0 ∷ replicate 1 9)
+    ∷  -- a buffer of 4 words keeps its old words
+    trial (1 ∷ 8 ∷ 1 ∷ 12 ∷ 0 ∷ 15 ∷ 0 ∷ 15 ∷ 0 ∷ 0 ∷ 0 ∷ 0 ∷ 0 ∷ 0 ∷ 0 ∷ [])
+    (replicate 4 9) 12 (5 ∷ [])
+    (replicate 4 9)
+    ∷  -- example 1 of source 000, whole
+    trial (5 ∷ 8 ∷ 2 ∷ 28 ∷ 2 ∷ 34 ∷ 11 ∷ 42 ∷ 0 ∷ 0 ∷ 0 ∷ 0 ∷ 0 ∷ 0 ∷ 0 ∷ 0 ∷ 0 ∷ 0 ∷ 0 ∷ 0 ∷ 0 ∷ 0 ∷ 0 ∷ 0 ∷ 2 ∷ 0 ∷ 0 ∷ 3 ∷ 0 ∷ 3 ∷ 3 ∷ 1 ∷ 6 ∷ 3 ∷ 1 ∷ 0 ∷ 9 ∷ 1 ∷ 0 ∷ 1 ∷ 10 ∷ 1 ∷ 2 ∷ 3 ∷ 1 ∷ 0 ∷ 1 ∷ 2 ∷ 0 ∷ 1 ∷ 2 ∷ 3 ∷ 4 ∷ [])
+    (replicate 50 9) 0 (47 ∷ [])
+    (2 ∷ 5 ∷ 19 ∷ 24 ∷ 23 ∷ 3 ∷ 0 ∷ 0 ∷ 1 ∷ 2 ∷ 1 ∷ 1 ∷ 3 ∷ 2 ∷ 0 ∷ 2 ∷ 1 ∷ 0 ∷ 0 ∷ 1 ∷ 6 ∷ 1 ∷ 3 ∷ 0 ∷ 1 ∷ 3 ∷ 2 ∷ 0 ∷ 1 ∷ 0 ∷ 3 ∷ 3 ∷ 1 ∷ 0 ∷ 1 ∷ 4 ∷ 0 ∷ 3 ∷ 2 ∷ 0 ∷ 2 ∷ 0 ∷ 3 ∷ 0 ∷ 1 ∷ 6 ∷ 0 ∷ replicate 3 9)
+    ∷  -- A sends B a cipher of a fresh N under a key B lacks, then B sends N
+    trial (5 ∷ 8 ∷ 2 ∷ 28 ∷ 2 ∷ 34 ∷ 9 ∷ 42 ∷ 0 ∷ 0 ∷ 0 ∷ 0 ∷ 0 ∷ 0 ∷ 0 ∷ 0 ∷ 0 ∷ 0 ∷ 0 ∷ 0 ∷ 0 ∷ 0 ∷ 0 ∷ 0 ∷ 2 ∷ 0 ∷ 0 ∷ 2 ∷ 0 ∷ 2 ∷ 3 ∷ 1 ∷ 5 ∷ 2 ∷ 0 ∷ 1 ∷ 7 ∷ 1 ∷ 1 ∷ 0 ∷ 8 ∷ 1 ∷ 2 ∷ 3 ∷ 0 ∷ 1 ∷ 2 ∷ 0 ∷ 1 ∷ 4 ∷ 3 ∷ [])
+    (replicate 3 9) 10 (1 ∷ 3 ∷ [])
+    (replicate 3 9)
+    ∷  -- A sends the public half of a free K
+    trial (4 ∷ 8 ∷ 2 ∷ 24 ∷ 1 ∷ 30 ∷ 6 ∷ 34 ∷ 0 ∷ 0 ∷ 0 ∷ 0 ∷ 0 ∷ 0 ∷ 0 ∷ 0 ∷ 0 ∷ 0 ∷ 0 ∷ 0 ∷ 3 ∷ 0 ∷ 0 ∷ 1 ∷ 0 ∷ 1 ∷ 2 ∷ 1 ∷ 3 ∷ 2 ∷ 0 ∷ 1 ∷ 5 ∷ 1 ∷ 2 ∷ 0 ∷ 1 ∷ 0 ∷ 1 ∷ 3 ∷ [])
+    (replicate 24 9) 0 (23 ∷ [])
+    (2 ∷ 5 ∷ 10 ∷ 15 ∷ 8 ∷ 1 ∷ 2 ∷ 2 ∷ 0 ∷ 1 ∷ 4 ∷ 0 ∷ 2 ∷ 6 ∷ 0 ∷ 3 ∷ 0 ∷ 0 ∷ 1 ∷ 6 ∷ 1 ∷ 3 ∷ 0 ∷ replicate 1 9)
+    ∷  -- A holds K, and receives a cipher of an unknown N under K+, with no row for K-
+    trial (6 ∷ 8 ∷ 2 ∷ 32 ∷ 1 ∷ 38 ∷ 10 ∷ 42 ∷ 0 ∷ 0 ∷ 0 ∷ 0 ∷ 0 ∷ 0 ∷ 0 ∷ 0 ∷ 0 ∷ 0 ∷ 0 ∷ 0 ∷ 0 ∷ 0 ∷ 0 ∷ 0 ∷ 3 ∷ 0 ∷ 0 ∷ 1 ∷ 2 ∷ 0 ∷ 1 ∷ 2 ∷ 0 ∷ 3 ∷ 3 ∷ 1 ∷ 6 ∷ 3 ∷ 1 ∷ 0 ∷ 9 ∷ 1 ∷ 2 ∷ 4 ∷ 3 ∷ 0 ∷ 1 ∷ 2 ∷ 0 ∷ 1 ∷ 4 ∷ 5 ∷ [])
+    (replicate 33 9) 0 (33 ∷ [])
+    (2 ∷ 5 ∷ 15 ∷ 20 ∷ 13 ∷ 3 ∷ 0 ∷ 0 ∷ 1 ∷ 5 ∷ 0 ∷ 1 ∷ 1 ∷ 5 ∷ 0 ∷ 2 ∷ 6 ∷ 1 ∷ 3 ∷ 1 ∷ 1 ∷ 3 ∷ 2 ∷ 0 ∷ 1 ∷ 3 ∷ 1 ∷ 0 ∷ 4 ∷ 0 ∷ 3 ∷ 6 ∷ 0 ∷ replicate 0 9)
+    ∷  -- the operation over an unknown N arrives and is sent on
+    trial (4 ∷ 8 ∷ 2 ∷ 24 ∷ 2 ∷ 30 ∷ 7 ∷ 38 ∷ 0 ∷ 0 ∷ 0 ∷ 0 ∷ 0 ∷ 0 ∷ 0 ∷ 0 ∷ 0 ∷ 0 ∷ 0 ∷ 0 ∷ 1 ∷ 7 ∷ 0 ∷ 1 ∷ 0 ∷ 1 ∷ 2 ∷ 1 ∷ 3 ∷ 2 ∷ 0 ∷ 1 ∷ 5 ∷ 1 ∷ 1 ∷ 0 ∷ 6 ∷ 1 ∷ 2 ∷ 0 ∷ 1 ∷ 0 ∷ 1 ∷ 3 ∷ 3 ∷ [])
+    (replicate 41 9) 0 (41 ∷ [])
+    (2 ∷ 5 ∷ 23 ∷ 28 ∷ 13 ∷ 1 ∷ 2 ∷ 2 ∷ 0 ∷ 1 ∷ 2 ∷ 7 ∷ 1 ∷ 0 ∷ 2 ∷ 3 ∷ 1 ∷ 0 ∷ 1 ∷ 4 ∷ 0 ∷ 2 ∷ 7 ∷ 1 ∷ 0 ∷ 2 ∷ 6 ∷ 0 ∷ 3 ∷ 0 ∷ 0 ∷ 1 ∷ 2 ∷ 1 ∷ 1 ∷ 1 ∷ 0 ∷ 6 ∷ 1 ∷ 3 ∷ 0 ∷ replicate 0 9)
+    ∷  -- sending N itself
+    trial (4 ∷ 8 ∷ 2 ∷ 24 ∷ 2 ∷ 30 ∷ 7 ∷ 38 ∷ 0 ∷ 0 ∷ 0 ∷ 0 ∷ 0 ∷ 0 ∷ 0 ∷ 0 ∷ 0 ∷ 0 ∷ 0 ∷ 0 ∷ 1 ∷ 7 ∷ 0 ∷ 1 ∷ 0 ∷ 1 ∷ 2 ∷ 1 ∷ 3 ∷ 2 ∷ 0 ∷ 1 ∷ 5 ∷ 1 ∷ 1 ∷ 0 ∷ 6 ∷ 1 ∷ 2 ∷ 0 ∷ 1 ∷ 0 ∷ 1 ∷ 3 ∷ 2 ∷ [])
+    (replicate 41 9) 10 (1 ∷ 2 ∷ [])
+    (replicate 41 9)
+    ∷  -- a step with no messages
+    trial (2 ∷ 8 ∷ 2 ∷ 16 ∷ 1 ∷ 22 ∷ 0 ∷ 26 ∷ 0 ∷ 0 ∷ 0 ∷ 0 ∷ 0 ∷ 0 ∷ 0 ∷ 0 ∷ 0 ∷ 0 ∷ 0 ∷ 1 ∷ 0 ∷ 0 ∷ 0 ∷ 1 ∷ 0 ∷ 0 ∷ [])
+    (replicate 20 9) 0 (16 ∷ [])
+    (2 ∷ 5 ∷ 5 ∷ 10 ∷ 6 ∷ 2 ∷ 0 ∷ 0 ∷ 6 ∷ 0 ∷ 3 ∷ 0 ∷ 0 ∷ 0 ∷ 6 ∷ 0 ∷ replicate 4 9)
+    ∷  -- sender equal to receiver
+    trial (2 ∷ 8 ∷ 2 ∷ 16 ∷ 1 ∷ 22 ∷ 0 ∷ 26 ∷ 0 ∷ 0 ∷ 0 ∷ 0 ∷ 0 ∷ 0 ∷ 0 ∷ 0 ∷ 0 ∷ 0 ∷ 0 ∷ 1 ∷ 0 ∷ 0 ∷ 0 ∷ 0 ∷ 0 ∷ 0 ∷ [])
+    (replicate 20 9) 8 (0 ∷ [])
+    (replicate 20 9)
+    ∷ []
+
+-- what the definitions say of each
+unfoldable pub computed : List Trial → List Outcome
+unfolding ℕ-discrete pick choose first firstFrom any run values sameWords sum same count listed gathered partner size occurs words Image.count level unfold-by form term terms own total rowSize number offset table oneOf outside differs countBreaks stated offsetBreaks listBreaks fewest largest largestTag rowBreaks sizeBreaks agrees repeats partyBreaks stepBreaks totalBreaks applies gives firstOf readingTable enter start buildable imageOr image builtOr build canOpen rule byRule receive Program.own act walk walked program stepAt narration knownTo programOf joined Taken.said claimed occursInOne taken stepOf holdsBefore madeAt takenAt unplayable firstTaken pairWords eventWords programWords heads bodies framed partWords listing takenLine roomLine translationSays outcome
+computed [] = []
+computed (t ∷ ts) = outcome (t .book) (t .lent) ∷ computed ts
+
+unfoldable pub expected : List Trial → List Outcome
+expected [] = []
+expected (t ∷ ts) = t .wanted ∷ expected ts
+
+pub trials-hold : computed trials ≡ expected trials
+unfolding computed expected trials
+trials-hold = refl

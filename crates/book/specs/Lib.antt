@@ -1,4 +1,5 @@
 pub mod Layout
+pub mod Headed
 pub mod Rules
 pub mod Said
 pub mod Refusals

@@ -1,3 +1,10 @@
+use words::wide;
+ghost use mathlib.Core.Path.{_≡_};
+ghost use Prim.Native.Nat.{_+_, _^_, _<_};
+ghost use Rattle.book.specs.Headed.{Headed};
+ghost use Rattle.book.specs.Layout.{rows as rowsOf, parties as partiesOf, steps as stepsOf, pool as poolOf, field, pooled as pooledAt};
+ghost use Rattle.book.specs.Layout.{kind, tag, rowFirst, rowCount, name, partyFirst, partyCount, sender, receiver, stepFirst, stepCount};
+
 // Why a book, a schedule or a buffer is refused: document 01's table, a case a line.
 pub enum Refusal {
     Short,
@@ -18,4 +25,196 @@ pub enum Refusal {
 pub enum Reading {
     Accepted,
     Refused(Refusal),
+}
+
+// Where a book's words lie: the words of the header, and of a record of each section.
+pub struct Layout {}
+
+impl Layout {
+    pub const HEADER: usize = 8;
+
+    pub const ROW: usize = 4;
+
+    pub const PARTY: usize = 3;
+
+    pub const STEP: usize = 4;
+}
+
+// The kinds of rows.
+pub struct Kind {}
+
+impl Kind {
+    pub const ATOM: u32 = 0;
+
+    pub const OPERATION: u32 = 1;
+
+    pub const CIPHER: u32 = 2;
+
+    pub const PUBLIC: u32 = 3;
+
+    pub const PRIVATE: u32 = 4;
+}
+
+// The largest counts, sizes and tags.
+pub struct Limit {}
+
+impl Limit {
+    pub const ROWS: u32 = 1024;
+
+    pub const PARTIES: u32 = 16;
+
+    pub const STEPS: u32 = 64;
+
+    pub const POOL: u32 = 8192;
+
+    pub const SIZE: u32 = 1024;
+
+    pub const TAG: u32 = 65535;
+
+    pub const ARGUMENTS: usize = 8;
+
+    pub const PARTS: usize = 9;
+
+    pub const KNOWN: usize = 256;
+
+    pub const MESSAGES: usize = 8;
+}
+
+// The header's counts.
+pub fn rows(book: &[u32]) -> u32
+    requires { ⌜ Headed (now book) ⌝ }
+    ensures { λ r. ⌜ r ≡ rowsOf (now (book .entry)) ⌝ }
+{
+    book[0]
+}
+
+pub fn parties(book: &[u32]) -> u32
+    requires { ⌜ Headed (now book) ⌝ }
+    ensures { λ r. ⌜ r ≡ partiesOf (now (book .entry)) ⌝ }
+{
+    book[2]
+}
+
+pub fn steps(book: &[u32]) -> u32
+    requires { ⌜ Headed (now book) ⌝ }
+    ensures { λ r. ⌜ r ≡ stepsOf (now (book .entry)) ⌝ }
+{
+    book[4]
+}
+
+pub fn pool(book: &[u32]) -> usize
+    requires { ⌜ Headed (now book) ⌝ }
+    ensures { λ r. ⌜ r ≡ poolOf (now (book .entry)) ⌝ }
+{
+    wide(book[6])
+}
+
+// Word k of a row's, a party's and a step's record.
+pub fn row_word(book: &[u32], row: u32, k: usize) -> u32
+    requires { ⌜ Headed (now book) × (row < rowsOf (now book)) × (k < 4) ⌝ }
+    ensures { λ r. ⌜ r ≡ field (now (book .entry)) 0 row k ⌝ }
+{
+    book[Layout::HEADER + Layout::ROW * wide(row) + k]
+}
+
+pub fn party_word(book: &[u32], party: u32, k: usize) -> u32
+    requires { ⌜ Headed (now book) × (party < partiesOf (now book)) × (k < 3) ⌝ }
+    ensures { λ r. ⌜ r ≡ field (now (book .entry)) 1 party k ⌝ }
+{
+    book[wide(book[3]) + Layout::PARTY * wide(party) + k]
+}
+
+pub fn step_word(book: &[u32], step: u32, k: usize) -> u32
+    requires { ⌜ Headed (now book) × (step < stepsOf (now book)) × (k < 4) ⌝ }
+    ensures { λ r. ⌜ r ≡ field (now (book .entry)) 2 step k ⌝ }
+{
+    book[wide(book[5]) + Layout::STEP * wide(step) + k]
+}
+
+// Word j of the list that begins at `first` in the pool.
+pub fn pooled(book: &[u32], first: usize, j: usize) -> u32
+    requires { ⌜ Headed (now book) × (first + j < poolOf (now book)) ⌝ }
+    ensures { λ r. ⌜ r ≡ pooledAt (now (book .entry)) first j ⌝ }
+{
+    book[wide(book[7]) + first + j]
+}
+
+// A row's record: kind, tag, first, count.
+pub fn row_kind(book: &[u32], row: u32) -> u32
+    requires { ⌜ Headed (now book) × (row < rowsOf (now book)) ⌝ }
+    ensures { λ r. ⌜ r ≡ kind (now (book .entry)) row ⌝ }
+{
+    row_word(book, row, 0)
+}
+
+pub fn row_tag(book: &[u32], row: u32) -> u32
+    requires { ⌜ Headed (now book) × (row < rowsOf (now book)) ⌝ }
+    ensures { λ r. ⌜ r ≡ tag (now (book .entry)) row ⌝ }
+{
+    row_word(book, row, 1)
+}
+
+pub fn row_first(book: &[u32], row: u32) -> usize
+    requires { ⌜ Headed (now book) × (row < rowsOf (now book)) ⌝ }
+    ensures { λ r. ⌜ (r ≡ rowFirst (now (book .entry)) row) × (r < 2 ^ 32) ⌝ }
+{
+    wide(row_word(book, row, 2))
+}
+
+pub fn row_count(book: &[u32], row: u32) -> usize
+    requires { ⌜ Headed (now book) × (row < rowsOf (now book)) ⌝ }
+    ensures { λ r. ⌜ (r ≡ rowCount (now (book .entry)) row) × (r < 2 ^ 32) ⌝ }
+{
+    wide(row_word(book, row, 3))
+}
+
+// A party's record: name, first, count.
+pub fn party_name(book: &[u32], party: u32) -> u32
+    requires { ⌜ Headed (now book) × (party < partiesOf (now book)) ⌝ }
+    ensures { λ r. ⌜ r ≡ name (now (book .entry)) party ⌝ }
+{
+    party_word(book, party, 0)
+}
+
+pub fn party_first(book: &[u32], party: u32) -> usize
+    requires { ⌜ Headed (now book) × (party < partiesOf (now book)) ⌝ }
+    ensures { λ r. ⌜ (r ≡ partyFirst (now (book .entry)) party) × (r < 2 ^ 32) ⌝ }
+{
+    wide(party_word(book, party, 1))
+}
+
+pub fn party_count(book: &[u32], party: u32) -> usize
+    requires { ⌜ Headed (now book) × (party < partiesOf (now book)) ⌝ }
+    ensures { λ r. ⌜ (r ≡ partyCount (now (book .entry)) party) × (r < 2 ^ 32) ⌝ }
+{
+    wide(party_word(book, party, 2))
+}
+
+// A step's record: sender, receiver, first, count.
+pub fn step_sender(book: &[u32], step: u32) -> u32
+    requires { ⌜ Headed (now book) × (step < stepsOf (now book)) ⌝ }
+    ensures { λ r. ⌜ r ≡ sender (now (book .entry)) step ⌝ }
+{
+    step_word(book, step, 0)
+}
+
+pub fn step_receiver(book: &[u32], step: u32) -> u32
+    requires { ⌜ Headed (now book) × (step < stepsOf (now book)) ⌝ }
+    ensures { λ r. ⌜ r ≡ receiver (now (book .entry)) step ⌝ }
+{
+    step_word(book, step, 1)
+}
+
+pub fn step_first(book: &[u32], step: u32) -> usize
+    requires { ⌜ Headed (now book) × (step < stepsOf (now book)) ⌝ }
+    ensures { λ r. ⌜ (r ≡ stepFirst (now (book .entry)) step) × (r < 2 ^ 32) ⌝ }
+{
+    wide(step_word(book, step, 2))
+}
+
+pub fn step_count(book: &[u32], step: u32) -> usize
+    requires { ⌜ Headed (now book) × (step < stepsOf (now book)) ⌝ }
+    ensures { λ r. ⌜ (r ≡ stepCount (now (book .entry)) step) × (r < 2 ^ 32) ⌝ }
+{
+    wide(step_word(book, step, 3))
 }

@@ -1,13 +1,13 @@
 -- "Given exactly when", once over any line of an ordered table. Assumes nothing.
-use Prim.Native.Nat.{ℕ, _<_}
+use Prim.Native.Nat.{ℕ, _≤_, _<_}
 use mathlib.Core.Bool.{Bool, true, false}
 use mathlib.Core.List.{List, [], _∷_, _++_}
 use mathlib.Core.Logic.{_↔_}
 use mathlib.Core.Path.{_≡_, refl, sym, ap, _∙_}
 use Rattle.words.specs.First.{first}
-use Rattle.words.specs.First.Laws.{clash, first-at, first-fails, first-holds, any-at, any-none, none-any, any-first}
+use Rattle.words.specs.First.Laws.{clash, first-at, first-fails, first-holds, any-at, any-none, none-any, any-first, any-yes, any-no}
 use Rattle.book.specs.Said.{Said, said}
-use Rattle.book.specs.Refusals.{Line, applies, gives, firstOf}
+use Rattle.book.specs.Refusals.{Line, line, applies, gives, firstOf}
 
 -- a line with the rule that it tests
 pub record Ruled : Type 1 where
@@ -36,6 +36,10 @@ firstOf-on : (l : Line) (ls : List Line) (rest : Said) → applies l ≡ false �
 unfolding firstOf
 firstOf-on l ls rest e = rw (e, firstOf)
 
+pub firstOf-none : (rest : Said) → firstOf [] rest ≡ rest
+unfolding firstOf
+firstOf-none rest = refl
+
 pub firstOf-append : (ls ms : List Line) (rest : Said) → firstOf (ls ++ ms) rest ≡ firstOf ls (firstOf ms rest)
 unfolding firstOf
 firstOf-append [] ms rest = refl
@@ -54,6 +58,16 @@ firstOf-stop (l ∷ ls) ms rest last z n = go (applies l) refl (firstOf-stop ls 
     go : (v : Bool) → applies l ≡ v → ((firstOf ls rest .number ≡ 0 → ⊥) → firstOf (ls ++ ms) last ≡ firstOf ls rest) → firstOf (l ∷ (ls ++ ms)) last ≡ firstOf (l ∷ ls) rest
     go true e h = firstOf-here l (ls ++ ms) last e ∙ sym (firstOf-here l ls rest e)
     go false e h = firstOf-on l (ls ++ ms) last e ∙ h (λ y. n (ap (λ (s : Said). s .number) (firstOf-on l ls rest e) ∙ y)) ∙ sym (firstOf-on l ls rest e)
+
+-- what a scan of a line's places finds: r is the smallest place that breaks the rule, or their number
+module _ (n m : ℕ) (t : ℕ → Bool) (f : ℕ → List ℕ) (ls : List Line) (rest : Said) (r : ℕ) (e : r ≡ first t m) where
+  pub scan-here : r < m → firstOf (line n m t f ∷ ls) rest ≡ said n (f r)
+  unfolding applies gives
+  scan-here h = firstOf-here (line n m t f) ls rest (any-yes t m r e h) ∙ ap (λ k. said n (f k)) (sym e)
+
+  pub scan-on : m ≤ r → firstOf (line n m t f ∷ ls) rest ≡ firstOf ls rest
+  unfolding applies
+  scan-on h = firstOf-on (line n m t f) ls rest (any-no t m r e h)
 
 -- ---- applies
 pub keeps-not : (x : Ruled) → Keeps x → applies (x .line) ≡ false

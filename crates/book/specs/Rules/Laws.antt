@@ -55,6 +55,10 @@ pub differs-same : (x y : ℕ) → x ≡ y → differs x y ≡ false
 unfolding differs
 differs-same x y e = rw (eq-eqb x y e)
 
+pub differs-true : (x y : ℕ) → (x ≡ y → ⊥) → differs x y ≡ true
+unfolding differs
+differs-true x y n = rw (ne-eqb x y n)
+
 -- ---- the header
 pub count-exact : (b : List ℕ) (i : ℕ) → (countBreaks b i ≡ false) ↔ CountRule b i
 unfolding countBreaks
@@ -97,7 +101,7 @@ agrees-exact b r k = (
   λ a. ap not (of-none _ (differs-same _ _ (a .kinds), (differs-same _ _ (a .tags), (ap not (same-exact _ _ .1 (a .partss)), tt)))),
 )
 
-not-agrees : (b : List ℕ) (r k : ℕ) → (Agree b r k → ⊥) → agrees b r k ≡ false
+pub not-agrees : (b : List ℕ) (r k : ℕ) → (Agree b r k → ⊥) → agrees b r k ≡ false
 not-agrees b r k h = go (agrees b r k) refl
   where
     go : (v : Bool) → agrees b r k ≡ v → agrees b r k ≡ false

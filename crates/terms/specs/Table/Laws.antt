@@ -5,11 +5,13 @@ use mathlib.Core.List.{List, [], _∷_, map}
 use mathlib.Core.Path.{_≡_, refl, sym, ap, ap₂, _∙_, subst}
 use native.Mathlib.Omega.{arith}
 use native.Mathlib.Decide.{ℕ-discrete}
-use lib.ListN.{length, length-map}
+use lib.ListN.{length, getD, length-map}
 use Rattle.words.specs.Choice.{choose}
 use Rattle.words.specs.Choice.Laws.{choose-yes, choose-no}
 use Rattle.words.specs.First.Laws.{first-is}
-use Rattle.words.specs.Run.{All}
+use Rattle.words.specs.Run.{run, All}
+use Rattle.words.specs.Sum.{sum}
+use Rattle.words.specs.Sum.Laws.{sum-none, sum-same}
 use Rattle.words.specs.Run.Laws.{map-same, all-imp}
 use Rattle.terms.specs.Term.{Term, Terms, same, gathered, listed, size, sizes, Occurs, OccursIn}
 use Rattle.terms.specs.Term.Laws.{listed-gathered}
@@ -30,6 +32,25 @@ module _ {X : Type 0} (f : ℕ → List X → X) (tab : Table) (n : ℕ) (before
   unfolding unfold-by level
   unfold-row r l =
       ap (f r) (map-same (λ p. p < r) (level f tab r) (unfold-by f tab) (λ p q. level-enough r (suc p) p (omega arith) q (omega arith)) (tab r .parts) (before r l))
+
+-- a row's size from its parts' sizes
+pub size-row : (tab : Table) (n : ℕ) → ((r : ℕ) → r < n → All (λ p. p < r) (tab r .parts)) → (r : ℕ) → r < n → rowSize tab r ≡ own (tab r .kind) + total (map (rowSize tab) (tab r .parts))
+unfolding rowSize
+size-row tab n before r l = unfold-row (λ q zs. own (tab q .kind) + total zs) tab n before r l
+
+-- ---- total: over a run it is a sum
+sum-front : (f : ℕ → ℕ) (n : ℕ) → sum f (suc n) ≡ f 0 + sum (λ j. f (suc j)) n
+unfolding sum
+sum-front f zero = omega arith
+sum-front f (suc n) = let h = sum-front f n in omega arith
+
+pub total-run : (f : ℕ → ℕ) (l : List ℕ) (a n : ℕ) → total (map f (run l a n)) ≡ sum (λ j. f (getD l (a + j) 0)) n
+unfolding total run
+total-run f l a zero = sym (sum-none (λ j. f (getD l (a + j) 0)))
+total-run f l a (suc n) =
+    let z : a + 0 ≡ a = omega arith in
+    ap₂ _+_ (ap (λ k. f (getD l k 0)) (sym z)) (total-run f l (suc a) n ∙ sum-same _ _ n (λ j h. let y : suc a + j ≡ a + suc j = omega arith in ap (λ k. f (getD l k 0)) y))
+    ∙ sym (sum-front (λ j. f (getD l (a + j) 0)) n)
 
 -- ---- form: its kind, tag and parts read back
 kindOf : Term → ℕ
@@ -178,16 +199,12 @@ module _ (n : ℕ) (tab : Table) (ok : Formed n tab) where
   term-injective r s l k e = injective (suc r) r s (omega arith) l k e
 
   -- ---- rowSize
-  pub size-row : (r : ℕ) → r < n → rowSize tab r ≡ own (tab r .kind) + total (map (rowSize tab) (tab r .parts))
-  unfolding rowSize
-  size-row r l = unfold-row (λ q zs. own (tab q .kind) + total zs) tab n (ok .before) r l
-
   size-below : (m r : ℕ) → r < m → r < n → rowSize tab r ≡ size (term tab r)
   unfolding terms
   size-below zero r b l = absurd (omega arith)
   size-below (suc m) r b l =
       let ih : (p : ℕ) → p < r → rowSize tab p ≡ size (term tab p) = λ p q. size-below m p (omega arith) (omega arith) in
-      size-row r l ∙ ap (λ zs. own (tab r .kind) + total zs) (map-same (λ p. p < r) (rowSize tab) (λ p. size (term tab p)) ih (tab r .parts) (ok .before r l) ∙ sym (map-map size (term tab) (tab r .parts)))
+      size-row tab n (ok .before) r l ∙ ap (λ zs. own (tab r .kind) + total zs) (map-same (λ p. p < r) (rowSize tab) (λ p. size (term tab p)) ih (tab r .parts) (ok .before r l) ∙ sym (map-map size (term tab) (tab r .parts)))
       ∙ sym (ap size (term-row r l) ∙ form-size r _ _ _ (ok .kinds r l) (shape-row r l))
 
   -- a row's size is its term's

@@ -1,0 +1,32 @@
+-- `reader::entry_breaks` meets its contract: a scan: every entry passed is below the bound. Assumes nothing.
+use Rattle.book.specs.Layout.{pooled}
+use borrow.Author.Count.{below-more}
+use lib.Dec.{leb}
+use mathlib.Core.Bool.{false}
+use mathlib.Core.Path.{_≡_, refl}
+use Prim.Native.Nat.{ℕ, _-_, _≤_, _<_}
+use Rattle.reader.proofs.Laws.{found, passed, leb-yes, leb-no}
+use borrow.Author.Needs.{needs}
+use native.Mathlib.Omega.{arith}
+use Rattle.reader.proofs.entry_breaks.Statement.{statement}
+use Rattle.reader.proofs.entry_breaks.Tie as tie
+
+abbrev Inv-loop : tie.InvT-loop
+Inv-loop book first n bound j₀ j = (j ≤ n) × ((k : ℕ) → k < j → leb bound (pooled book first k) ≡ false)
+
+abbrev μ-loop : tie.MeasureT-loop
+μ-loop book first n bound j₀ j = n - j
+
+pub entry-breaks-spec : {M : Type 1} → statement M
+entry-breaks-spec =
+    tie.close
+    (tie.spec
+    Inv-loop
+    μ-loop
+    (λ c. (search needs, λ k h. absurd (omega arith)))  -- loop-holds
+    (λ c κs. (c .before .before .before .pre .0, omega arith))  -- pooled-requires
+    (λ c. found _ _ _ (omega arith) (leb-yes _ _ _ _ refl (c .before .pooled .ensures) (c .if1 .taken)))  -- returns
+    (λ c. search needs)  -- add-j
+    (λ c. search needs)  -- loop-less
+    (λ c. (search needs, below-more _ _ (c .before .before .before .loop .inv .1) (leb-no _ _ _ _ refl (c .before .pooled .ensures) (c .if1 .left))))  -- loop-again
+    (λ c. passed _ _ _ (omega arith) (c .before .loop .inv .1)))  -- returns-2

@@ -1,0 +1,21 @@
+-- `reader::row_breaks` meets its contract: the tests of a row's rule, one after the other. Assumes nothing.
+use Rattle.reader.proofs.Laws.{row-kind-breaks, row-tag-breaks, row-list-breaks}
+use borrow.Author.Needs.{needs}
+use Rattle.reader.proofs.row_breaks.Statement.{statement}
+use Rattle.reader.proofs.row_breaks.Tie as tie
+
+pub row-breaks-spec : {M : Type 1} → statement M
+row-breaks-spec =
+    tie.close
+    (tie.spec
+    (λ c κs. search needs)  -- row-kind-requires
+    (λ c. search row-kind-breaks)  -- returns
+    (λ c κs. search needs)  -- largest-tag-requires
+    (λ c κs. search needs)  -- row-tag-requires
+    (λ c. search row-tag-breaks)  -- returns-2
+    (λ c κs. search needs)  -- fewest-requires
+    (λ c κs. search needs)  -- largest-requires
+    (λ c κs. search needs)  -- row-count-requires
+    (λ c κs. search needs)  -- row-first-requires
+    (λ c κs. (c .before .before .before .before .before .before .before .before .before .before .pre .0, c .before .row-count .ensures .1, c .row-first .ensures .1))  -- list-breaks-requires
+    (λ c. search row-list-breaks))  -- returns-3

@@ -1,0 +1,12 @@
+-- `reader::row_repeats` meets its contract: an atom repeats nothing; any other row, if its twin is an earlier one. Assumes nothing.
+use Rattle.reader.proofs.Laws.{repeats-atom, repeats-twin}
+use borrow.Author.Needs.{needs}
+use Rattle.reader.proofs.row_repeats.Statement.{statement}
+use Rattle.reader.proofs.row_repeats.Tie as tie
+
+pub row-repeats-spec : {M : Type 1} → statement M
+row-repeats-spec = tie.close (tie.spec
+    (λ c κs. search needs)  -- row-kind-requires
+    (λ c. search repeats-atom)  -- returns
+    (λ c κs. search needs)  -- twin-requires
+    (λ c. search repeats-twin))  -- returns-2

@@ -1,0 +1,26 @@
+-- What the reader has established on its way: bounds after refusal 2, and what a walk over the rows, the parties or the steps knows
+-- when it stops.
+use Prim.Native.Nat.{ℕ, _≤_, _<_}
+use mathlib.Core.Bool.{Bool}
+use mathlib.Core.List.{List}
+use mathlib.Core.Path.{_≡_}
+use Rattle.words.specs.First.{first}
+use Rattle.book.specs.Layout.{rows, parties, steps, pool}
+use Rattle.book.specs.Rules.{RowRule}
+
+-- the counts are within their bounds
+pub record Counted (b : List ℕ) : Type 0 where
+  pub fewRows : rows b ≤ 1024
+  pub fewParties : parties b ≤ 16
+  pub fewSteps : steps b ≤ 64
+  pub smallPool : pool b ≤ 8192
+
+-- it stopped at the smallest of n places that breaks the rule, or at n, and the counts before that place are `sum`
+pub record Scanned (b : List ℕ) (breaks : ℕ → Bool) (before : ℕ → ℕ) (n : ℕ) (place sum : ℕ) : Type 0 where
+  pub stopped : place ≡ first breaks n
+  pub summed : sum ≡ before place
+  pub inside : sum ≤ pool b
+
+-- every row keeps its rule
+abbrev pub RowsKeep : List ℕ → Type 0
+RowsKeep b = (r : ℕ) → r < rows b → RowRule b r

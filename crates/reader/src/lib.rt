@@ -1,0 +1,527 @@
+use book::Kind;
+use book::Layout;
+use book::Limit;
+use book::Reading;
+use book::Refusal;
+use book::parties;
+use book::party_count;
+use book::party_first;
+use book::party_name;
+use book::pool;
+use book::pooled;
+use book::row_count;
+use book::row_first;
+use book::row_kind;
+use book::row_tag;
+use book::rows;
+use book::step_count;
+use book::step_first;
+use book::step_receiver;
+use book::step_sender;
+use book::steps;
+use words::wide;
+ghost use mathlib.Core.Path.{_≡_};
+ghost use Prim.Native.Nat.{ℕ, _+_, _-_, _*_, _^_, _≤_, _<_, min};
+ghost use lib.Dec.{leb, eqb};
+ghost use lib.ListN.{length, getD, drop};
+ghost use Rattle.words.specs.First.{first, any};
+ghost use Rattle.terms.specs.Table.{own, rowSize};
+ghost use Rattle.book.specs.Headed.{Headed};
+ghost use Rattle.book.specs.Layout.{rows as rowsOf, parties as partiesOf, steps as stepsOf, pool as poolOf, pooled as pooledAt};
+ghost use Rattle.book.specs.Layout.{name, rowsBefore, partiesBefore, stepsBefore, table};
+ghost use Rattle.book.specs.Rules.{outside as outsideOf, countBreaks, offsetBreaks, listBreaks, fewest as fewestOf, largest as largestOf, largestTag};
+ghost use Rattle.book.specs.Rules.{rowBreaks, sizeBreaks, agrees, repeats, partyBreaks, stepBreaks};
+ghost use Rattle.book.specs.Said.{readingSays, accepted};
+ghost use Rattle.book.specs.Refusals.{firstOf, readingTable, verdict};
+ghost use Rattle.reader.specs.Scanned.{Counted, Scanned, RowsKeep};
+
+// x is below lo or above hi.
+fn outside(lo: u32, hi: u32, x: u32) -> bool
+    ensures { λ r. ⌜ r ≡ outsideOf lo hi x ⌝ }
+{
+    if x < lo {
+        return true;
+    }
+    hi < x
+}
+
+// Refusal 2: the first section whose count is outside its bounds, or 4.
+fn counts(book: &[u32]) -> u32
+    requires { ⌜ 8 ≤ length (now book) ⌝ }
+    ensures { λ r. ⌜ r ≡ first (countBreaks (now (book .entry))) 4 ⌝ }
+{
+    if outside(1, Limit::ROWS, book[0]) {
+        return 0;
+    }
+    if outside(1, Limit::PARTIES, book[2]) {
+        return 1;
+    }
+    if outside(0, Limit::STEPS, book[4]) {
+        return 2;
+    }
+    if outside(0, Limit::POOL, book[6]) {
+        return 3;
+    }
+    4
+}
+
+// Refusal 3: the first section that does not begin where it has to, 4 if only the length is wrong, or 5.
+fn offsets(book: &[u32]) -> u32
+    requires { ⌜ (8 ≤ length (now book)) × Counted (now book) ⌝ }
+    ensures { λ r. ⌜ r ≡ first (offsetBreaks (now (book .entry))) 5 ⌝ }
+{
+    if book[1] != 8 {
+        return 0;
+    }
+    let second = 8 + 4 * book[0];
+    if book[3] != second {
+        return 1;
+    }
+    let third = second + 3 * book[2];
+    if book[5] != third {
+        return 2;
+    }
+    let fourth = third + 4 * book[4];
+    if book[7] != fourth {
+        return 3;
+    }
+    if book.len() != wide(fourth + book[6]) {
+        return 4;
+    }
+    5
+}
+
+// Some entry of the list is no row below the bound.
+fn entry_breaks(book: &[u32], first: usize, n: usize, bound: u32) -> bool
+    requires { ⌜ Headed (now book) × (first + n ≤ poolOf (now book)) ⌝ }
+    ensures { λ r. ⌜ r ≡ any (λ j. leb bound (pooledAt (now (book .entry)) first j)) n ⌝ }
+{
+    let mut j = 0;
+    while j < n {
+        if bound <= pooled(book, first, j) {
+            return true;
+        }
+        j += 1;
+    }
+    false
+}
+
+// A row's, a party's or a step's list breaks its rule: lo to hi entries below the bound, `before` words before them.
+fn list_breaks(
+    book: &[u32],
+    lo: usize,
+    hi: usize,
+    n: usize,
+    first: usize,
+    before: usize,
+    bound: u32,
+) -> bool
+    requires { ⌜ Headed (now book) × (n < 2 ^ 32) × (first < 2 ^ 32) ⌝ }
+    ensures { λ r. ⌜ r ≡ listBreaks (now (book .entry)) lo hi n first before bound ⌝ }
+{
+    if n < lo {
+        return true;
+    }
+    if hi < n {
+        return true;
+    }
+    if first != before {
+        return true;
+    }
+    if pool(book) < first + n {
+        return true;
+    }
+    entry_breaks(book, first, n, bound)
+}
+
+// By kind: the fewest and the most parts, and the largest tag.
+fn fewest(kind: u32) -> usize
+    ensures { λ r. ⌜ r ≡ fewestOf kind ⌝ }
+{
+    match kind {
+        Kind::ATOM => 0,
+        Kind::OPERATION => 0,
+        _ => 1,
+    }
+}
+
+fn largest(kind: u32) -> usize
+    ensures { λ r. ⌜ r ≡ largestOf kind ⌝ }
+{
+    match kind {
+        Kind::ATOM => 0,
+        Kind::OPERATION => Limit::ARGUMENTS,
+        Kind::CIPHER => Limit::PARTS,
+        _ => 1,
+    }
+}
+
+fn largest_tag(kind: u32) -> u32
+    ensures { λ r. ⌜ r ≡ largestTag kind ⌝ }
+{
+    match kind {
+        Kind::ATOM => 0,
+        Kind::OPERATION => Limit::TAG,
+        _ => 0,
+    }
+}
+
+// The row breaks its rule.
+fn row_breaks(book: &[u32], row: u32, before: usize) -> bool
+    requires { ⌜ Headed (now book) × (row < rowsOf (now book)) × (before ≡ rowsBefore (now book) row) ⌝ }
+    ensures { λ r. ⌜ r ≡ rowBreaks (now (book .entry)) row ⌝ }
+{
+    let kind = row_kind(book, row);
+    if Kind::PRIVATE < kind {
+        return true;
+    }
+    if largest_tag(kind) < row_tag(book, row) {
+        return true;
+    }
+    list_breaks(
+        book,
+        fewest(kind),
+        largest(kind),
+        row_count(book, row),
+        row_first(book, row),
+        before,
+        row,
+    )
+}
+
+// Where a walk stopped, and the counts before that place.
+pub struct Scan {
+    pub place: u32,
+    pub sum: usize,
+}
+
+// Refusal 4: the first row that breaks its rule, or T.
+fn scan_rows(book: &[u32]) -> Scan
+    requires { ⌜ Headed (now book) ⌝ }
+    ensures { λ r. ⌜ Scanned (now (book .entry)) (rowBreaks (now (book .entry))) (rowsBefore (now (book .entry))) (rowsOf (now (book .entry))) (r .place) (r .sum) ⌝ }
+{
+    let n = rows(book);
+    let mut sum = 0;
+    let mut row = 0;
+    while row < n {
+        if row_breaks(book, row, sum) {
+            return Scan {
+                place: row,
+                sum: sum,
+            };
+        }
+        sum += row_count(book, row);
+        row += 1;
+    }
+    Scan {
+        place: row,
+        sum: sum,
+    }
+}
+
+// What a kind adds to its parts' sizes.
+fn own_size(kind: u32) -> u32
+    ensures { λ r. ⌜ (r ≡ own kind) × (r ≤ 3) ⌝ }
+{
+    match kind {
+        Kind::ATOM => 2,
+        Kind::OPERATION => 3,
+        Kind::CIPHER => 2,
+        _ => 1,
+    }
+}
+
+// The size of a row, from those of the rows before it.
+fn row_size(book: &[u32], sizes: &[u32; 1024], row: u32) -> u32
+    requires { ⌜ Headed (now book) × RowsKeep (now book) × (row < rowsOf (now book)) × ((k : ℕ) → k < row → getD (now sizes) k 0 ≡ rowSize (table (now book)) k) × ((k : ℕ) → k < row → rowSize (table (now book)) k ≤ 1024) ⌝ }
+    ensures { λ r. ⌜ r ≡ rowSize (table (now (book .entry))) row ⌝ }
+{
+    let first = row_first(book, row);
+    let n = row_count(book, row);
+    let mut size = own_size(row_kind(book, row));
+    let mut j = 0;
+    while j < n {
+        size += sizes[wide(pooled(book, first, j))];
+        j += 1;
+    }
+    size
+}
+
+// Refusal 5: the first row whose size is over 1,024, or T.
+fn oversize(book: &[u32]) -> u32
+    requires { ⌜ Headed (now book) × RowsKeep (now book) ⌝ }
+    ensures { λ r. ⌜ r ≡ first (sizeBreaks (now (book .entry))) (rowsOf (now (book .entry))) ⌝ }
+{
+    let n = rows(book);
+    let mut sizes = [0u32; 1024];
+    let mut row = 0;
+    while row < n {
+        let size = row_size(book, &sizes, row);
+        if Limit::SIZE < size {
+            return row;
+        }
+        sizes[wide(row)] = size;
+        row += 1;
+    }
+    row
+}
+
+// The first row before this one that agrees with it in kind, tag and parts, or the row itself.
+fn twin(book: &[u32], row: u32) -> u32
+    requires { ⌜ Headed (now book) × RowsKeep (now book) × (row < rowsOf (now book)) ⌝ }
+    ensures { λ r. ⌜ r ≡ first (agrees (now (book .entry)) row) row ⌝ }
+{
+    let kind = row_kind(book, row);
+    let tag = row_tag(book, row);
+    let first = row_first(book, row);
+    let n = row_count(book, row);
+    let mut k = 0;
+    let found = 'rows: loop {
+        if k == row {
+            break 'rows row;
+        }
+        if row_kind(book, k) == kind {
+            if row_tag(book, k) == tag {
+                if row_count(book, k) == n {
+                    let other = row_first(book, k);
+                    let mut j = 0;
+                    'parts: loop {
+                        if j == n {
+                            break 'rows k;
+                        }
+                        if pooled(book, other, j) != pooled(book, first, j) {
+                            break 'parts;
+                        }
+                        j += 1;
+                    }
+                }
+            }
+        }
+        k += 1;
+    };
+    found
+}
+
+// The row repeats an earlier one.
+fn row_repeats(book: &[u32], row: u32) -> bool
+    requires { ⌜ Headed (now book) × RowsKeep (now book) × (row < rowsOf (now book)) ⌝ }
+    ensures { λ r. ⌜ r ≡ repeats (now (book .entry)) row ⌝ }
+{
+    if row_kind(book, row) == Kind::ATOM {
+        return false;
+    }
+    twin(book, row) < row
+}
+
+// Refusal 6: the first row that repeats an earlier one, or T.
+fn repeated(book: &[u32]) -> u32
+    requires { ⌜ Headed (now book) × RowsKeep (now book) ⌝ }
+    ensures { λ r. ⌜ r ≡ first (repeats (now (book .entry))) (rowsOf (now (book .entry))) ⌝ }
+{
+    let n = rows(book);
+    let mut row = 0;
+    while row < n {
+        if row_repeats(book, row) {
+            return row;
+        }
+        row += 1;
+    }
+    row
+}
+
+// An earlier party has the party's name.
+fn name_repeats(book: &[u32], party: u32) -> bool
+    requires { ⌜ Headed (now book) × (party < partiesOf (now book)) ⌝ }
+    ensures { λ r. ⌜ r ≡ any (λ k. eqb (name (now (book .entry)) k) (name (now (book .entry)) party)) party ⌝ }
+{
+    let own = party_name(book, party);
+    let mut k: u32 = 0;
+    while k < party {
+        if party_name(book, k) == own {
+            return true;
+        }
+        k += 1;
+    }
+    false
+}
+
+// Some entry of the list is not below the next.
+fn entry_falls(book: &[u32], first: usize, n: usize) -> bool
+    requires { ⌜ Headed (now book) × (first + n ≤ poolOf (now book)) ⌝ }
+    ensures { λ r. ⌜ r ≡ any (λ j. leb (pooledAt (now (book .entry)) first (j + 1)) (pooledAt (now (book .entry)) first j)) (n - 1) ⌝ }
+{
+    let mut j = 0;
+    while j + 1 < n {
+        if pooled(book, first, j + 1) <= pooled(book, first, j) {
+            return true;
+        }
+        j += 1;
+    }
+    false
+}
+
+// The party breaks its rule.
+fn party_breaks(book: &[u32], party: u32, before: usize) -> bool
+    requires { ⌜ Headed (now book) × (party < partiesOf (now book)) × (before ≡ partiesBefore (now book) party) ⌝ }
+    ensures { λ r. ⌜ r ≡ partyBreaks (now (book .entry)) party ⌝ }
+{
+    let own = party_name(book, party);
+    if rows(book) <= own {
+        return true;
+    }
+    if row_kind(book, own) != Kind::ATOM {
+        return true;
+    }
+    if name_repeats(book, party) {
+        return true;
+    }
+    let first = party_first(book, party);
+    let n = party_count(book, party);
+    if list_breaks(book, 0, Limit::KNOWN, n, first, before, rows(book)) {
+        return true;
+    }
+    entry_falls(book, first, n)
+}
+
+// Refusal 7: the first party that breaks its rule, or Q.
+fn scan_parties(book: &[u32], before: usize) -> Scan
+    requires { ⌜ Headed (now book) × (before ≡ rowsBefore (now book) (rowsOf (now book))) × (before ≤ poolOf (now book)) ⌝ }
+    ensures { λ r. ⌜ Scanned (now (book .entry)) (partyBreaks (now (book .entry))) (partiesBefore (now (book .entry))) (partiesOf (now (book .entry))) (r .place) (r .sum) ⌝ }
+{
+    let n = parties(book);
+    let mut sum = before;
+    let mut party = 0;
+    while party < n {
+        if party_breaks(book, party, sum) {
+            return Scan {
+                place: party,
+                sum: sum,
+            };
+        }
+        sum += party_count(book, party);
+        party += 1;
+    }
+    Scan {
+        place: party,
+        sum: sum,
+    }
+}
+
+// The step breaks its rule.
+fn step_breaks(book: &[u32], step: u32, before: usize) -> bool
+    requires { ⌜ Headed (now book) × (step < stepsOf (now book)) × (before ≡ stepsBefore (now book) step) ⌝ }
+    ensures { λ r. ⌜ r ≡ stepBreaks (now (book .entry)) step ⌝ }
+{
+    let from = step_sender(book, step);
+    let to = step_receiver(book, step);
+    if parties(book) <= from {
+        return true;
+    }
+    if parties(book) <= to {
+        return true;
+    }
+    if from == to {
+        return true;
+    }
+    list_breaks(
+        book,
+        0,
+        Limit::MESSAGES,
+        step_count(book, step),
+        step_first(book, step),
+        before,
+        rows(book),
+    )
+}
+
+// Refusal 8: the first step that breaks its rule, or L.
+fn scan_steps(book: &[u32], before: usize) -> Scan
+    requires { ⌜ Headed (now book) × (before ≡ partiesBefore (now book) (partiesOf (now book))) × (before ≤ poolOf (now book)) ⌝ }
+    ensures { λ r. ⌜ Scanned (now (book .entry)) (stepBreaks (now (book .entry))) (stepsBefore (now (book .entry))) (stepsOf (now (book .entry))) (r .place) (r .sum) ⌝ }
+{
+    let n = steps(book);
+    let mut sum = before;
+    let mut step = 0;
+    while step < n {
+        if step_breaks(book, step, sum) {
+            return Scan {
+                place: step,
+                sum: sum,
+            };
+        }
+        sum += step_count(book, step);
+        step += 1;
+    }
+    Scan {
+        place: step,
+        sum: sum,
+    }
+}
+
+// Refusals 7 to 9, where the rows' counts are `before`.
+fn read_parties(book: &[u32], before: usize) -> Reading
+    requires { ⌜ Headed (now book) × (before ≡ rowsBefore (now book) (rowsOf (now book))) × (before ≤ poolOf (now book)) ⌝ }
+    ensures { λ r. ⌜ readingSays r ≡ firstOf (drop 6 (readingTable (now (book .entry)))) accepted ⌝ }
+{
+    let party = scan_parties(book, before);
+    if party.place < parties(book) {
+        return Reading::Refused(Refusal::Party(party.place));
+    }
+    let step = scan_steps(book, party.sum);
+    if step.place < steps(book) {
+        return Reading::Refused(Refusal::Step(step.place));
+    }
+    if step.sum != pool(book) {
+        return Reading::Refused(Refusal::Sum);
+    }
+    Reading::Accepted
+}
+
+// Refusals 4 to 9.
+fn read_rows(book: &[u32]) -> Reading
+    requires { ⌜ Headed (now book) ⌝ }
+    ensures { λ r. ⌜ readingSays r ≡ firstOf (drop 3 (readingTable (now (book .entry)))) accepted ⌝ }
+{
+    let row = scan_rows(book);
+    if row.place < rows(book) {
+        return Reading::Refused(Refusal::Row(row.place));
+    }
+    let large = oversize(book);
+    if large < rows(book) {
+        return Reading::Refused(Refusal::Size(large));
+    }
+    let again = repeated(book);
+    if again < rows(book) {
+        return Reading::Refused(Refusal::Repeat(again));
+    }
+    read_parties(book, row.sum)
+}
+
+// The place of refusal 3: a header word, or 8 for the length.
+fn offset_place(section: u32) -> u32
+    requires { ⌜ section < 5 ⌝ }
+    ensures { λ r. ⌜ r ≡ min 8 (2 * section + 1) ⌝ }
+{
+    if section < 4 {
+        return 2 * section + 1;
+    }
+    8
+}
+
+// The first of refusals 1 to 9 that applies to any words, or acceptance.
+pub fn read(book: &[u32]) -> Reading
+    ensures { λ r. ⌜ readingSays r ≡ verdict (now (book .entry)) ⌝ }
+{
+    if book.len() < Layout::HEADER {
+        return Reading::Refused(Refusal::Short);
+    }
+    let count = counts(book);
+    if count < 4 {
+        return Reading::Refused(Refusal::Count(2 * count));
+    }
+    let offset = offsets(book);
+    if offset < 5 {
+        return Reading::Refused(Refusal::Offset(offset_place(offset)));
+    }
+    read_rows(book)
+}

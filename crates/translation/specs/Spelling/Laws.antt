@@ -169,7 +169,7 @@ module _ {P Q : Term → Type 0} (f : (t : Term) → P t → Q t) where
   program-map (ProgramNames.cons {e = e} x h) = ProgramNames.cons (event-map e x) (program-map h)
 
 -- ---- a party's part of a frame
-heads-length : (o : ℕ) (ls : List (List ℕ)) → length (heads o ls) ≡ 2 * length ls
+pub heads-length : (o : ℕ) (ls : List (List ℕ)) → length (heads o ls) ≡ 2 * length ls
 unfolding heads
 heads-length o [] = refl
 heads-length o (l ∷ ls) = let h = heads-length (o + length l) ls in omega arith

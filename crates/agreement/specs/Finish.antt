@@ -1,0 +1,69 @@
+-- Every run can finish: how many events are left to do, and what it is for the parties to finish. A move that gets something done
+-- lowers the number by one, any other changes nothing; and while the number is not 0, clause (d) has a move that gets something done.
+-- Document 01: "events done by each party, END not counted". Proved in Finish.Laws.
+use Prim.Native.Nat.{ℕ, zero, suc, _≤_, _<_}
+use mathlib.Core.List.{List, [], _∷_}
+use mathlib.Core.Logic.{_⊎_}
+use mathlib.Core.Option.{some}
+use mathlib.Core.Path.{_≡_}
+use lib.ListN.{length}
+use Rattle.words.specs.Sum.{sum}
+use Rattle.terms.specs.Term.{Terms}
+use Rattle.translation.specs.Receive.{Event}
+use Rattle.translation.specs.Narration.{Narration}
+use Rattle.agreement.specs.Machine.{System, Move, move}
+use Rattle.agreement.specs.Agree.{receiverOf, AtEnd, Does}
+pub mod Counts
+pub mod Laws
+
+-- ---- events left to do: those before END
+unfoldable pub toDo : List Event → ℕ
+toDo [] = 0
+toDo (Event.new r ∷ es) = suc (toDo es)
+toDo (Event.sends s is ∷ es) = suc (toDo es)
+toDo (Event.receives s f n ∷ es) = suc (toDo es)
+toDo (Event.checks x i ∷ es) = suc (toDo es)
+toDo (Event.opens x f n i ∷ es) = suc (toDo es)
+toDo (Event.ends ps ∷ es) = 0
+
+-- by the first Q parties together
+unfoldable pub toDoAll : ℕ → System → ℕ
+toDoAll Q S = sum (λ p. toDo (S .party p .left)) Q
+
+-- ---- a move changes nothing, or lowers the number by one
+abbrev pub Lowers : Narration → ℕ → System → Move → Type 0
+Lowers N Q S m = (move (receiverOf N) m S ≡ S) ⊎ (suc (toDoAll Q (move (receiverOf N) m S)) ≡ toDoAll Q S)
+
+-- ---- the moves, one after another, each of which gets a party's next event done
+pub data Run (N : Narration) : System → List Move → System → Type 0 where
+  stop : {S : System} → Run N S [] S
+  more : {S T : System} {m : Move} {ms : List Move} (p : ℕ) → Does N S m p → Run N (move (receiverOf N) m S) ms T → Run N S (m ∷ ms) T
+
+-- all of the first Q parties are at END
+abbrev pub AllAtEnd : ℕ → System → Type 0
+AllAtEnd Q S = (p : ℕ) → p < Q → AtEnd (S .party p .left)
+
+-- as many such moves as there are events left to do bring all parties to END
+pub record Finishes (N : Narration) (Q : ℕ) (S : System) : Type 0 where
+  pub moves : List Move
+  pub last : System
+  pub run : Run N S moves last
+  pub many : length moves ≡ toDoAll Q S
+  pub ended : AllAtEnd Q last
+
+-- ---- endless sequences of moves
+-- the state before move n
+unfoldable pub state : (ℕ → ℕ) → (ℕ → Move) → System → ℕ → System
+state receiver ms S zero = S
+state receiver ms S (suc n) = move receiver (ms n) (state receiver ms S n)
+
+-- every party keeps moving, and everything sent is handed over: from any time on, each party makes its own move at some time, and
+-- the carrier hands over each step that was sent by then
+pub record Fair (N : Narration) (Q : ℕ) (ms : ℕ → Move) (S : System) : Type 0 where
+  pub parties : (p n : ℕ) → p < Q → (k : ℕ) × (n ≤ k) × (ms k ≡ Move.own p)
+  pub carrier : (s n : ℕ) (ts : Terms) → state (receiverOf N) ms S n .sent s ≡ some ts → (k : ℕ) × (n ≤ k) × (ms k ≡ Move.delivery s)
+
+-- then all of the first Q parties are at END at some time
+pub record Ends (N : Narration) (Q : ℕ) (ms : ℕ → Move) (S : System) : Type 0 where
+  pub time : ℕ
+  pub ended : AllAtEnd Q (state (receiverOf N) ms S time)

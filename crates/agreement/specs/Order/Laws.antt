@@ -1,0 +1,137 @@
+-- A program's events rise, and hold the SEND of each step that the party sends. Assumes nothing.
+use Prim.Native.Nat.{ℕ, suc, _+_, _≤_, _<_, zero-le}
+use native.Mathlib.Nat.{le-trans, le-suc}
+use mathlib.Core.List.{List, [], _∷_, _++_, map, append-assoc, List·Memᴰ, List·Memᴰ·cases-cons, List·Memᴰ·not-nil}
+use mathlib.Core.Logic.{_⊎_, inl, inr, ⊎-elim}
+use mathlib.Core.Path.{_≡_, refl, sym, subst}
+use lib.ListN.{length}
+use Rattle.terms.specs.Term.{Term, Terms}
+use Rattle.terms.specs.Image.{Image}
+use Rattle.translation.specs.Dictionary.{Dictionary, start}
+use Rattle.translation.specs.Build.{buildAll}
+use Rattle.translation.specs.Receive.{Event, Did, Rule, byRule, receive, receiveAll}
+use Rattle.translation.specs.Program.{Act, act, walk, walked, program}
+use Rattle.translation.specs.Narration.{Narration, knownTo, programOf}
+use Rattle.translation.specs.Taken.{stepOf}
+use Rattle.agreement.specs.Machine.{Shown}
+use Rattle.agreement.specs.Machine.Laws.{Showing}
+use Rattle.agreement.specs.Agree.{receiverOf}
+use Rattle.agreement.specs.Parts.{Parts}
+use Rattle.agreement.specs.Parts.Laws.{own-parts, own-sends-in}
+use Rattle.agreement.specs.Order.{Rising, Sends}
+
+-- ---- receiving: comparisons and openings only
+pub data Quiet : List Event → Type 0 where
+  nil : Quiet []
+  checks : {x : ℕ} {i : Image} {es : List Event} → Quiet es → Quiet (Event.checks x i ∷ es)
+  opens : {x f n : ℕ} {i : Image} {es : List Event} → Quiet es → Quiet (Event.opens x f n i ∷ es)
+
+quiet-append : {es fs : List Event} → Quiet es → Quiet fs → Quiet (es ++ fs)
+quiet-append Quiet.nil k = k
+quiet-append (Quiet.checks h) k = Quiet.checks (quiet-append h k)
+quiet-append (Quiet.opens h) k = Quiet.opens (quiet-append h k)
+
+quiet-by : (r : Rule) (c o s : Did) → Quiet (c .events) → Quiet (o .events) → Quiet (s .events) → Quiet (byRule r c o s .events)
+unfolding byRule
+quiet-by Rule.compare c o s x y z = x
+quiet-by Rule.unlock c o s x y z = y
+quiet-by Rule.store c o s x y z = z
+
+mutual
+  unfolding receive
+
+  receive-quiet : (t : Term) (x : ℕ) (δ : Dictionary) (n : ℕ) → Quiet (receive t x δ n .events)
+  receive-quiet (Term.atom r) x δ n = quiet-by _ _ _ _ (Quiet.checks Quiet.nil) Quiet.nil Quiet.nil
+  receive-quiet (Term.operation g ts) x δ n = quiet-by _ _ _ _ (Quiet.checks Quiet.nil) Quiet.nil Quiet.nil
+  receive-quiet (Term.cipher k ts) x δ n = quiet-by _ _ _ _ (Quiet.checks Quiet.nil) (Quiet.opens (receiveAll-quiet ts n δ _)) Quiet.nil
+  receive-quiet (Term.public t) x δ n = quiet-by _ _ _ _ (Quiet.checks Quiet.nil) Quiet.nil Quiet.nil
+  receive-quiet (Term.private t) x δ n = quiet-by _ _ _ _ (Quiet.checks Quiet.nil) Quiet.nil Quiet.nil
+
+  pub receiveAll-quiet : (ts : Terms) (x : ℕ) (δ : Dictionary) (n : ℕ) → Quiet (receiveAll ts x δ n .events)
+  receiveAll-quiet Terms.nil x δ n = Quiet.nil
+  receiveAll-quiet (Terms.cons t ts) x δ n = quiet-append (receive-quiet t x δ n) (receiveAll-quiet ts (suc x) _ _)
+
+module _ (N : Narration) (p : ℕ) where
+  -- ---- Rising
+  rising-low : {low high : ℕ} {es : List Event} → low ≤ high → Rising N p high es → Rising N p low es
+  rising-low l Rising.end = Rising.end
+  rising-low l (Rising.new h) = Rising.new (rising-low l h)
+  rising-low l (Rising.sends m h) = Rising.sends (le-trans l m) h
+  rising-low l (Rising.receives m w e h) = Rising.receives (le-trans l m) w e h
+  rising-low l (Rising.checks h) = Rising.checks (rising-low l h)
+  rising-low l (Rising.opens h) = Rising.opens (rising-low l h)
+
+  quiet-rising : {low : ℕ} {es fs : List Event} → Quiet es → Rising N p low fs → Rising N p low (es ++ fs)
+  quiet-rising Quiet.nil k = k
+  quiet-rising (Quiet.checks h) k = Rising.checks (quiet-rising h k)
+  quiet-rising (Quiet.opens h) k = Rising.opens (quiet-rising h k)
+
+  news-rising : {low : ℕ} (rs : List ℕ) (es fs : List Event) → Rising N p low (es ++ fs) → Rising N p low ((map Event.new rs ++ es) ++ fs)
+  news-rising [] es fs h = h
+  news-rising (r ∷ rs) es fs h = Rising.new (news-rising rs es fs h)
+
+  -- what follows a party's part rises from any step on
+  walk-rising : {low : ℕ} {acts : List Act} (fs : List Event) → ((high : ℕ) → Rising N p high fs) → Parts N p low acts → (δ : Dictionary) (n : ℕ) → Rising N p low (walk acts δ n .events ++ fs)
+  unfolding walk act receiverOf
+  walk-rising fs h Parts.nil δ n = h _
+  walk-rising {low} fs h (Parts.sends {s = s} {ts = ts} l w e r) δ n =
+      let d = act (Act.sends s ts) δ n in
+      let b = buildAll ts δ in
+      subst (Rising N p low) (sym (append-assoc (d .events) _ fs)) (news-rising (b .made) (Event.sends s (b .images) ∷ []) _ (Rising.sends l (walk-rising fs h r (d .dictionary) (n + length (d .given)))))
+  walk-rising {low} fs h (Parts.receives {s = s} {ts = ts} l w e r) δ n =
+      let d = act (Act.receives s ts) δ n in
+      subst (Rising N p low) (sym (append-assoc (d .events) _ fs)) (Rising.receives l (w .within) e (quiet-rising (receiveAll-quiet ts n δ _) (walk-rising fs h r (d .dictionary) (n + length (d .given)))))
+
+  pub program-rising : Rising N p 0 (programOf N p)
+  unfolding programOf program walked
+  program-rising = walk-rising _ (λ high. Rising.end) (own-parts N p) (start (knownTo N p)) 0
+
+  -- what is left when an event was done
+  pub rising-did : {low : ℕ} {e : Event} {es : List Event} {o : Shown} → Rising N p low (e ∷ es) → Showing e o → Rising N p 0 es
+  rising-did (Rising.new h) Showing.new = rising-low zero-le h
+  rising-did (Rising.sends l h) Showing.sends = rising-low zero-le h
+  rising-did (Rising.checks h) Showing.checks = rising-low zero-le h
+  rising-did (Rising.opens h) Showing.opens = rising-low zero-le h
+
+  pub rising-took : {low s f n : ℕ} {es : List Event} → Rising N p low (Event.receives s f n ∷ es) → Rising N p 0 es
+  rising-took (Rising.receives l w e h) = rising-low zero-le h
+
+-- ---- Sends
+pub sends-none : {s : ℕ} → Sends s [] → ⊥
+sends-none h = elim h [ ]
+
+pub rising-sends : {N : Narration} {p low s : ℕ} {es : List Event} → Rising N p low es → Sends s es → low ≤ s
+rising-sends Rising.end (Sends.later k) = absurd (sends-none k)
+rising-sends (Rising.new h) (Sends.later k) = rising-sends h k
+rising-sends (Rising.sends l h) Sends.here = l
+rising-sends (Rising.sends l h) (Sends.later k) = le-trans l (le-trans (le-suc _) (rising-sends h k))
+rising-sends (Rising.receives l w e h) (Sends.later k) = le-trans l (le-trans (le-suc _) (rising-sends h k))
+rising-sends (Rising.checks h) (Sends.later k) = rising-sends h k
+rising-sends (Rising.opens h) (Sends.later k) = rising-sends h k
+
+pub sends-did : {s : ℕ} {e : Event} {es : List Event} {o : Shown} → Sends s (e ∷ es) → Showing e o → Sends s es ⊎ ((ts : Terms) × (o ≡ Shown.sent s ts))
+sends-did Sends.here (Showing.sends {ts = ts}) = inr (ts, refl)
+sends-did (Sends.later h) w = inl h
+
+pub sends-took : {s a f n : ℕ} {es : List Event} → Sends s (Event.receives a f n ∷ es) → Sends s es
+sends-took (Sends.later h) = h
+
+sends-left : {s : ℕ} {es : List Event} (fs : List Event) → Sends s es → Sends s (es ++ fs)
+sends-left fs Sends.here = Sends.here
+sends-left fs (Sends.later h) = Sends.later (sends-left fs h)
+
+sends-right : {s : ℕ} (es : List Event) {fs : List Event} → Sends s fs → Sends s (es ++ fs)
+sends-right [] h = h
+sends-right (e ∷ es) h = Sends.later (sends-right es h)
+
+walk-sends : {s : ℕ} {ts : Terms} (acts : List Act) (δ : Dictionary) (n : ℕ) → List·Memᴰ (Act.sends s ts) acts → Sends s (walk acts δ n .events)
+unfolding walk act
+walk-sends [] δ n m = absurd (List·Memᴰ·not-nil m)
+walk-sends {s} {ts} (a ∷ acts) δ n m =
+    let d = act a δ n in
+    let rest = walk-sends acts (d .dictionary) (n + length (d .given)) in
+    ⊎-elim (λ e. sends-left _ (subst (λ b. Sends s (act b δ n .events)) e (sends-right (map Event.new (buildAll ts δ .made)) Sends.here))) (λ k. sends-right (d .events) (rest k)) (List·Memᴰ·cases-cons m)
+
+pub program-sends : (N : Narration) (s : ℕ) → s < length (N .says) → Sends s (programOf N (stepOf N s .sender))
+unfolding programOf program walked
+program-sends N s l = sends-left _ (walk-sends _ _ 0 (own-sends-in N (stepOf N s .sender) s l refl))

@@ -1,0 +1,27 @@
+-- The events that a party has left go well: with what it holds and has bound, each comparison and opening succeeds, each message
+-- sent is the narration's, and what gets bound is, in the end, all that the narration has at its placeholders. One predicate over
+-- the events left, of which every clause of demand 3 takes its share.
+use mathlib.Core.List.{List, [], _∷_, _++_}
+use mathlib.Core.Option.{some}
+use mathlib.Core.Path.{_≡_}
+use lib.ListN.{length, getElem?}
+use Rattle.terms.specs.Term.{Term, Terms, count, listed, partner}
+use Rattle.translation.specs.Receive.{Event}
+use Rattle.translation.specs.Narration.{Narration}
+use Rattle.agreement.specs.View.{value, valueAll}
+use Rattle.agreement.specs.Agree.{Said}
+use Rattle.agreement.specs.Sound.{seen}
+pub mod Laws
+
+-- hs are held as themselves, the placeholders stand for ns; all: what the narration has at the party's placeholders
+module _ (N : Narration) (all : List Term) where
+  abbrev pub Safe : List Event → List Term → List Term → Type 0
+  Safe [] hs ns = (l : List Term) × (ns ++ l ≡ all)
+  Safe (Event.new r ∷ es) hs ns = Safe es (Term.atom r ∷ hs) ns
+  Safe (Event.sends s is ∷ es) hs ns = (ts : Terms) × Said N s ts × (valueAll (seen hs ns) is ≡ some ts) × Safe es hs ns
+  Safe (Event.receives s f n ∷ es) hs ns = (ts : Terms) × Said N s ts × (f ≡ length ns) × (n ≡ count ts) × Safe es hs (ns ++ listed ts)
+  Safe (Event.checks x i ∷ es) hs ns = (t : Term) × (getElem? ns x ≡ some t) × (value (seen hs ns) i ≡ some t) × Safe es hs ns
+  Safe (Event.opens x f n i ∷ es) hs ns =
+      (k : Term) × (ts : Terms) × (getElem? ns x ≡ some (Term.cipher k ts)) × (f ≡ length ns) × (n ≡ count ts)
+      × (value (seen hs ns) i ≡ some (partner k)) × Safe es hs (ns ++ listed ts)
+  Safe (Event.ends ps ∷ es) hs ns = Safe es hs ns

@@ -1,0 +1,187 @@
+-- Laws of sound dictionaries: a buildable term's image, and an image that was built, stand for the term. Assumes nothing.
+use Prim.Native.Nat.{ℕ, zero, suc}
+use mathlib.Core.Bool.{true, true≢false}
+use mathlib.Core.List.{List, [], _∷_, _++_}
+use mathlib.Core.Option.{some, Option·some-ne-none}
+use mathlib.Core.Path.{_≡_, refl, sym, ap, _∙_, subst}
+use lib.ListN.{length, getElem?}
+use Rattle.words.specs.Choice.Laws.{pick-true, choose-ind, choose-yes}
+use Rattle.terms.specs.Term.{Term, Terms, same}
+use Rattle.terms.specs.Image.{Image}
+use Rattle.translation.specs.Dictionary.{Held, Dictionary, isHeld, enter, start, buildable, Derives, DerivesAll, nobody, Buildable, imageOr, image, images}
+use Rattle.translation.specs.Dictionary.Laws.{enter-same, enter-other, enter-ind, buildable-exact}
+use Rattle.translation.specs.Build.{Built, builtOr, build, buildAll}
+use Rattle.translation.specs.Spelling.{then}
+use Rattle.agreement.specs.View.{holds, value, valueAll}
+use Rattle.agreement.specs.Sound.{seen, Right, Sound}
+
+-- ---- lists of terms by their places
+pub at-append : (l ns : List Term) (x : ℕ) {t : Term} → getElem? ns x ≡ some t → getElem? (ns ++ l) x ≡ some t
+at-append l [] x {t} e = absurd (Option·some-ne-none t (sym e))
+at-append l (n ∷ ns) zero e = e
+at-append l (n ∷ ns) (suc x) e = at-append l ns x e
+
+pub at-seam : (ns : List Term) (t : Term) (l : List Term) → getElem? (ns ++ t ∷ l) (length ns) ≡ some t
+at-seam [] t l = refl
+at-seam (n ∷ ns) t l = at-seam ns t l
+
+-- ---- holds
+holds-head : (t : Term) (hs : List Term) → holds (t ∷ hs) t ≡ true
+unfolding holds
+holds-head t hs = choose-yes (same t t) true (holds hs t) refl
+
+holds-more : (u : Term) (hs : List Term) (t : Term) → holds hs t ≡ true → holds (u ∷ hs) t ≡ true
+unfolding holds
+holds-more u hs t h = choose-ind (λ x. x ≡ true) (same u t) true (holds hs t) (λ e. refl) (λ n. h)
+
+-- ---- Right and Sound
+right-append : (l : List Term) {hs ns : List Term} {t : Term} {h : Held} → Right hs ns t h → Right hs (ns ++ l) t h
+right-append l Right.free = Right.free
+right-append l (Right.itself e) = Right.itself e
+right-append l {ns = ns} (Right.placeholder {x = x} e) = Right.placeholder (at-append l ns x e)
+
+right-more : (u : Term) {hs ns : List Term} {t : Term} {h : Held} → Right hs ns t h → Right (u ∷ hs) ns t h
+right-more u Right.free = Right.free
+right-more u {hs} {t = t} (Right.itself e) = Right.itself (holds-more u hs t e)
+right-more u (Right.placeholder e) = Right.placeholder e
+
+pub sound-append : (l : List Term) {δ : Dictionary} {hs ns : List Term} → Sound δ hs ns → Sound δ hs (ns ++ l)
+sound-append l s t = right-append l (s t)
+
+sound-more : (u : Term) {δ : Dictionary} {hs ns : List Term} → Sound δ hs ns → Sound δ (u ∷ hs) ns
+sound-more u s t = right-more u (s t)
+
+pub sound-enter : (δ : Dictionary) (t : Term) (h : Held) {hs ns : List Term} → Right hs ns t h → Sound δ hs ns → Sound (enter δ t h) hs ns
+sound-enter δ t h {hs} {ns} r s u = enter-ind (Right hs ns u) δ t h u (λ e. subst (λ v. Right hs ns v h) e r) (λ n. s u)
+
+-- what was entered is right; and what was there is, if the entry was free
+sound-here : (δ : Dictionary) (t : Term) (h : Held) {hs ns : List Term} → Sound (enter δ t h) hs ns → Right hs ns t h
+sound-here δ t h {hs} {ns} s = subst (Right hs ns t) (enter-same δ t h) (s t)
+
+sound-back : (δ : Dictionary) (t : Term) (h : Held) {hs ns : List Term} → δ t ≡ Held.free → Sound (enter δ t h) hs ns → Sound δ hs ns
+sound-back δ t h {hs} {ns} e s u = go (same t u)
+  where
+    go : Dec (t ≡ u) → Right hs ns u (δ u)
+    go (yes p) = subst (Right hs ns u) (sym (ap δ (sym p) ∙ e)) Right.free
+    go (no n) = subst (Right hs ns u) (enter-other δ t h u n) (s u)
+
+pub start-sound : (known : List Term) → Sound (start known) known []
+unfolding start
+start-sound [] = λ t. Right.free
+start-sound (t ∷ ts) = sound-enter (start ts) t Held.itself (Right.itself (holds-head t ts)) (sound-more t (start-sound ts))
+
+-- ---- image
+module _ (hs ns : List Term) where
+  holds-value : (t : Term) → holds hs t ≡ true → value (seen hs ns) (Image.itself t) ≡ some t
+  unfolding value seen
+  holds-value t e = pick-true _ _ _ e
+
+  or-value : {h : Held} {t : Term} (i : Image) → Right hs ns t h → (h ≡ Held.free → value (seen hs ns) i ≡ some t) → value (seen hs ns) (imageOr h t i) ≡ some t
+  unfolding imageOr value seen
+  or-value i Right.free f = f refl
+  or-value {t = t} i (Right.itself e) f = holds-value t e
+  or-value i (Right.placeholder e) f = e
+
+  module _ (δ : Dictionary) (s : Sound δ hs ns) where
+    held-free : {h : Held} {C : Type 0} → isHeld h ≡ true → h ≡ Held.free → C
+    held-free {h} p q = absurd (true≢false (sym p ∙ ap isHeld q))
+
+    held-value : (t : Term) → isHeld (δ t) ≡ true → value (seen hs ns) (image δ t) ≡ some t
+    unfolding image
+    held-value (Term.atom r) h = or-value _ (s _) (λ e. held-free h e)
+    held-value (Term.operation g ts) h = or-value _ (s _) (λ e. held-free h e)
+    held-value (Term.cipher k ts) h = or-value _ (s _) (λ e. held-free h e)
+    held-value (Term.public t) h = or-value _ (s _) (λ e. held-free h e)
+    held-value (Term.private t) h = or-value _ (s _) (λ e. held-free h e)
+
+    mutual
+      unfolding image value then
+
+      derives-value : {t : Term} → Buildable δ t → value (seen hs ns) (image δ t) ≡ some t
+      derives-value {t} (Derives.held h) = held-value t h
+      derives-value (Derives.make f) = absurd f
+      derives-value (Derives.operation d) = or-value _ (s _) (λ e. rw (derivesAll-value d))
+      derives-value (Derives.cipher k d) = or-value _ (s _) (λ e. rw (derives-value k, derivesAll-value d))
+      derives-value (Derives.public d) = or-value _ (s _) (λ e. rw (derives-value d))
+      derives-value (Derives.private d) = or-value _ (s _) (λ e. rw (derives-value d))
+
+      derivesAll-value : {ts : Terms} → DerivesAll nobody δ ts → valueAll (seen hs ns) (images δ ts) ≡ some ts
+      derivesAll-value DerivesAll.nil = refl
+      derivesAll-value (DerivesAll.cons d e) = rw (derives-value d, derivesAll-value e)
+
+    pub image-value : (t : Term) → buildable δ t ≡ true → value (seen hs ns) (image δ t) ≡ some t
+    image-value t e = derives-value (buildable-exact δ t .0 e)
+
+-- ---- build
+-- the atoms made, added to what is held
+unfoldable pub plus : List ℕ → List Term → List Term
+plus [] hs = hs
+plus (r ∷ rs) hs = plus rs (Term.atom r ∷ hs)
+
+plus-append : (a b : List ℕ) (hs : List Term) → plus (a ++ b) hs ≡ plus b (plus a hs)
+unfolding plus
+plus-append [] b hs = refl
+plus-append (r ∷ a) b hs = plus-append a b (Term.atom r ∷ hs)
+
+module _ (ns : List Term) where
+  -- whoever holds what the dictionary says afterwards finds the term behind the image
+  abbrev BuiltRight : Term → Dictionary → Built → Type 0
+  BuiltRight t δ b = (hs : List Term) → Sound (b .dictionary) hs ns → Sound δ hs ns × (value (seen hs ns) (b .image) ≡ some t)
+
+  or-built : {h : Held} (t : Term) (δ : Dictionary) (b : Built) → ((hs : List Term) → Sound δ hs ns → Right hs ns t h) → (h ≡ Held.free → BuiltRight t δ b) → BuiltRight t δ (builtOr h t δ b)
+  unfolding builtOr value seen
+  or-built {h = Held.free} t δ b r f = f refl
+  or-built {h = Held.itself} t δ b r f = λ hs s. (s, itself (r hs s))
+    where
+      itself : {hs : List Term} → Right hs ns t Held.itself → value (seen hs ns) (Image.itself t) ≡ some t
+      itself {hs} (Right.itself e) = holds-value hs ns t e
+  or-built {h = Held.placeholder x} t δ b r f = λ hs s. (s, there (r hs s))
+    where
+      there : {hs : List Term} → Right hs ns t (Held.placeholder x) → getElem? ns x ≡ some t
+      there (Right.placeholder e) = e
+
+  mutual
+    unfolding build value then
+
+    build-value : (t : Term) (δ : Dictionary) → BuiltRight t δ (build t δ)
+    build-value (Term.atom r) δ = or-built (Term.atom r) δ _ (λ hs s. s _) (λ e hs s. (sound-back δ (Term.atom r) Held.itself e s, made (sound-here δ (Term.atom r) Held.itself s)))
+      where
+        made : {hs : List Term} → Right hs ns (Term.atom r) Held.itself → value (seen hs ns) (Image.itself (Term.atom r)) ≡ some (Term.atom r)
+        made {hs} (Right.itself e) = holds-value hs ns (Term.atom r) e
+    build-value (Term.operation g ts) δ = or-built (Term.operation g ts) δ _ (λ hs s. s _) (λ e hs s. let m = buildAll-value ts δ hs s in (m .0, rw (m .1)))
+    build-value (Term.cipher k ts) δ =
+        or-built (Term.cipher k ts) δ _ (λ hs s. s _)
+        (λ e hs s. let m = buildAll-value ts ((build k δ) .dictionary) hs s in let n = build-value k δ hs (m .0) in (n .0, rw (n .1, m .1)))
+    build-value (Term.public t) δ = or-built (Term.public t) δ _ (λ hs s. s _) (λ e hs s. let m = build-value t δ hs s in (m .0, rw (m .1)))
+    build-value (Term.private t) δ = or-built (Term.private t) δ _ (λ hs s. s _) (λ e hs s. let m = build-value t δ hs s in (m .0, rw (m .1)))
+
+    pub buildAll-value : (ts : Terms) (δ : Dictionary) (hs : List Term) → Sound ((buildAll ts δ) .dictionary) hs ns → Sound δ hs ns × (valueAll (seen hs ns) ((buildAll ts δ) .images) ≡ some ts)
+    buildAll-value Terms.nil δ = λ hs s. (s, refl)
+    buildAll-value (Terms.cons t ts) δ =
+        λ hs s. let m = buildAll-value ts ((build t δ) .dictionary) hs s in let n = build-value t δ hs (m .0) in (n .0, rw (n .1, m .1))
+
+  -- and with the atoms made the party holds what the dictionary says afterwards
+  abbrev BuiltSound : Dictionary → Built → Type 0
+  BuiltSound δ b = (hs : List Term) → Sound δ hs ns → Sound (b .dictionary) (plus (b .made) hs) ns
+
+  or-sound : (h : Held) (t : Term) (δ : Dictionary) (b : Built) → BuiltSound δ b → BuiltSound δ (builtOr h t δ b)
+  unfolding builtOr plus
+  or-sound Held.free t δ b f = f
+  or-sound Held.itself t δ b f = λ hs s. s
+  or-sound (Held.placeholder x) t δ b f = λ hs s. s
+
+  mutual
+    unfolding build plus
+
+    build-sound : (t : Term) (δ : Dictionary) → BuiltSound δ (build t δ)
+    build-sound (Term.atom r) δ = or-sound _ _ δ _ (λ hs s. sound-enter δ (Term.atom r) Held.itself (Right.itself (holds-head (Term.atom r) hs)) (sound-more (Term.atom r) s))
+    build-sound (Term.operation g ts) δ = or-sound _ _ δ _ (buildAll-sound ts δ)
+    build-sound (Term.cipher k ts) δ =
+        or-sound _ _ δ _ (λ hs s. rw (plus-append ((build k δ) .made) ((buildAll ts ((build k δ) .dictionary)) .made) hs) (buildAll-sound ts ((build k δ) .dictionary) _ (build-sound k δ hs s)))
+    build-sound (Term.public t) δ = or-sound _ _ δ _ (build-sound t δ)
+    build-sound (Term.private t) δ = or-sound _ _ δ _ (build-sound t δ)
+
+    pub buildAll-sound : (ts : Terms) (δ : Dictionary) (hs : List Term) → Sound δ hs ns → Sound ((buildAll ts δ) .dictionary) (plus ((buildAll ts δ) .made) hs) ns
+    buildAll-sound Terms.nil δ = λ hs s. s
+    buildAll-sound (Terms.cons t ts) δ =
+        λ hs s. rw (plus-append ((build t δ) .made) ((buildAll ts ((build t δ) .dictionary)) .made) hs) (buildAll-sound ts ((build t δ) .dictionary) _ (build-sound t δ hs s))

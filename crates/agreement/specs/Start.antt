@@ -1,0 +1,106 @@
+-- Laws: demand 3 for a playable narration, whose parties start with their programs. Assumes nothing.
+use Prim.Native.Nat.{ℕ, _≤_, _<_}
+use native.Mathlib.Decide.{decLt}
+use native.Mathlib.Omega.{arith}
+use mathlib.Core.List.{List, [], _∷_, List·Memᴰ, List·Memᴰ·not-nil}
+use mathlib.Core.Logic.{inl}
+use mathlib.Core.Option.{Option·some-ne-none}
+use mathlib.Core.Path.{_≡_, refl, sym, subst}
+use lib.ListN.{length}
+use Rattle.translation.specs.Build.Laws.{NoRepeat}
+use Rattle.translation.specs.Receive.{Event}
+use Rattle.translation.specs.Program.{own}
+use Rattle.translation.specs.Narration.{Narration, knownTo, programOf}
+use Rattle.translation.specs.Taken.{Nobodys, stepOf, Playable}
+use Rattle.agreement.specs.Machine.{System, begin, Reach}
+use Rattle.agreement.specs.Agree.{meant, receiverOf, AtEnd, Agree}
+use Rattle.agreement.specs.Sound.{seen}
+use Rattle.agreement.specs.Safe.{Safe}
+use Rattle.agreement.specs.Safe.Laws.{program-safe}
+use Rattle.agreement.specs.Going.{Going}
+use Rattle.agreement.specs.Going.Laws.{reach-going, going-bound, going-faithful}
+use Rattle.agreement.specs.Parts.Laws.{own-parts, parts-said}
+use Rattle.agreement.specs.Order.{Rising, Sends}
+use Rattle.agreement.specs.Order.Laws.{program-rising, program-sends}
+use Rattle.agreement.specs.Flow.{Flow}
+use Rattle.agreement.specs.Flow.Laws.{reach-flow}
+use Rattle.agreement.specs.Progress.{progress}
+use Rattle.agreement.specs.Making.{news}
+use Rattle.agreement.specs.Making.Laws.{program-free, program-once, program-apart}
+use Rattle.agreement.specs.Log.{Logged}
+use Rattle.agreement.specs.Log.Laws.{reach-logged}
+
+-- a narration among the first Q parties that refusal 10 lets pass
+pub record Played (N : Narration) (Q : ℕ) : Type 0 where
+  pub senders : (s : ℕ) → s < length (N .says) → stepOf N s .sender < Q
+  pub playable : (s : ℕ) → s < length (N .says) → Playable N s
+
+-- each party has its program, and a number that is no party's has nothing to do
+pub record Programs (N : Narration) (Q : ℕ) (programs : ℕ → List Event) : Type 0 where
+  pub party : (p : ℕ) → p < Q → programs p ≡ programOf N p
+  pub nobody : (p : ℕ) → Q ≤ p → programs p ≡ Event.ends [] ∷ []
+
+module _ (N : Narration) (Q : ℕ) (programs : ℕ → List Event) (v : Played N Q) (w : Programs N Q programs) where
+  abbrev pub starting : System
+  starting = begin (knownTo N) programs
+
+  each : (A : ℕ → List Event → Type 0) → ((p : ℕ) → A p (programOf N p)) → ((p : ℕ) → A p (Event.ends [] ∷ [])) → (p : ℕ) → A p (programs p)
+  each A f g p = elim (decLt p Q) [ yes l ↦ subst (A p) (sym (w .party p l)) (f p) | no l ↦ subst (A p) (sym (w .nobody p (omega arith))) (g p) ]
+
+  start-going : Going N starting
+  unfolding begin seen
+  start-going =
+      record {
+        parties = λ p. record {
+          standing = refl;
+          holding = knownTo N p;
+          bound = [];
+          sees = refl;
+          safe = each (λ q es. Safe N (meant N q) es (knownTo N q) []) (λ q. safe q) (λ q. (meant N q, refl)) p;
+        };
+        messages = λ s ts e. absurd (Option·some-ne-none ts (sym e));
+      }
+    where
+      safe : (q : ℕ) → Safe N (meant N q) (programOf N q) (knownTo N q) []
+      safe q = unfold programOf meant in program-safe N _ (knownTo N q) (own q 0 (N .says)) (parts-said N q (own-parts N q)) refl
+
+  start-flow : Flow N Q starting
+  unfolding begin
+  start-flow =
+      record {
+        rising = each (λ p es. Rising N p 0 es) (λ p. program-rising N p) (λ p. Rising.end);
+        sends = λ s l. inl (subst (Sends s) (sym (w .party _ (v .senders s l))) (program-sends N s l));
+        nobody = λ p l. subst AtEnd (sym (w .nobody p l)) AtEnd.end;
+      }
+
+  start-logged : Logged (Nobodys N 0) starting
+  unfolding begin news
+  start-logged =
+      record {
+        once = tt;
+        fresh = λ r m. absurd (List·Memᴰ·not-nil m);
+        notYet = λ p r m n. List·Memᴰ·not-nil n;
+        freshLater = λ p r m. program-free N (v .playable) p r (its p r m);
+        onceLater = each (λ p es. NoRepeat (news es)) (λ p. program-once N (v .playable) p) (λ p. tt);
+        apart = λ p q r m n. program-apart N (v .playable) p q r (its p r m) (its q r n);
+      }
+    where
+      its : (p r : ℕ) → List·Memᴰ r (news (programs p)) → List·Memᴰ r (news (programOf N p))
+      its p r = each (λ q es. List·Memᴰ r (news es) → List·Memᴰ r (news (programOf N q))) (λ q m. m) (λ q m. absurd (List·Memᴰ·not-nil (unfold news in m))) p
+
+  module _ {S : System} (r : Reach (receiverOf N) starting S) where
+    pub reached-going : Going N S
+    reached-going = reach-going N r start-going
+
+    pub reached-flow : Flow N Q S
+    reached-flow = reach-flow N Q r start-flow
+
+    pub reached-agree : Agree N Q S
+    reached-agree =
+        let l = reach-logged (Nobodys N 0) r start-logged in
+        record {
+          bound = going-bound N S reached-going;
+          faithful = going-faithful N S reached-going;
+          made = record { once = l .once; untaken = l .fresh };
+          moves = progress N Q (v .senders) S reached-going reached-flow;
+        }

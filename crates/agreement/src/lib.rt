@@ -1,0 +1,1 @@
+// The plain machine and that the parties agree: meaning only.

@@ -1,18 +1,16 @@
 -- In a playable narration no atom is made by two steps, nor is a taken one. Assumes nothing.
 use Prim.Native.Nat.{ℕ, zero, suc, _+_, _≤_, _<_}
-use native.Mathlib.Nat.{add-zero, zero-add, le-trans, le-suc, le-refl}
+use native.Mathlib.Nat.{zero-add, le-trans, le-suc, le-refl}
 use native.Mathlib.Decide.{decLt}
 use native.Mathlib.Omega.{arith}
-use mathlib.Core.Bool.{Bool}
-use mathlib.Core.List.{List, [], _∷_, _++_, map, append-nil, append-assoc, List·Memᴰ, List·Memᴰ·head, List·Memᴰ·tail, List·Memᴰ·append-cases, List·Memᴰ·not-nil}
+use mathlib.Core.List.{List, [], _∷_, _++_, map, append-nil, List·Memᴰ, List·Memᴰ·head, List·Memᴰ·tail, List·Memᴰ·append-cases, List·Memᴰ·not-nil}
 use mathlib.Core.Logic.{⊎-elim}
 use mathlib.Core.Path.{_≡_, refl, sym, ap, ap₂, _∙_, subst}
 use lib.ListN.{length, getD, take, length-append}
 use lib.Seq.{take-append-seam}
 use lib.Dec.{eqb}
 use borrow.Author.Tests.{eqb-true}
-use Rattle.words.specs.Choice.{pick}
-use Rattle.words.specs.Choice.Laws.{pick-ind, pick-ap}
+use Rattle.words.specs.Choice.Laws.{pick-ind}
 use Rattle.terms.specs.Term.{Term, Terms, count, listed, Occurs, OccursIn}
 use Rattle.terms.specs.Image.{Images}
 use Rattle.translation.specs.Dictionary.{Dictionary, start}
@@ -20,44 +18,12 @@ use Rattle.translation.specs.Build.{buildAll}
 use Rattle.translation.specs.Build.Laws.{NoRepeat, no-repeat-append, buildAll-makes, derivesAll-free}
 use Rattle.translation.specs.Receive.{Event, Did, followed, receiveAll}
 use Rattle.translation.specs.Program.{Step, Act, own, act, walk, walked, program}
+use Rattle.translation.specs.Program.Laws.{own-append, walk-append}
 use Rattle.translation.specs.Narration.{Narration, knownTo, programOf}
 use Rattle.translation.specs.Taken.{Taken, Nobodys, stepOf, holdsBefore, madeAt, Playable}
 use Rattle.agreement.specs.Parts.Laws.{step-seam, split-on, length-on}
 use Rattle.agreement.specs.Order.Laws.{Quiet, receiveAll-quiet}
 use Rattle.agreement.specs.Making.{news, MadeFrom}
-
--- ---- own and walk, over steps in two parts
-pick-two : {A B : Type 0} (f : A → B) (c d : Bool) (x y z : A) → f (pick c x (pick d y z)) ≡ pick c (f x) (pick d (f y) (f z))
-pick-two f c d x y z = pick-ap f c x (pick d y z) ∙ ap (pick c (f x)) (pick-ap f d y z)
-
-own-append : (p i : ℕ) (a b : List Step) → own p i (a ++ b) ≡ own p i a ++ own p (i + length a) b
-unfolding own
-own-append p i [] b = rw add-zero
-own-append p i (s ∷ a) b =
-    let z : suc i + length a ≡ i + suc (length a) = omega arith in
-    let e : own p (suc i) (a ++ b) ≡ own p (suc i) a ++ own p (i + suc (length a)) b = own-append p (suc i) a b ∙ ap (λ n. own p (suc i) a ++ own p n b) z in
-    rw e (sym (pick-two (λ (l : List Act). l ++ own p (i + suc (length a)) b) (eqb (s .sender) p) (eqb (s .receiver) p)
-    (Act.sends i (s .messages) ∷ own p (suc i) a) (Act.receives i (s .messages) ∷ own p (suc i) a) (own p (suc i) a)))
-
-followed-assoc : (c d e : Did) → followed (followed c d) e ≡ followed c (followed d e)
-followed-assoc c d e =
-    λ i. record {
-      dictionary = e .dictionary;
-      given = append-assoc (c .given) (d .given) (e .given) i;
-      events = append-assoc (c .events) (d .events) (e .events) i;
-      stored = append-assoc (c .stored) (d .stored) (e .stored) i;
-    }
-
-walk-append : (a b : List Act) (δ : Dictionary) (n : ℕ) → walk (a ++ b) δ n ≡ followed (walk a δ n) (walk b (walk a δ n .dictionary) (n + length (walk a δ n .given)))
-unfolding walk
-walk-append [] b δ n = ap (walk b δ) (sym (add-zero n))
-walk-append (c ∷ a) b δ n =
-    let d = act c δ n in
-    let w = walk a (d .dictionary) (n + length (d .given)) in
-    let l = length-append (d .given) (w .given) in
-    let z : (n + length (d .given)) + length (w .given) ≡ n + length (d .given ++ w .given) = omega arith in
-    ap (followed d) (walk-append a b (d .dictionary) (n + length (d .given)) ∙ ap (λ m. followed w (walk b (w .dictionary) m)) z)
-    ∙ sym (followed-assoc d w (walk b (w .dictionary) (n + length (d .given ++ w .given))))
 
 -- ---- news
 news-append : (es fs : List Event) → news (es ++ fs) ≡ news es ++ news fs

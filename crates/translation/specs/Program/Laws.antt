@@ -1,13 +1,18 @@
 -- Laws of programs: a party's program is its own business. Assumes nothing.
-use Prim.Native.Nat.{ℕ, suc}
-use mathlib.Core.List.{List, _∷_}
-use mathlib.Core.Path.{_≡_, ap₂}
+use Prim.Native.Nat.{ℕ, suc, _+_}
+use native.Mathlib.Nat.{add-zero}
+use native.Mathlib.Omega.{arith}
+use mathlib.Core.Bool.{Bool, true, false}
+use mathlib.Core.List.{List, [], _∷_, _++_, append-assoc}
+use mathlib.Core.Path.{_≡_, sym, ap, ap₂, _∙_}
+use lib.ListN.{length, length-append}
 use lib.Dec.{eqb}
-use mathlib.Core.Bool.{true, false}
 use Rattle.words.specs.Choice.{pick}
-use Rattle.words.specs.Choice.Laws.{pick-true, pick-false}
+use Rattle.words.specs.Choice.Laws.{pick-true, pick-false, pick-ap}
 use Rattle.terms.specs.Term.{Term}
-use Rattle.translation.specs.Program.{Step, Act, own, program}
+use Rattle.translation.specs.Dictionary.{Dictionary}
+use Rattle.translation.specs.Receive.{Did, followed}
+use Rattle.translation.specs.Program.{Step, Act, own, act, walk, program}
 
 -- ---- own: one step
 module _ (p i : ℕ) (s : Step) (ss : List Step) where
@@ -26,3 +31,36 @@ module _ (p i : ℕ) (s : Step) (ss : List Step) where
 -- ---- program: equal knowledge and equal own parts give equal programs
 pub program-own : {k l : List Term} {a c : List Act} → k ≡ l → a ≡ c → program k a ≡ program l c
 program-own e f = ap₂ program e f
+
+-- ---- own and walk, over steps in two parts
+pick-two : {A B : Type 0} (f : A → B) (c d : Bool) (x y z : A) → f (pick c x (pick d y z)) ≡ pick c (f x) (pick d (f y) (f z))
+pick-two f c d x y z = pick-ap f c x (pick d y z) ∙ ap (pick c (f x)) (pick-ap f d y z)
+
+pub own-append : (p i : ℕ) (a b : List Step) → own p i (a ++ b) ≡ own p i a ++ own p (i + length a) b
+unfolding own
+own-append p i [] b = rw add-zero
+own-append p i (s ∷ a) b =
+    let z : suc i + length a ≡ i + suc (length a) = omega arith in
+    let e : own p (suc i) (a ++ b) ≡ own p (suc i) a ++ own p (i + suc (length a)) b = own-append p (suc i) a b ∙ ap (λ n. own p (suc i) a ++ own p n b) z in
+    rw e (sym (pick-two (λ (l : List Act). l ++ own p (i + suc (length a)) b) (eqb (s .sender) p) (eqb (s .receiver) p)
+    (Act.sends i (s .messages) ∷ own p (suc i) a) (Act.receives i (s .messages) ∷ own p (suc i) a) (own p (suc i) a)))
+
+pub followed-assoc : (c d e : Did) → followed (followed c d) e ≡ followed c (followed d e)
+followed-assoc c d e =
+    λ i. record {
+      dictionary = e .dictionary;
+      given = append-assoc (c .given) (d .given) (e .given) i;
+      events = append-assoc (c .events) (d .events) (e .events) i;
+      stored = append-assoc (c .stored) (d .stored) (e .stored) i;
+    }
+
+pub walk-append : (a b : List Act) (δ : Dictionary) (n : ℕ) → walk (a ++ b) δ n ≡ followed (walk a δ n) (walk b (walk a δ n .dictionary) (n + length (walk a δ n .given)))
+unfolding walk
+walk-append [] b δ n = ap (walk b δ) (sym (add-zero n))
+walk-append (c ∷ a) b δ n =
+    let d = act c δ n in
+    let w = walk a (d .dictionary) (n + length (d .given)) in
+    let l = length-append (d .given) (w .given) in
+    let z : (n + length (d .given)) + length (w .given) ≡ n + length (d .given ++ w .given) = omega arith in
+    ap (followed d) (walk-append a b (d .dictionary) (n + length (d .given)) ∙ ap (λ m. followed w (walk b (w .dictionary) m)) z)
+    ∙ sym (followed-assoc d w (walk b (w .dictionary) (n + length (d .given ++ w .given))))

@@ -53,7 +53,7 @@ total-run f l a (suc n) =
     ∙ sym (sum-front (λ j. f (getD l (a + j) 0)) n)
 
 -- ---- form: its kind, tag and parts read back
-kindOf : Term → ℕ
+unfoldable pub kindOf : Term → ℕ
 kindOf (Term.atom r) = 0
 kindOf (Term.operation g ts) = 1
 kindOf (Term.cipher k ts) = 2
@@ -140,7 +140,7 @@ form-size r (suc (suc (suc (suc zero)))) g (t ∷ []) h s = omega arith
 form-size r (suc (suc (suc (suc zero)))) g (t ∷ u ∷ ts) h s = absurd (omega arith)
 form-size r (suc (suc (suc (suc (suc k))))) g ts h s = absurd (omega arith)
 
-map-map : {A B C : Type 0} (f : B → C) (g : A → B) (l : List A) → map f (map g l) ≡ map (λ x. f (g x)) l
+pub map-map : {A B C : Type 0} (f : B → C) (g : A → B) (l : List A) → map f (map g l) ≡ map (λ x. f (g x)) l
 map-map f g [] = refl
 map-map f g (x ∷ l) = ap (λ m. f (g x) ∷ m) (map-map f g l)
 
@@ -164,7 +164,7 @@ module _ (n : ℕ) (tab : Table) (ok : Formed n tab) where
   pub shape-row : (r : ℕ) → r < n → Shape (tab r .kind) (length (map (term tab) (tab r .parts)))
   shape-row r l = rw (length-map (tab r .parts) (term tab)) (ok .shapes r l)
 
-  kind-row : (r : ℕ) → r < n → kindOf (term tab r) ≡ tab r .kind
+  pub kind-row : (r : ℕ) → r < n → kindOf (term tab r) ≡ tab r .kind
   unfolding terms
   kind-row r l = rw (term-row r l) (form-kind r _ _ _ (ok .kinds r l) (shape-row r l))
 

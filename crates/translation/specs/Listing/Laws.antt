@@ -1,9 +1,9 @@
--- A party's listing depends on the table, its own knowledge and its own part in the steps, and on nothing else of the book.
--- Assumes nothing.
+-- Laws of the listing's words: lists of events in two parts; and a party's listing depends on the table, its own knowledge and its
+-- own part in the steps, and on nothing else of the book. Assumes nothing.
 use Prim.Native.Nat.{ℕ, zero, suc, _<_}
 use mathlib.Core.Bool.{true, false}
-use mathlib.Core.List.{List, map}
-use mathlib.Core.Path.{_≡_, sym, ap, ap₂, _∙_}
+use mathlib.Core.List.{List, [], _∷_, _++_, map, append-assoc}
+use mathlib.Core.Path.{_≡_, refl, sym, ap, ap₂, _∙_}
 use native.Mathlib.Omega.{arith}
 use Rattle.words.specs.Choice.{choose}
 use Rattle.words.specs.First.{first}
@@ -15,11 +15,24 @@ use Rattle.terms.specs.Table.Laws.{term-row}
 use Rattle.book.specs.Layout.{table, rows}
 use Rattle.book.specs.Valid.{Valid}
 use Rattle.book.specs.Valid.Laws.{formed}
+use Rattle.translation.specs.Receive.{Event}
 use Rattle.translation.specs.Program.{own}
 use Rattle.translation.specs.Program.Laws.{program-own}
 use Rattle.translation.specs.Narration.{narration, knownTo, programOf}
-use Rattle.translation.specs.Listing.{programWords, partWords}
+use Rattle.translation.specs.Listing.{pairWords, eventWords, programWords, partWords}
 
+-- ---- in two parts
+pub program-append : (row : Term → ℕ) (es fs : List Event) → programWords row (es ++ fs) ≡ programWords row es ++ programWords row fs
+unfolding programWords
+program-append row [] fs = refl
+program-append row (e ∷ es) fs = ap (λ l. eventWords row e ++ l) (program-append row es fs) ∙ sym (append-assoc (eventWords row e) (programWords row es) (programWords row fs))
+
+pub pairs-append : (row : Term → ℕ) (ps qs : List (Term × ℕ)) → pairWords row (ps ++ qs) ≡ pairWords row ps ++ pairWords row qs
+unfolding pairWords
+pairs-append row [] qs = refl
+pairs-append row (p ∷ ps) qs = ap (λ l. row (p .0) ∷ p .1 ∷ l) (pairs-append row ps qs)
+
+-- ---- a party's listing is its own business
 -- two books have equal rows
 pub record SameTable (b c : List ℕ) : Type 0 where
   pub many : rows b ≡ rows c

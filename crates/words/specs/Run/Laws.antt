@@ -81,6 +81,11 @@ values-getD f i zero k d h = absurd (omega arith)
 values-getD f i (suc n) zero d h = rw add-zero
 values-getD f i (suc n) (suc k) d h = values-getD f (suc i) n k d (omega arith) ∙ ap f (omega arith)
 
+pub values-last : {X : Type 0} (f : ℕ → X) (i n : ℕ) → values f i (suc n) ≡ values f i n ++ (f (i + n) ∷ [])
+unfolding values
+values-last {X} f i zero = let z : i ≡ i + 0 = omega arith in ap (λ k. f k ∷ []) z
+values-last {X} f i (suc n) = let z : suc i + n ≡ i + suc n = omega arith in ap (λ (l : List X). f i ∷ l) (values-last f (suc i) n ∙ ap (λ k. values f (suc i) n ++ (f k ∷ [])) z)
+
 -- ---- sameWords
 same-equal : (xs ys : List ℕ) → sameWords xs ys ≡ true → xs ≡ ys
 unfolding sameWords

@@ -1,0 +1,23 @@
+-- `holding::can_open` meets its contract: by the partner's row, or where it is none by its part. Assumes nothing.
+use Rattle.holding.specs.Half.Laws.{opens-itself, opens-row, opens-part}
+use Rattle.book.specs.Headed.Laws.{valid-headed}
+use native.Mathlib.Omega.{arith}
+use borrow.Author.Needs.{needs}
+use Rattle.holding.proofs.can_open.Statement.{statement}
+use Rattle.holding.proofs.can_open.Tie as tie
+
+pub can-open-spec : {M : Type 1} → statement M
+can-open-spec =
+    tie.close
+    (tie.spec
+    (λ c κs. (valid-headed _ (c .before .pre .0), c .before .pre .1))  -- row-kind-requires
+    (λ c κs. search needs)  -- buildable-requires
+    (λ c. opens-itself (c .before .before .before .before .args .book .now) (c .before .before .before .before .args .entries .now) (c .before .before .before .before .pre .0) _ _ (c .before .before .before .before .args .key) (c .before .before .before .before .args .key) (c .before .before .before .before .pre .1) (c .before .before .row-kind .ensures) (c .before .if1 .taken) _ (c .buildable .ensures))  -- returns
+    (λ c κs. (c .before .before .before .pre .0, c .before .before .before .pre .1, let e = c .before .row-kind .ensures in let f = c .if1 .left in omega arith))  -- first-part-requires
+    (λ c. let k = (c .before .before .before .before .pre .0 .rowsKeep _ (c .before .before .before .before .pre .1) .kinded) in let e = c .before .before .row-kind .ensures in omega arith)  -- sub-half-row
+    (λ c κs. let p = c .first-part .ensures .1 in let q = c .before .before .before .before .pre .1 in let k = (c .before .before .before .before .pre .0 .rowsKeep _ (c .before .before .before .before .pre .1) .kinded) in let e = c .before .before .row-kind .ensures in let f = c .before .if1 .left in (c .before .before .before .before .pre .0, omega arith, omega arith, omega arith))  -- half-row-requires
+    (λ c κs. valid-headed _ (c .before .before .before .before .before .pre .0))  -- rows-requires
+    (λ c κs. let e = c .before .rows .ensures in let f = c .if2 .taken in (c .before .before .before .before .before .before .before .pre .0, omega arith))  -- buildable-requires-2
+    (λ c. opens-row (c .before .before .before .before .before .before .before .before .args .book .now) (c .before .before .before .before .before .before .before .before .args .entries .now) (c .before .before .before .before .before .before .before .before .pre .0) _ _ _ _ (c .before .before .before .before .before .before .before .before .pre .1) (c .before .before .before .before .before .before .row-kind .ensures) (c .before .before .before .before .before .if1 .left) (c .before .before .before .before .first-part .ensures .0) (c .before .before .before .half-row .ensures) (let e = c .before .before .rows .ensures in let f = c .before .if2 .taken in omega arith) _ (c .buildable2 .ensures))  -- returns-2
+    (λ c κs. let p = c .before .before .before .first-part .ensures .1 in let q = c .before .before .before .before .before .before .before .pre .1 in (c .before .before .before .before .before .before .before .pre .0, omega arith))  -- buildable-requires-3
+    (λ c. opens-part (c .before .before .before .before .before .before .before .before .args .book .now) (c .before .before .before .before .before .before .before .before .args .entries .now) (c .before .before .before .before .before .before .before .before .pre .0) _ _ _ _ (c .before .before .before .before .before .before .before .before .pre .1) (c .before .before .before .before .before .before .row-kind .ensures) (c .before .before .before .before .before .if1 .left) (c .before .before .before .before .first-part .ensures .0) (c .before .before .before .half-row .ensures) (let e = c .before .before .rows .ensures in let f = c .before .if2 .left in omega arith) _ (c .buildable3 .ensures)))  -- returns-3

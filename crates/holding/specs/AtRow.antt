@@ -1,0 +1,47 @@
+-- What the meaning says of a row, from what it says of its parts: the form in which code that works on rows meets it.
+use Prim.Native.Nat.{ℕ, zero, suc, _-_}
+use mathlib.Core.Bool.{Bool, true, false}
+use mathlib.Core.List.{List, [], _∷_, _++_, map}
+use lib.Dec.{eqb}
+use Rattle.words.specs.Choice.{pick}
+use Rattle.terms.specs.Image.{words}
+use Rattle.terms.specs.Table.{term}
+use Rattle.book.specs.Layout.{table, kind, tag, rowCount, listAt}
+use Rattle.translation.specs.Dictionary.{buildable, image}
+use Rattle.holding.specs.View.{rowOf, view}
+pub mod Laws
+
+-- the row is buildable from what the entries hold
+abbrev pub canAt : List ℕ → List ℕ → ℕ → Bool
+canAt b e r = buildable (view b e) (term (table b) r)
+
+unfoldable pub allTrue : List Bool → Bool
+allTrue [] = true
+allTrue (x ∷ xs) = pick x (allTrue xs) false
+
+-- the words of the row's image
+abbrev pub imageAt : List ℕ → List ℕ → ℕ → List ℕ
+imageAt b e r = words (rowOf b) (image (view b e) (term (table b) r))
+
+unfoldable pub concat : List (List ℕ) → List ℕ
+concat [] = []
+concat (x ∷ xs) = x ++ concat xs
+
+-- the images of the n rows that stand in the pool from f on
+unfoldable pub imagesAt : List ℕ → List ℕ → ℕ → ℕ → List ℕ
+imagesAt b e f n = concat (map (imageAt b e) (listAt b f n))
+
+-- how an image begins that is no entry: by the row's kind, tag and number of parts
+unfoldable pub headOf : ℕ → ℕ → ℕ → ℕ → List ℕ
+headOf r zero g n = 0 ∷ r ∷ []
+headOf r (suc zero) g n = 2 ∷ g ∷ n ∷ []
+headOf r (suc (suc zero)) g n = 3 ∷ (n - 1) ∷ []
+headOf r (suc (suc (suc zero))) g n = 4 ∷ []
+headOf r (suc (suc (suc (suc k)))) g n = 5 ∷ []
+
+abbrev pub headWords : List ℕ → ℕ → List ℕ
+headWords b r = headOf r (kind b r) (tag b r) (rowCount b r)
+
+-- the words of an entry that is not 0
+unfoldable pub entryWords : ℕ → ℕ → List ℕ
+entryWords r x = pick (eqb x 1) (0 ∷ r ∷ []) (1 ∷ (x - 2) ∷ [])

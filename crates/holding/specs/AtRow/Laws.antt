@@ -1,0 +1,200 @@
+-- Laws of rows: buildable and the image's words, by the row's kind. Assumes nothing.
+use Prim.Native.Nat.{ℕ, zero, suc, _+_, _-_, _≤_, _<_}
+use mathlib.Core.Bool.{Bool, true, false}
+use mathlib.Core.List.{List, [], _∷_, _++_, map, append-nil}
+use mathlib.Core.Path.{_≡_, refl, ap, _∙_}
+use native.Mathlib.Omega.{arith}
+use lib.ListN.{length, getD, length-map}
+use lib.Dec.{eqb}
+use borrow.Author.Tests.{eq-eqb, ne-eqb}
+use Rattle.words.specs.Choice.{pick}
+use Rattle.words.specs.Run.Laws.{run-length}
+use Rattle.terms.specs.Term.{Term, gathered}
+use Rattle.terms.specs.Image.{Image, words, wordsOf}
+use Rattle.terms.specs.Image as Image'
+use Rattle.terms.specs.Table.{form, term, terms, Shape}
+use Rattle.terms.specs.Table.Laws.{term-row, shape-row, map-map}
+use Rattle.book.specs.Layout.{table, rows, begins, kind, tag, rowFirst, rowCount, parts, listAt}
+use Rattle.book.specs.Valid.{Valid}
+use Rattle.book.specs.Valid.Laws.{formed}
+use Rattle.translation.specs.Dictionary.{Held, Dictionary, isHeld, buildable, allBuildable, imageOr, image, images}
+use Rattle.holding.specs.Span.{entry}
+use Rattle.holding.specs.Span.Laws.{list-none, list-more}
+use Rattle.holding.specs.View.{heldOf, rowOf, view}
+use Rattle.holding.specs.View.Laws.{view-row, row-of}
+use Rattle.holding.specs.AtRow.{canAt, allTrue, imageAt, concat, imagesAt, headOf, headWords, entryWords}
+
+-- ---- buildable, of a form
+all-buildable : (δ : Dictionary) (ts : List Term) → allBuildable δ (gathered ts) ≡ allTrue (map (buildable δ) ts)
+unfolding gathered buildable allTrue
+all-buildable δ [] = refl
+all-buildable δ (t ∷ ts) = ap (λ x. pick (buildable δ t) x false) (all-buildable δ ts)
+
+same-pick : (x : Bool) → x ≡ pick x true false
+unfolding pick
+same-pick true = refl
+same-pick false = refl
+
+can-form : (δ : Dictionary) (r k g : ℕ) (ts : List Term) → k ≤ 4 → Shape k (length ts)
+    → buildable δ (form r k g (gathered ts)) ≡ pick (isHeld (δ (form r k g (gathered ts)))) true (pick (eqb k 0) false (allTrue (map (buildable δ) ts)))
+unfolding form buildable allTrue gathered pick
+can-form δ r zero g ts l s = same-pick _
+can-form δ r (suc zero) g ts l s = ap (pick (isHeld (δ (Term.operation g (gathered ts)))) true) (all-buildable δ ts)
+can-form δ r (suc (suc zero)) g [] l s = absurd (omega arith)
+can-form δ r (suc (suc zero)) g (t ∷ ts) l s = ap (λ x. pick (isHeld (δ (Term.cipher t (gathered ts)))) true (pick (buildable δ t) x false)) (all-buildable δ ts)
+can-form δ r (suc (suc (suc zero))) g [] l s = absurd (omega arith)
+can-form δ r (suc (suc (suc zero))) g (t ∷ []) l s = ap (pick (isHeld (δ (Term.public t))) true) (same-pick _)
+can-form δ r (suc (suc (suc zero))) g (t ∷ u ∷ ts) l s = absurd (omega arith)
+can-form δ r (suc (suc (suc (suc zero)))) g [] l s = absurd (omega arith)
+can-form δ r (suc (suc (suc (suc zero)))) g (t ∷ []) l s = ap (pick (isHeld (δ (Term.private t))) true) (same-pick _)
+can-form δ r (suc (suc (suc (suc zero)))) g (t ∷ u ∷ ts) l s = absurd (omega arith)
+can-form δ r (suc (suc (suc (suc (suc k))))) g ts l s = absurd (omega arith)
+
+pub held-zero : (x : ℕ) → isHeld (heldOf x) ≡ pick (eqb x 0) false true
+unfolding heldOf pick
+held-zero zero = refl
+held-zero (suc zero) = refl
+held-zero (suc (suc x)) = rw (ne-eqb (suc (suc x)) 0 (omega arith))
+
+-- ---- images, of a form
+module _ (row : Term → ℕ) (δ : Dictionary) where
+  abbrev shown : Held → ℕ → List ℕ → List ℕ
+  shown Held.free n ws = ws
+  shown Held.itself n ws = 0 ∷ n ∷ []
+  shown (Held.placeholder x) n ws = 1 ∷ x ∷ []
+
+  words-held : (h : Held) (t : Term) (i : Image) (ws : List ℕ) → words row i ≡ ws → words row (imageOr h t i) ≡ shown h (row t) ws
+  unfolding words imageOr
+  words-held Held.free t i ws e = e
+  words-held Held.itself t i ws e = refl
+  words-held (Held.placeholder x) t i ws e = refl
+
+  words-all : (ts : List Term) → wordsOf row (images δ (gathered ts)) ≡ concat (map (λ t. words row (image δ t)) ts)
+  unfolding gathered image words concat
+  words-all [] = refl
+  words-all (t ∷ ts) = ap (λ l. words row (image δ t) ++ l) (words-all ts)
+
+  count-all : (ts : List Term) → Image'.count (images δ (gathered ts)) ≡ length ts
+  unfolding gathered image Image'.count
+  count-all [] = refl
+  count-all (t ∷ ts) = ap suc (count-all ts)
+
+  image-form : (r k g : ℕ) (ts : List Term) → k ≤ 4 → Shape k (length ts)
+      → words row (image δ (form r k g (gathered ts))) ≡ shown (δ (form r k g (gathered ts))) (row (form r k g (gathered ts))) (headOf (row (form r k g (gathered ts))) k g (length ts) ++ concat (map (λ t. words row (image δ t)) ts))
+  unfolding form image words headOf concat gathered
+  image-form r zero g [] l s = words-held (δ (Term.atom r)) _ _ _ refl
+  image-form r zero g (t ∷ ts) l s = absurd (omega arith)
+  image-form r (suc zero) g ts l s = words-held (δ (Term.operation g (gathered ts))) _ _ _ (rw (count-all ts, words-all ts))
+  image-form r (suc (suc zero)) g [] l s = absurd (omega arith)
+  image-form r (suc (suc zero)) g (t ∷ ts) l s = let z : suc (length ts) - 1 ≡ length ts = omega arith in words-held (δ (Term.cipher t (gathered ts))) _ _ _ (rw (count-all ts, words-all ts, z))
+  image-form r (suc (suc (suc zero))) g [] l s = absurd (omega arith)
+  image-form r (suc (suc (suc zero))) g (t ∷ []) l s = words-held (δ (Term.public t)) _ _ _ (rw append-nil)
+  image-form r (suc (suc (suc zero))) g (t ∷ u ∷ ts) l s = absurd (omega arith)
+  image-form r (suc (suc (suc (suc zero)))) g [] l s = absurd (omega arith)
+  image-form r (suc (suc (suc (suc zero)))) g (t ∷ []) l s = words-held (δ (Term.private t)) _ _ _ (rw append-nil)
+  image-form r (suc (suc (suc (suc zero)))) g (t ∷ u ∷ ts) l s = absurd (omega arith)
+  image-form r (suc (suc (suc (suc (suc k))))) g ts l s = absurd (omega arith)
+
+-- ---- a row of a valid book
+module _ (b e : List ℕ) (v : Valid b) (r : ℕ) (h : r < rows b) where
+  row-form : term (table b) r ≡ form r (kind b r) (tag b r) (gathered (map (term (table b)) (parts b r)))
+  unfolding terms table
+  row-form = term-row (rows b) (table b) (formed b v) r h
+
+  row-shape : Shape (kind b r) (length (map (term (table b)) (parts b r)))
+  unfolding table
+  row-shape = shape-row (rows b) (table b) (formed b v) r h
+
+  can-row : canAt b e r ≡ pick (pick (eqb (getD e r 0) 0) false true) true (pick (eqb (kind b r) 0) false (allTrue (map (canAt b e) (parts b r))))
+  can-row =
+      ap (buildable (view b e)) row-form ∙ can-form (view b e) r _ _ _ (v .rowsKeep r h .kinded) row-shape
+      ∙ rw (← row-form, view-row b v e r h, held-zero (getD e r 0), map-map (buildable (view b e)) (term (table b)) (parts b r))
+
+  pub can-held : (getD e r 0 ≡ 0 → ⊥) → canAt b e r ≡ true
+  unfolding pick
+  can-held n = rw (can-row, ne-eqb (getD e r 0) 0 n)
+
+  pub can-atom : getD e r 0 ≡ 0 → kind b r ≡ 0 → canAt b e r ≡ false
+  unfolding pick
+  can-atom n k = rw (can-row, eq-eqb (getD e r 0) 0 n, eq-eqb (kind b r) 0 k)
+
+  pub can-parts : getD e r 0 ≡ 0 → (kind b r ≡ 0 → ⊥) → canAt b e r ≡ allTrue (map (canAt b e) (parts b r))
+  unfolding pick
+  can-parts n k = rw (can-row, eq-eqb (getD e r 0) 0 n, ne-eqb (kind b r) 0 k)
+
+  image-row : imageAt b e r ≡ shown (rowOf b) (view b e) (heldOf (getD e r 0)) r (headWords b r ++ concat (map (imageAt b e) (parts b r)))
+  image-row =
+      ap (λ t. words (rowOf b) (image (view b e) t)) row-form ∙ image-form (rowOf b) (view b e) r _ _ _ (v .rowsKeep r h .kinded) row-shape
+      ∙ rw (
+        ← row-form,
+        view-row b v e r h,
+        row-of b v r (term (table b) r) h refl,
+        length-map (parts b r) (term (table b)),
+        run-length b (begins b 3 + rowFirst b r) (rowCount b r),
+        map-map (λ t. words (rowOf b) (image (view b e) t)) (term (table b)) (parts b r),
+      )
+
+  entry-held : (x : ℕ) (ws : List ℕ) → (x ≡ 0 → ⊥) → shown (rowOf b) (view b e) (heldOf x) r ws ≡ entryWords r x
+  unfolding heldOf entryWords pick
+  entry-held zero ws n = absurd (n refl)
+  entry-held (suc zero) ws n = refl
+  entry-held (suc (suc x)) ws n = let z : suc (suc x) - 2 ≡ x = omega arith in rw (ne-eqb (suc (suc x)) 1 (omega arith), z)
+
+  pub image-held : (getD e r 0 ≡ 0 → ⊥) → imageAt b e r ≡ entryWords r (getD e r 0)
+  image-held n = image-row ∙ entry-held (getD e r 0) _ n
+
+  pub image-free : getD e r 0 ≡ 0 → imageAt b e r ≡ headWords b r ++ concat (map (imageAt b e) (parts b r))
+  unfolding heldOf
+  image-free z = rw (image-row, z)
+
+-- ---- lists of rows, one after another
+module _ (g : ℕ → Bool) (b : List ℕ) (f n : ℕ) where
+  pub all-on : 0 < n → g (entry b f) ≡ true → allTrue (map g (listAt b f n)) ≡ allTrue (map g (listAt b (f + 1) (n - 1)))
+  unfolding allTrue pick
+  all-on h e = rw (list-more b f n h, e)
+
+  pub all-off : 0 < n → g (entry b f) ≡ false → allTrue (map g (listAt b f n)) ≡ false
+  unfolding allTrue pick
+  all-off h e = rw (list-more b f n h, e)
+
+  pub all-done : n ≤ 0 → allTrue (map g (listAt b f n)) ≡ true
+  unfolding allTrue
+  all-done h = rw (list-none b f n h)
+
+pub images-none : (b e : List ℕ) (f n : ℕ) → n ≡ 0 → imagesAt b e f n ≡ []
+unfolding imagesAt concat
+images-none b e f n z = rw (list-none b f n (omega arith))
+
+pub images-more : (b e : List ℕ) (f n : ℕ) → 0 < n → imagesAt b e f n ≡ imageAt b e (entry b f) ++ imagesAt b e (f + 1) (n - 1)
+unfolding imagesAt concat
+images-more b e f n h = rw (list-more b f n h)
+
+-- ---- the words in the code's own terms
+module _ (b : List ℕ) (r k : ℕ) (e : k ≡ kind b r) where
+  pub head-operation : (t n : ℕ) → k ≡ 1 → t ≡ tag b r → n ≡ rowCount b r → headWords b r ≡ 2 ∷ t ∷ n ∷ []
+  unfolding headOf
+  head-operation t n z p q = rw (← e, z, p, q)
+
+  pub head-cipher : (n : ℕ) → k ≡ 2 → n ≡ rowCount b r → headWords b r ≡ 3 ∷ (n - 1) ∷ []
+  unfolding headOf
+  head-cipher n z q = rw (← e, z, q)
+
+  pub head-public : k ≡ 3 → headWords b r ≡ 4 ∷ []
+  unfolding headOf
+  head-public z = rw (← e, z)
+
+  pub head-private : k ≡ 4 → headWords b r ≡ 5 ∷ []
+  unfolding headOf
+  head-private z = rw (← e, z)
+
+  pub head-atom : k ≡ 0 → headWords b r ≡ 0 ∷ r ∷ []
+  unfolding headOf
+  head-atom z = rw (← e, z)
+
+pub entry-itself : (r x : ℕ) → x ≡ 1 → entryWords r x ≡ 0 ∷ r ∷ []
+unfolding entryWords pick
+entry-itself r x z = rw z
+
+pub entry-placeholder : (r x : ℕ) → (x ≡ 1 → ⊥) → entryWords r x ≡ 1 ∷ (x - 2) ∷ []
+unfolding entryWords pick
+entry-placeholder r x n = rw (ne-eqb x 1 n)

@@ -1,0 +1,6 @@
+pub mod View
+pub mod Span
+pub mod AtRow
+pub mod Half
+pub mod Since
+pub mod Doing

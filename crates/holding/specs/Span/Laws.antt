@@ -1,0 +1,55 @@
+-- Laws of spans. Assumes nothing.
+use Prim.Native.Nat.{ℕ, zero, suc, _+_, _-_, _≤_, _<_}
+use mathlib.Core.List.{List, [], _∷_}
+use mathlib.Core.Path.{_≡_, ap, _∙_}
+use native.Mathlib.Omega.{arith}
+use Rattle.words.specs.Run.{run}
+use Rattle.words.specs.Run.Laws.{run-none, run-more, all-run}
+use Rattle.book.specs.Layout.{at, begins, rows, steps, pool, kind, rowFirst, rowCount, stepFirst, stepCount, listAt}
+use Rattle.book.specs.Rules.{largest}
+use Rattle.book.specs.Valid.{Valid}
+use Rattle.holding.specs.Span.{entry, Span}
+
+pub list-none : (b : List ℕ) (f n : ℕ) → n ≤ 0 → listAt b f n ≡ []
+list-none b f n h = run-none b (begins b 3 + f) n h
+
+pub list-more : (b : List ℕ) (f n : ℕ) → 0 < n → listAt b f n ≡ entry b f ∷ listAt b (f + 1) (n - 1)
+list-more b f n h =
+    let z : begins b 3 + f ≡ begins b 3 + f + 0 = omega arith in
+    let y : begins b 3 + f + 1 ≡ begins b 3 + (f + 1) = omega arith in
+    run-more b (begins b 3 + f) n h ∙ ap (λ k. at b k ∷ run b (begins b 3 + f + 1) (n - 1)) z ∙ ap (λ k. entry b f ∷ run b k (n - 1)) y
+
+few-parts : (k n : ℕ) → n ≤ largest k → n ≤ 9
+unfolding largest
+few-parts zero n h = omega arith
+few-parts (suc zero) n h = omega arith
+few-parts (suc (suc zero)) n h = omega arith
+few-parts (suc (suc (suc k))) n h = omega arith
+
+module _ (b : List ℕ) (v : Valid b) (f n : ℕ) where
+  -- a row's parts
+  pub span-row : (r : ℕ) → r < rows b → f ≡ rowFirst b r → n ≡ rowCount b r → Span b r f n
+  span-row r h p q =
+      let o = v .rowsKeep r h .listed in
+      rw (p, q) (record { inside = o .inside; below = all-run (λ x. x < r) b (begins b 3 + rowFirst b r) (rowCount b r) (o .each); few = few-parts (kind b r) (rowCount b r) (o .high) })
+
+  -- a step's messages
+  pub span-step : (s : ℕ) → s < steps b → f ≡ stepFirst b s → n ≡ stepCount b s → Span b (rows b) f n
+  span-step s h p q =
+      let o = v .stepsKeep s h .listed in
+      let m = o .high in
+      rw (p, q) (record { inside = o .inside; below = all-run (λ x. x < rows b) b (begins b 3 + stepFirst b s) (stepCount b s) (o .each); few = omega arith })
+
+module _ (b : List ℕ) (d f n : ℕ) (s : Span b d f n) (h : 0 < n) where
+  pub span-head : entry b f < d
+  span-head = let g = rw (list-more b f n h) at (s .below) in g .0
+
+  pub span-tail : Span b d (f + 1) (n - 1)
+  span-tail =
+      let g = rw (list-more b f n h) at (s .below) in
+      let l = s .inside in
+      let k = s .few in
+      record { inside = omega arith; below = g .1; few = omega arith }
+
+  pub span-index : f + 0 < pool b
+  span-index = let l = s .inside in omega arith

@@ -1,0 +1,238 @@
+use book::Kind;
+use book::party_count;
+use book::party_first;
+use book::pooled;
+use book::row_count;
+use book::row_first;
+use book::row_kind;
+use book::row_tag;
+use book::rows;
+use words::put;
+use words::put2;
+use words::put3;
+use words::wide;
+ghost use mathlib.Core.Path.{_≡_};
+ghost use mathlib.Core.List.{map};
+ghost use Prim.Native.Nat.{_+_, _-_, _*_, _≤_, _<_};
+ghost use lib.ListN.{length, getD};
+ghost use Rattle.words.specs.Overlay.{Wrote};
+ghost use Rattle.terms.specs.Term.{partner};
+ghost use Rattle.terms.specs.Image.{words};
+ghost use Rattle.terms.specs.Table.{term};
+ghost use Rattle.book.specs.Layout.{rows as rowsOf, parties as partiesOf, kind, rowFirst, known, table};
+ghost use Rattle.book.specs.Valid.{Valid};
+ghost use Rattle.translation.specs.Dictionary.{start as startOf, buildable as buildableFrom, image};
+ghost use Rattle.holding.specs.View.{rowOf, view};
+ghost use Rattle.holding.specs.Span.{entry as entryAt, Span};
+ghost use Rattle.holding.specs.AtRow.{imageAt, imagesAt, headWords, entryWords};
+ghost use Rattle.holding.specs.Half.{half, isHalf};
+
+// What a party holds at the start: each row that it knows, as itself.
+pub fn start(book: &[u32], party: u32) -> [u32; 1024]
+    requires { ⌜ Valid (now book) × (party < partiesOf (now book)) ⌝ }
+    ensures { λ r. ⌜ view (now (book .entry)) r ≡ startOf (map (term (table (now (book .entry)))) (known (now (book .entry)) party)) ⌝ }
+{
+    let first = party_first(book, party);
+    let mut left = party_count(book, party);
+    let mut entries = [0u32; 1024];
+    while 0 < left {
+        left -= 1;
+        entries[wide(pooled(book, first, left))] = 1;
+    }
+    entries
+}
+
+// The row that stands at a place of the pool, of a list that goes on there.
+pub fn entry(book: &[u32], first: usize, n: usize, bound: u32) -> u32
+    requires { ⌜ Valid (now book) × Span (now book) bound first n × (0 < n) ⌝ }
+    ensures { λ r. ⌜ (r ≡ entryAt (now (book .entry)) first) × (r < bound) ⌝ }
+{
+    pooled(book, first, 0)
+}
+
+// A row's first part: a cipher's key, a half's part.
+pub fn first_part(book: &[u32], row: u32) -> u32
+    requires { ⌜ Valid (now book) × (row < rowsOf (now book)) × (2 ≤ kind (now book) row) ⌝ }
+    ensures { λ r. ⌜ (r ≡ entryAt (now (book .entry)) (rowFirst (now (book .entry)) row)) × (r < row) ⌝ }
+{
+    let first = row_first(book, row);
+    pooled(book, first, 0)
+}
+
+// The row is in the dictionary, or it isn't an atom and all its parts are buildable.
+pub fn buildable(book: &[u32], entries: &[u32; 1024], row: u32) -> bool
+    requires { ⌜ Valid (now book) × (row < rowsOf (now book)) ⌝ }
+    ensures { λ r. ⌜ r ≡ buildableFrom (view (now (book .entry)) (now (entries .entry))) (term (table (now (book .entry))) row) ⌝ }
+{
+    if entries[wide(row)] != 0 {
+        return true;
+    }
+    if row_kind(book, row) == Kind::ATOM {
+        return false;
+    }
+    let mut from = row_first(book, row);
+    let mut left = row_count(book, row);
+    while 0 < left {
+        if !buildable(book, entries, entry(book, from, left, row)) {
+            return false;
+        }
+        from += 1;
+        left -= 1;
+    }
+    true
+}
+
+// The row is the half of that side of the part.
+fn is_half(book: &[u32], row: u32, side: u32, part: u32) -> bool
+    requires { ⌜ Valid (now book) × (row < rowsOf (now book)) × (part < rowsOf (now book)) × (3 ≤ side) × (side ≤ 4) ⌝ }
+    ensures { λ r. ⌜ r ≡ isHalf (now (book .entry)) row side part ⌝ }
+{
+    if row_kind(book, row) != side {
+        return false;
+    }
+    first_part(book, row) == part
+}
+
+// The row of that half of the part, or T where it is no row.
+fn half_row(book: &[u32], side: u32, part: u32) -> u32
+    requires { ⌜ Valid (now book) × (part < rowsOf (now book)) × (3 ≤ side) × (side ≤ 4) ⌝ }
+    ensures { λ r. ⌜ r ≡ rowOf (now (book .entry)) (half side (term (table (now (book .entry))) part)) ⌝ }
+{
+    let n = rows(book);
+    let mut row = 0;
+    while row < n {
+        if is_half(book, row, side, part) {
+            return row;
+        }
+        row += 1;
+    }
+    row
+}
+
+// The partner of the key is buildable. It need not be a row: then it is buildable from its part.
+pub fn can_open(book: &[u32], entries: &[u32; 1024], key: u32) -> bool
+    requires { ⌜ Valid (now book) × (key < rowsOf (now book)) ⌝ }
+    ensures { λ r. ⌜ r ≡ buildableFrom (view (now (book .entry)) (now (entries .entry))) (partner (term (table (now (book .entry))) key)) ⌝ }
+{
+    let side = row_kind(book, key);
+    if side < Kind::PUBLIC {
+        return buildable(book, entries, key);
+    }
+    let part = first_part(book, key);
+    let other = half_row(book, 7 - side, part);
+    if other < rows(book) {
+        return buildable(book, entries, other);
+    }
+    buildable(book, entries, part)
+}
+
+// How the image of a row begins that is not held.
+fn put_head(book: &[u32], row: u32, out: &mut [u32], at: usize) -> usize
+    requires { ⌜ Valid (now book) × (row < rowsOf (now book)) ⌝ }
+    ensures { λ r. ⌜ Wrote (headWords (now (book .entry)) row) (now (out .entry)) at (now (out .exit)) r ⌝ }
+{
+    let kind = row_kind(book, row);
+    if kind == Kind::OPERATION {
+        return put3(out, at, 2, row_tag(book, row), narrow(row_count(book, row)));
+    }
+    if kind == Kind::CIPHER {
+        return put2(out, at, 3, narrow(row_count(book, row) - 1));
+    }
+    if kind == Kind::PUBLIC {
+        return put(out, at, 4);
+    }
+    if kind == Kind::PRIVATE {
+        return put(out, at, 5);
+    }
+    put2(out, at, 0, row)
+}
+
+// A count as a word.
+pub fn narrow(n: usize) -> u32
+    requires { ⌜ n ≤ 4294967295 ⌝ }
+    ensures { λ r. ⌜ r ≡ n ⌝ }
+{
+    n as u32
+}
+
+// The image of a row that is held: itself, or its placeholder.
+fn put_entry(row: u32, held: u32, out: &mut [u32], at: usize) -> usize
+    requires { ⌜ 0 < held ⌝ }
+    ensures { λ r. ⌜ Wrote (entryWords row held) (now (out .entry)) at (now (out .exit)) r ⌝ }
+{
+    if held == 1 {
+        return put2(out, at, 0, row);
+    }
+    put2(out, at, 1, held - 2)
+}
+
+// The image of a row, in prefix words.
+pub fn write_image(
+    book: &[u32],
+    entries: &[u32; 1024],
+    row: u32,
+    out: &mut [u32],
+    at: usize,
+) -> usize
+    requires { ⌜ Valid (now book) × (row < rowsOf (now book)) ⌝ }
+    ensures { λ r. ⌜ Wrote (imageAt (now (book .entry)) (now (entries .entry)) row) (now (out .entry)) at (now (out .exit)) r ⌝ }
+{
+    let held = entries[wide(row)];
+    if held != 0 {
+        return put_entry(row, held, out, at);
+    }
+    let next = put_head(book, row, out, at);
+    write_images(
+        book,
+        entries,
+        row,
+        row_first(book, row),
+        row_count(book, row),
+        out,
+        next,
+    )
+}
+
+// The images of a list of rows below a bound.
+pub fn write_images(
+    book: &[u32],
+    entries: &[u32; 1024],
+    bound: u32,
+    first: usize,
+    left: usize,
+    out: &mut [u32],
+    at: usize,
+) -> usize
+    requires { ⌜ Valid (now book) × (bound ≤ rowsOf (now book)) × Span (now book) bound first left ⌝ }
+    ensures { λ r. ⌜ Wrote (imagesAt (now (book .entry)) (now (entries .entry)) first left) (now (out .entry)) at (now (out .exit)) r ⌝ }
+{
+    if left == 0 {
+        return at;
+    }
+    let next = write_image(book, entries, entry(book, first, left, bound), out, at);
+    write_images(book, entries, bound, first + 1, left - 1, out, next)
+}
+
+// The image of the key's partner.
+pub fn write_partner(
+    book: &[u32],
+    entries: &[u32; 1024],
+    key: u32,
+    out: &mut [u32],
+    at: usize,
+) -> usize
+    requires { ⌜ Valid (now book) × (key < rowsOf (now book)) ⌝ }
+    ensures { λ r. ⌜ Wrote (words (rowOf (now (book .entry))) (image (view (now (book .entry)) (now (entries .entry))) (partner (term (table (now (book .entry))) key)))) (now (out .entry)) at (now (out .exit)) r ⌝ }
+{
+    let side = row_kind(book, key);
+    if side < Kind::PUBLIC {
+        return write_image(book, entries, key, out, at);
+    }
+    let part = first_part(book, key);
+    let other = half_row(book, 7 - side, part);
+    if other < rows(book) {
+        return write_image(book, entries, other, out, at);
+    }
+    let next = put(out, at, 8 - side);
+    write_image(book, entries, part, out, next)
+}

@@ -1,0 +1,22 @@
+-- `nghiralum::run` meets its contract: the words are a quarter of the bytes that came. Assumes nothing.
+use native.Mathlib.Omega.{arith}
+use lib.ListN.{length-take}
+use borrow.Author.Needs.{needs}
+use Rattle.nghiralum.proofs.run.Statement.{statement}
+use Rattle.nghiralum.proofs.run.Tie as tie
+
+pub run-spec : {M : Type 1} → statement M
+run-spec =
+    tie.close
+    (tie.spec
+    (λ c. search needs)  -- slice-aggregate-read-words
+    (λ c κs. search needs)  -- read-words-requires
+    (λ c. search needs)  -- enum-known-input
+    (λ c. omega (arith, rw (c .before .before .input .given .1) at (c .before .before .before .before .before .read-words .ensures)))  -- array-share-prefix-words
+    (λ c. simp length-take (omega (arith, rw (c .before .before .before .input .given .1) at (c .before .before .before .before .before .before .read-words .ensures))))  -- slice-aggregate-answer
+    (λ c κs. search needs)  -- answer-requires
+    (λ c κs. search needs)  -- print-refusal-requires
+    (λ c. search needs)  -- enum-told
+    (λ c. search needs)  -- returns
+    (λ c. search needs)  -- returns-2
+    (λ c. search needs))  -- returns-3

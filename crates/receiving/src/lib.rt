@@ -1,0 +1,245 @@
+use book::Kind;
+use book::row_count;
+use book::row_first;
+use book::row_kind;
+use holding::buildable;
+use holding::can_open;
+use holding::entry;
+use holding::first_part;
+use holding::narrow;
+use holding::write_image;
+use holding::write_partner;
+use words::put2;
+use words::wide;
+ghost use mathlib.Core.Path.{_≡_};
+ghost use Prim.Native.Nat.{_+_, _≤_, _<_};
+ghost use lib.ListN.{length, replicate};
+ghost use Rattle.words.specs.Overlay.{Wrote};
+ghost use Rattle.terms.specs.Table.{term, terms};
+ghost use Rattle.book.specs.Layout.{rows, kind, table, listAt};
+ghost use Rattle.book.specs.Valid.{Valid};
+ghost use Rattle.translation.specs.Receive.{canOpen, compared, receive as receiving};
+ghost use Rattle.translation.specs.Listing.{programWords};
+ghost use Rattle.holding.specs.View.{rowOf, view};
+ghost use Rattle.holding.specs.Span.{Span};
+ghost use Rattle.receiving.specs.Bound.{limit};
+ghost use Rattle.receiving.specs.Turn.{unlocked, inTurn};
+ghost use Rattle.receiving.specs.Walk.{Walked, Settling};
+
+// What a party holds, an entry for each row; its next placeholder; the place of its next stored pair in the log.
+pub struct Dictionary {
+    pub entries: [u32; 1024],
+    pub next: u32,
+    pub kept: usize,
+}
+
+// How far receiving got: the dictionary, and the place of the next word.
+pub struct Received {
+    pub dictionary: Dictionary,
+    pub at: usize,
+}
+
+// A settled row's contents that are still to be received, and the places behind what was stored and written.
+struct Settled {
+    first: usize,
+    left: usize,
+    kept: usize,
+    at: usize,
+}
+
+impl Dictionary {
+    // Nothing held, nothing handed out.
+    pub fn new() -> Self
+        ensures { λ r. ⌜ (r .entries ≡ replicate 1024 0) × (r .next ≡ 0) × (r .kept ≡ 0) ⌝ }
+    {
+        Dictionary {
+            entries: [0u32; 1024],
+            next: 0,
+            kept: 0,
+        }
+    }
+}
+
+// The row is a cipher, and the partner of its key is buildable.
+fn opens(book: &[u32], entries: &[u32; 1024], row: u32) -> bool
+    requires { ⌜ Valid (now book) × (row < rows (now book)) ⌝ }
+    ensures { λ r. ⌜ r ≡ canOpen (view (now (book .entry)) (now (entries .entry))) (term (table (now (book .entry))) row) ⌝ }
+{
+    if row_kind(book, row) != Kind::CIPHER {
+        return false;
+    }
+    can_open(book, entries, first_part(book, row))
+}
+
+// The event that compares the placeholder with the row's image.
+fn put_check(
+    book: &[u32],
+    entries: &[u32; 1024],
+    row: u32,
+    place: u32,
+    out: &mut [u32],
+    at: usize,
+) -> usize
+    requires { ⌜ Valid (now book) × (row < rows (now book)) ⌝ }
+    ensures { λ r. ⌜ Wrote (programWords (rowOf (now (book .entry))) (compared (term (table (now (book .entry))) row) place (view (now (book .entry)) (now (entries .entry))) .events)) (now (out .entry)) at (now (out .exit)) r ⌝ }
+{
+    let next = put2(out, at, 4, place);
+    write_image(book, entries, row, out, next)
+}
+
+// The event that opens the cipher at the placeholder; its contents get the placeholders from `from` on.
+fn put_open(
+    book: &[u32],
+    entries: &[u32; 1024],
+    row: u32,
+    place: u32,
+    from: u32,
+    out: &mut [u32],
+    at: usize,
+) -> usize
+    requires { ⌜ Valid (now book) × (row < rows (now book)) × (kind (now book) row ≡ 2) ⌝ }
+    ensures { λ r. ⌜ Wrote (programWords (rowOf (now (book .entry))) (unlocked (term (table (now (book .entry))) row) place (view (now (book .entry)) (now (entries .entry))) from .events)) (now (out .entry)) at (now (out .exit)) r ⌝ }
+{
+    let next = put2(out, at, 5, place);
+    let last = put2(out, next, from, narrow(row_count(book, row) - 1));
+    write_partner(book, entries, first_part(book, row), out, last)
+}
+
+// The first rule that fits: compare, open or store.
+fn settle(
+    book: &[u32],
+    entries: &mut [u32; 1024],
+    next: u32,
+    kept: usize,
+    row: u32,
+    place: u32,
+    log: &mut [u32],
+    out: &mut [u32],
+    at: usize,
+) -> Settled
+    requires { ⌜ Valid (now book) × (row < rows (now book)) × (place < limit) × (length (now entries) ≡ 1024) ⌝ }
+    ensures { λ r. ⌜ Settling (now (book .entry)) row place next kept (now (entries .entry)) (now (entries .exit)) (now (log .entry)) (now (log .exit)) at (now (out .entry)) (now (out .exit)) r ⌝ }
+{
+    if buildable(book, entries, row) {
+        let last = put_check(book, entries, row, place, out, at);
+        return Settled {
+            first: 0,
+            left: 0,
+            kept,
+            at: last,
+        };
+    }
+    if opens(book, entries, row) {
+        let last = put_open(book, entries, row, place, next, out, at);
+        let first = row_first(book, row) + 1;
+        let left = row_count(book, row) - 1;
+        return Settled {
+            first,
+            left,
+            kept,
+            at: last,
+        };
+    }
+    entries[wide(row)] = place + 2;
+    let last = put2(log, kept, row, place);
+    Settled {
+        first: 0,
+        left: 0,
+        kept: last,
+        at,
+    }
+}
+
+// The row at the placeholder `place` is received. Ciphers nest 255 deep, so a level's stack counts: the call of `receive_list` is
+// the last expression and unconditional, and both take and give back one value.
+pub fn receive(
+    book: &[u32],
+    before: Received,
+    row: u32,
+    place: u32,
+    log: &mut [u32],
+    out: &mut [u32],
+) -> Received
+    requires { ⌜ Valid (now book) × (row < rows (now book)) × (place < limit)
+        × (before .dictionary .next + length (receiving (term (table (now book)) row) place (view (now book) (before .dictionary .entries)) (before .dictionary .next) .given) ≤ limit) ⌝ }
+    ensures { λ r. ⌜ Walked (now (book .entry)) (receiving (term (table (now (book .entry))) row) place (view (now (book .entry)) (before .dictionary .entries)) (before .dictionary .next))
+        before (now (log .entry)) (now (log .exit)) (now (out .entry)) (now (out .exit)) r ⌝ }
+{
+    let mut here = before;
+    let next = here.dictionary.next;
+    let kept = here.dictionary.kept;
+    let at = here.at;
+    let s = settle(
+        book,
+        &mut here.dictionary.entries,
+        next,
+        kept,
+        row,
+        place,
+        log,
+        out,
+        at,
+    );
+    here.dictionary.kept = s.kept;
+    here.at = s.at;
+    receive_list(book, here, row, s.first, s.left, log, out)
+}
+
+// The rows of a list, below a bound, get the next placeholders and are received in turn.
+fn receive_list(
+    book: &[u32],
+    mut here: Received,
+    bound: u32,
+    first: usize,
+    left: usize,
+    log: &mut [u32],
+    out: &mut [u32],
+) -> Received
+    requires { ⌜ Valid (now book) × (bound ≤ rows (now book)) × Span (now book) bound first left
+        × (here .dictionary .next + length (inTurn (terms (table (now book)) (listAt (now book) first left)) (view (now book) (here .dictionary .entries)) (here .dictionary .next) .given) ≤ limit) ⌝ }
+    ensures { λ r. ⌜ Walked (now (book .entry)) (inTurn (terms (table (now (book .entry))) (listAt (now (book .entry)) first left)) (view (now (book .entry)) (here .dictionary .entries)) (here .dictionary .next))
+        here (now (log .entry)) (now (log .exit)) (now (out .entry)) (now (out .exit)) r ⌝ }
+{
+    let mut place = here.dictionary.next;
+    let next = place + narrow(left);
+    here.dictionary.next = next;
+    let mut i = first;
+    let mut k = left;
+    while 0 < k {
+        here = receive(book, here, entry(book, i, k, bound), place, log, out);
+        place += 1;
+        i += 1;
+        k -= 1;
+    }
+    here
+}
+
+// The same for a step's messages. A loop of its own, so that `receive_list` has one caller and becomes one with it: a level of opened
+// ciphers then takes one frame with one dictionary.
+pub fn receive_messages(
+    book: &[u32],
+    mut here: Received,
+    bound: u32,
+    first: usize,
+    left: usize,
+    log: &mut [u32],
+    out: &mut [u32],
+) -> Received
+    requires { ⌜ Valid (now book) × (bound ≤ rows (now book)) × Span (now book) bound first left
+        × (here .dictionary .next + length (inTurn (terms (table (now book)) (listAt (now book) first left)) (view (now book) (here .dictionary .entries)) (here .dictionary .next) .given) ≤ limit) ⌝ }
+    ensures { λ r. ⌜ Walked (now (book .entry)) (inTurn (terms (table (now (book .entry))) (listAt (now (book .entry)) first left)) (view (now (book .entry)) (here .dictionary .entries)) (here .dictionary .next))
+        here (now (log .entry)) (now (log .exit)) (now (out .entry)) (now (out .exit)) r ⌝ }
+{
+    let mut place = here.dictionary.next;
+    let next = place + narrow(left);
+    here.dictionary.next = next;
+    let mut i = first;
+    let mut k = left;
+    while 0 < k {
+        here = receive(book, here, entry(book, i, k, bound), place, log, out);
+        place += 1;
+        i += 1;
+        k -= 1;
+    }
+    here
+}

@@ -1,0 +1,173 @@
+-- Images on the way are images in the dictionary afterwards. Assumes nothing.
+use Prim.Native.Nat.{ℕ}
+use mathlib.Core.Bool.{Bool, true, false, true≢false}
+use mathlib.Core.List.{[]}
+use mathlib.Core.Path.{_≡_, refl, sym, ap, ap₂, _∙_, subst}
+use Rattle.words.specs.Choice.{pick}
+use Rattle.words.specs.Choice.Laws.{pick-true, pick-false}
+use Rattle.terms.specs.Term.{Term, Terms}
+use Rattle.terms.specs.Image.{Image, Images}
+use Rattle.translation.specs.Dictionary.{Held, Dictionary, isHeld, enter, buildable, allBuildable, imageOr, image, images}
+use Rattle.translation.specs.Dictionary.Laws.{enter-same, enter-ind, and-both, both-and}
+use Rattle.translation.specs.Build.{Built, builtOr, build, buildAll}
+use Rattle.sending.specs.Along.{NoAtom, Gains}
+
+-- ---- Gains
+gains-none : (δ : Dictionary) → Gains δ δ
+gains-none δ = record { others = λ u p. refl; atoms = λ r h. refl }
+
+gains-then : {δ ε ζ : Dictionary} → Gains δ ε → Gains ε ζ → Gains δ ζ
+gains-then g h = record { others = λ u p. h .others u p ∙ g .others u p; atoms = λ r k. h .atoms r (ap isHeld (g .atoms r k) ∙ k) ∙ g .atoms r k }
+
+gains-one : (r : ℕ) (δ : Dictionary) → isHeld (δ (Term.atom r)) ≡ false → Gains δ (enter δ (Term.atom r) Held.itself)
+gains-one r δ e =
+    record {
+      others = λ u p. enter-ind (λ x. x ≡ δ u) δ (Term.atom r) Held.itself u (λ q. absurd (subst NoAtom (sym q) p)) (λ q. refl);
+      atoms = λ s h. enter-ind (λ x. x ≡ δ (Term.atom s)) δ (Term.atom r) Held.itself (Term.atom s) (λ q. absurd (true≢false (sym h ∙ ap (λ t. isHeld (δ t)) (sym q) ∙ e))) (λ q. refl);
+    }
+
+-- of a term that is held, and of one that is not
+built-or : (P : Built → Type 0) (h : Held) (t : Term) (δ : Dictionary) (b : Built) → ((i : Image) → isHeld h ≡ true → ((j : Image) → imageOr h t j ≡ i) → P (record { dictionary = δ; made = []; image = i })) → (h ≡ Held.free → P b)
+    → P (builtOr h t δ b)
+unfolding builtOr imageOr
+built-or P Held.free t δ b f g = g refl
+built-or P Held.itself t δ b f g = f _ refl (λ j. refl)
+built-or P (Held.placeholder x) t δ b f g = f _ refl (λ j. refl)
+
+or-gains : (t : Term) (δ : Dictionary) (b : Built) → (δ t ≡ Held.free → Gains δ (b .dictionary)) → Gains δ ((builtOr (δ t) t δ b) .dictionary)
+or-gains t δ b g = built-or (λ c. Gains δ (c .dictionary)) (δ t) t δ b (λ i h j. gains-none δ) g
+
+mutual
+  unfolding build
+
+  pub build-gains : (t : Term) (δ : Dictionary) → Gains δ ((build t δ) .dictionary)
+  build-gains (Term.atom r) δ = or-gains (Term.atom r) δ _ (λ e. gains-one r δ (ap isHeld e))
+  build-gains (Term.operation g ts) δ = or-gains (Term.operation g ts) δ _ (λ e. buildAll-gains ts δ)
+  build-gains (Term.cipher k ts) δ = or-gains (Term.cipher k ts) δ _ (λ e. gains-then (build-gains k δ) (buildAll-gains ts ((build k δ) .dictionary)))
+  build-gains (Term.public t) δ = or-gains (Term.public t) δ _ (λ e. build-gains t δ)
+  build-gains (Term.private t) δ = or-gains (Term.private t) δ _ (λ e. build-gains t δ)
+
+  pub buildAll-gains : (ts : Terms) (δ : Dictionary) → Gains δ ((buildAll ts δ) .dictionary)
+  buildAll-gains Terms.nil δ = gains-none δ
+  buildAll-gains (Terms.cons t ts) δ = gains-then (build-gains t δ) (buildAll-gains ts ((build t δ) .dictionary))
+
+-- ---- what is buildable stays so, and its image too
+or-more : (a x y : Bool) → (x ≡ true → y ≡ true) → pick a true x ≡ true → pick a true y ≡ true
+unfolding pick
+or-more true x y f h = refl
+or-more false x y f h = f h
+
+or-rest : (a x : Bool) → a ≡ false → pick a true x ≡ true → x ≡ true
+or-rest a x e h = sym (pick-false a true x e) ∙ h
+
+image-or : (x : Held) (t : Term) (i j : Image) → (isHeld x ≡ false → i ≡ j) → imageOr x t i ≡ imageOr x t j
+unfolding imageOr
+image-or Held.free t i j f = f refl
+image-or Held.itself t i j f = refl
+image-or (Held.placeholder x) t i j f = refl
+
+module _ (δ ε : Dictionary) (g : Gains δ ε) where
+  -- a term that is no atom is held as before
+  as-before : (t : Term) (x y : Bool) → NoAtom t → (x ≡ true → y ≡ true) → pick (isHeld (δ t)) true x ≡ true → pick (isHeld (ε t)) true y ≡ true
+  as-before t x y p f h = ap (λ z. pick (isHeld z) true y) (g .others t p) ∙ or-more (isHeld (δ t)) x y f h
+
+  as-held : (t : Term) (i j : Image) → NoAtom t → (isHeld (δ t) ≡ false → i ≡ j) → imageOr (ε t) t i ≡ imageOr (δ t) t j
+  as-held t i j p f = ap (λ z. imageOr z t i) (g .others t p) ∙ image-or (δ t) t i j f
+
+  mutual
+    unfolding buildable
+
+    buildable-gains : (t : Term) → buildable δ t ≡ true → buildable ε t ≡ true
+    buildable-gains (Term.atom r) h = ap isHeld (g .atoms r h) ∙ h
+    buildable-gains (Term.operation f ts) h = as-before (Term.operation f ts) _ _ tt (λ x. allBuildable-gains ts x) h
+    buildable-gains (Term.cipher k ts) h =
+        as-before (Term.cipher k ts) _ _ tt (λ x. let z = and-both (buildable δ k) (allBuildable δ ts) x in both-and (buildable ε k) (allBuildable ε ts) (buildable-gains k (z .0)) (allBuildable-gains ts (z .1))) h
+    buildable-gains (Term.public t) h = as-before (Term.public t) _ _ tt (λ x. buildable-gains t x) h
+    buildable-gains (Term.private t) h = as-before (Term.private t) _ _ tt (λ x. buildable-gains t x) h
+
+    allBuildable-gains : (ts : Terms) → allBuildable δ ts ≡ true → allBuildable ε ts ≡ true
+    allBuildable-gains Terms.nil h = refl
+    allBuildable-gains (Terms.cons t ts) h = let z = and-both (buildable δ t) (allBuildable δ ts) h in both-and (buildable ε t) (allBuildable ε ts) (buildable-gains t (z .0)) (allBuildable-gains ts (z .1))
+
+  mutual
+    unfolding buildable image
+
+    pub image-gains : (t : Term) → buildable δ t ≡ true → image ε t ≡ image δ t
+    image-gains (Term.atom r) h = ap (λ z. imageOr z (Term.atom r) (Image.itself (Term.atom r))) (g .atoms r h)
+    image-gains (Term.operation f ts) h = as-held (Term.operation f ts) _ _ tt (λ e. ap (Image.operation f) (images-gains ts (or-rest (isHeld (δ (Term.operation f ts))) _ e h)))
+    image-gains (Term.cipher k ts) h =
+        as-held (Term.cipher k ts) _ _ tt
+        (λ e. let z = and-both (buildable δ k) (allBuildable δ ts) (or-rest (isHeld (δ (Term.cipher k ts))) _ e h) in ap₂ Image.cipher (image-gains k (z .0)) (images-gains ts (z .1)))
+    image-gains (Term.public t) h = as-held (Term.public t) _ _ tt (λ e. ap Image.public (image-gains t (or-rest (isHeld (δ (Term.public t))) _ e h)))
+    image-gains (Term.private t) h = as-held (Term.private t) _ _ tt (λ e. ap Image.private (image-gains t (or-rest (isHeld (δ (Term.private t))) _ e h)))
+
+    pub images-gains : (ts : Terms) → allBuildable δ ts ≡ true → images ε ts ≡ images δ ts
+    images-gains Terms.nil h = refl
+    images-gains (Terms.cons t ts) h = let z = and-both (buildable δ t) (allBuildable δ ts) h in ap₂ Images.cons (image-gains t (z .0)) (images-gains ts (z .1))
+
+-- ---- what was built is buildable
+or-last : (a x : Bool) → x ≡ true → pick a true x ≡ true
+unfolding pick
+or-last true x h = refl
+or-last false x h = h
+
+abbrev Can : Term → Built → Type 0
+Can t c = buildable (c .dictionary) t ≡ true
+
+mutual
+  unfolding build buildable
+
+  build-buildable : (t : Term) (δ : Dictionary) → Can t (build t δ)
+  build-buildable (Term.atom r) δ = built-or (Can (Term.atom r)) (δ (Term.atom r)) (Term.atom r) δ _ (λ i h j. h) (λ e. ap isHeld (enter-same δ (Term.atom r) Held.itself))
+  build-buildable (Term.operation g ts) δ =
+      built-or (Can (Term.operation g ts)) (δ (Term.operation g ts)) (Term.operation g ts) δ _ (λ i h j. pick-true _ _ _ h) (λ e. or-last _ _ (buildAll-buildable ts δ))
+  build-buildable (Term.cipher k ts) δ =
+      built-or (Can (Term.cipher k ts)) (δ (Term.cipher k ts)) (Term.cipher k ts) δ _ (λ i h j. pick-true _ _ _ h)
+      (λ e. or-last _ _ (both-and _ _ (buildable-gains _ _ (buildAll-gains ts ((build k δ) .dictionary)) k (build-buildable k δ)) (buildAll-buildable ts ((build k δ) .dictionary))))
+  build-buildable (Term.public t) δ = built-or (Can (Term.public t)) (δ (Term.public t)) (Term.public t) δ _ (λ i h j. pick-true _ _ _ h) (λ e. or-last _ _ (build-buildable t δ))
+  build-buildable (Term.private t) δ = built-or (Can (Term.private t)) (δ (Term.private t)) (Term.private t) δ _ (λ i h j. pick-true _ _ _ h) (λ e. or-last _ _ (build-buildable t δ))
+
+  buildAll-buildable : (ts : Terms) (δ : Dictionary) → allBuildable ((buildAll ts δ) .dictionary) ts ≡ true
+  buildAll-buildable Terms.nil δ = refl
+  buildAll-buildable (Terms.cons t ts) δ =
+      both-and _ _ (buildable-gains _ _ (buildAll-gains ts ((build t δ) .dictionary)) t (build-buildable t δ)) (buildAll-buildable ts ((build t δ) .dictionary))
+
+-- ---- the image on the way is the image afterwards
+free-image : (x : Held) (t : Term) (i j : Image) → x ≡ Held.free → j ≡ i → j ≡ imageOr x t i
+unfolding imageOr
+free-image x t i j e f = rw e f
+
+itself-image : (x : Held) (t : Term) (i : Image) → x ≡ Held.itself → Image.itself t ≡ imageOr x t i
+unfolding imageOr
+itself-image x t i e = rw e
+
+abbrev Shows : Term → Built → Type 0
+Shows t c = c .image ≡ image (c .dictionary) t
+
+mutual
+  unfolding build image
+
+  pub build-image : (t : Term) (δ : Dictionary) → Shows t (build t δ)
+  build-image (Term.atom r) δ =
+      built-or (Shows (Term.atom r)) (δ (Term.atom r)) (Term.atom r) δ _ (λ i h j. sym (j _))
+      (λ e. itself-image _ _ _ (enter-same δ (Term.atom r) Held.itself))
+  build-image (Term.operation g ts) δ =
+      built-or (Shows (Term.operation g ts)) (δ (Term.operation g ts)) (Term.operation g ts) δ _ (λ i h j. sym (j _))
+      (λ e. free-image _ _ _ _ (buildAll-gains ts δ .others (Term.operation g ts) tt ∙ e) (ap (Image.operation g) (buildAll-images ts δ)))
+  build-image (Term.cipher k ts) δ =
+      let ε = (build k δ) .dictionary in
+      built-or (Shows (Term.cipher k ts)) (δ (Term.cipher k ts)) (Term.cipher k ts) δ _ (λ i h j. sym (j _))
+      (λ e. free-image _ _ _ _ (gains-then (build-gains k δ) (buildAll-gains ts ε) .others (Term.cipher k ts) tt ∙ e)
+      (ap₂ Image.cipher (build-image k δ ∙ sym (image-gains ε _ (buildAll-gains ts ε) k (build-buildable k δ))) (buildAll-images ts ε)))
+  build-image (Term.public t) δ =
+      built-or (Shows (Term.public t)) (δ (Term.public t)) (Term.public t) δ _ (λ i h j. sym (j _))
+      (λ e. free-image _ _ _ _ (build-gains t δ .others (Term.public t) tt ∙ e) (ap Image.public (build-image t δ)))
+  build-image (Term.private t) δ =
+      built-or (Shows (Term.private t)) (δ (Term.private t)) (Term.private t) δ _ (λ i h j. sym (j _))
+      (λ e. free-image _ _ _ _ (build-gains t δ .others (Term.private t) tt ∙ e) (ap Image.private (build-image t δ)))
+
+  pub buildAll-images : (ts : Terms) (δ : Dictionary) → (buildAll ts δ) .images ≡ images ((buildAll ts δ) .dictionary) ts
+  buildAll-images Terms.nil δ = refl
+  buildAll-images (Terms.cons t ts) δ =
+      let ε = (build t δ) .dictionary in
+      ap₂ Images.cons (build-image t δ ∙ sym (image-gains ε _ (buildAll-gains ts ε) t (build-buildable t δ))) (buildAll-images ts ε)

@@ -1,0 +1,56 @@
+-- Sending as the code does it: the atoms of a step's messages are made first, each with its NEW, then one SEND is written with the
+-- messages' images. What is made and written is `buildAll`'s and `sent`'s; of the atoms made, the first that is taken is noted, since
+-- "making a taken atom is refusal 10" and its place is the "first such row in building order" (document 01).
+use Prim.Native.Nat.{ℕ, _+_}
+use mathlib.Core.Bool.{Bool}
+use mathlib.Core.List.{List, [], _∷_, map}
+use mathlib.Core.Path.{_≡_}
+use lib.Dec.{eqb}
+use lib.ListN.{length}
+use Rattle.words.specs.Choice.{pick}
+use Rattle.words.specs.Overlay.{Wrote}
+use Rattle.translation.specs.Dictionary.{Dictionary}
+use Rattle.translation.specs.Build.{Built, AllBuilt}
+use Rattle.translation.specs.Receive.{Event}
+use Rattle.translation.specs.Program.{sent}
+use Rattle.translation.specs.Listing.{programWords}
+use Rattle.holding.specs.View.{rowOf, view}
+use Rattle.holding.specs.Since.{takenIn}
+use Rattle.sending.specs.declared.Made.{Made}
+pub mod Laws
+
+-- ---- what building leaves, whatever the images: the dictionary, and the atoms made
+pub record Making : Type 0 where
+  pub dictionary : Dictionary
+  pub made : List ℕ
+
+abbrev pub making : Built → Making
+making b = record { dictionary = b .dictionary; made = b .made }
+
+abbrev pub allMaking : AllBuilt → Making
+allMaking b = record { dictionary = b .dictionary; made = b .made }
+
+-- ---- the first taken atom
+-- what was found before stays; else one more than row r if that is taken, else 0
+unfoldable pub orTaken : ℕ → Bool → ℕ → ℕ
+orTaken x t r = pick (eqb x 0) (pick t (r + 1) 0) x
+
+-- what was found before, or one more than the first of the rows that is taken, or 0
+unfoldable pub firstTaken : (ℕ → Bool) → ℕ → List ℕ → ℕ
+firstTaken t x [] = x
+firstTaken t x (r ∷ rs) = firstTaken t (orTaken x (t r) r) rs
+
+-- ---- what code leaves behind, in the book b with the table l of what is taken from which step on, at step s
+-- atoms were made: m became r, out became outAfter, and the entries afterwards are e
+pub record Makes (b l : List ℕ) (s : ℕ) (g : Making) (m : Made) (e out outAfter : List ℕ) (r : Made) : Type 0 where
+  pub holds : view b e ≡ g .dictionary
+  pub wrote : Wrote (programWords (rowOf b) (map Event.new (g .made))) out (m .at) outAfter (r .at)
+  pub found : r .taken ≡ firstTaken (takenIn l s) (m .taken) (g .made)
+  pub size : length e ≡ 1024
+
+-- the messages were sent, the first word at a
+pub record Sends (b l : List ℕ) (s : ℕ) (g : AllBuilt) (a : ℕ) (e out outAfter : List ℕ) (r : Made) : Type 0 where
+  pub holds : view b e ≡ g .dictionary
+  pub wrote : Wrote (programWords (rowOf b) (sent s g .events)) out a outAfter (r .at)
+  pub found : r .taken ≡ firstTaken (takenIn l s) 0 (g .made)
+  pub size : length e ≡ 1024

@@ -1,0 +1,223 @@
+-- Laws of sending: what building a row makes, by the row's kind; the first taken atom; a SEND's words. Assumes nothing.
+use Prim.Native.Nat.{ℕ, zero, suc, _+_, _-_, _≤_, _<_}
+use mathlib.Core.Bool.{Bool, true, false}
+use mathlib.Core.List.{List, [], _∷_, _++_, map, append-nil}
+use mathlib.Core.Logic.{_↔_, _⊎_, inl, inr, ⊎-elim}
+use mathlib.Core.Path.{_≡_, refl, sym, ap, ap₂, _∙_}
+use native.Mathlib.Omega.{arith}
+use lib.Dec.{eqb}
+use lib.ListN.{length, getD, set, length-map}
+use borrow.Author.Tests.{eq-eqb, ne-eqb}
+use Rattle.words.specs.Choice.{pick}
+use Rattle.words.specs.Choice.Laws.{pick-true, pick-false}
+use Rattle.words.specs.First.{first, any}
+use Rattle.words.specs.First.Laws.{clash, first-at, any-at, any-none}
+use Rattle.words.specs.Run.Laws.{run-length}
+use Rattle.terms.specs.Term.{Term, gathered}
+use Rattle.terms.specs.Image.{words, wordsOf}
+use Rattle.terms.specs.Image as Image'
+use Rattle.terms.specs.Table.{form, term, terms, Shape}
+use Rattle.terms.specs.Table.Laws.{term-row, shape-row, atom-row, map-map}
+use Rattle.book.specs.Layout.{table, rows, begins, kind, tag, parts, listAt}
+use Rattle.book.specs.Valid.{Valid}
+use Rattle.book.specs.Valid.Laws.{formed}
+use Rattle.translation.specs.Dictionary.{Held, Dictionary, isHeld, enter, image, images}
+use Rattle.translation.specs.Build.{Built, builtOr, build, buildAll}
+use Rattle.translation.specs.Receive.{Event}
+use Rattle.translation.specs.Program.{sent}
+use Rattle.translation.specs.Listing.{eventWords, programWords}
+use Rattle.translation.specs.Listing.Laws.{program-append}
+use Rattle.holding.specs.Span.{entry}
+use Rattle.holding.specs.Span.Laws.{list-none, list-more}
+use Rattle.holding.specs.View.{heldOf, rowOf, view}
+use Rattle.holding.specs.View.Laws.{view-row, view-set}
+use Rattle.holding.specs.AtRow.{concat, imagesAt}
+use Rattle.holding.specs.AtRow.Laws.{held-zero}
+use Rattle.sending.specs.Along.Laws.{buildAll-images}
+use Rattle.sending.specs.Sending.{Making, making, allMaking, orTaken, firstTaken}
+
+-- ---- making: nothing, one atom, one after another
+abbrev pub nothing : Dictionary → Making
+nothing δ = record { dictionary = δ; made = [] }
+
+abbrev pub one : ℕ → Dictionary → Making
+one r δ = record { dictionary = enter δ (Term.atom r) Held.itself; made = r ∷ [] }
+
+abbrev pub both : Making → Making → Making
+both g h = record { dictionary = h .dictionary; made = g .made ++ h .made }
+
+both-nothing : (g : Making) → g ≡ both g (nothing (g .dictionary))
+both-nothing g = sym (ap (λ l. record { dictionary = g .dictionary; made = l }) (append-nil (g .made)))
+
+making-or : (h : Held) (t : Term) (δ : Dictionary) (b : Built) → making (builtOr h t δ b) ≡ pick (isHeld h) (nothing δ) (making b)
+unfolding builtOr pick
+making-or Held.free t δ b = refl
+making-or Held.itself t δ b = refl
+making-or (Held.placeholder x) t δ b = refl
+
+-- ---- making, of a form
+making-form : (r k g : ℕ) (ts : List Term) (δ : Dictionary) → k ≤ 4 → Shape k (length ts)
+    → making (build (form r k g (gathered ts)) δ) ≡ pick (isHeld (δ (form r k g (gathered ts)))) (nothing δ) (pick (eqb k 0) (one r δ) (allMaking (buildAll (gathered ts) δ)))
+unfolding form build gathered pick
+making-form r zero g ts δ l s = making-or _ _ δ _
+making-form r (suc zero) g ts δ l s = making-or _ _ δ _
+making-form r (suc (suc zero)) g [] δ l s = absurd (omega arith)
+making-form r (suc (suc zero)) g (t ∷ ts) δ l s = making-or _ _ δ _
+making-form r (suc (suc (suc zero))) g [] δ l s = absurd (omega arith)
+making-form r (suc (suc (suc zero))) g (t ∷ []) δ l s = making-or _ _ δ _ ∙ ap (pick (isHeld (δ (Term.public t))) (nothing δ)) (both-nothing (making (build t δ)))
+making-form r (suc (suc (suc zero))) g (t ∷ u ∷ ts) δ l s = absurd (omega arith)
+making-form r (suc (suc (suc (suc zero)))) g [] δ l s = absurd (omega arith)
+making-form r (suc (suc (suc (suc zero)))) g (t ∷ []) δ l s = making-or _ _ δ _ ∙ ap (pick (isHeld (δ (Term.private t))) (nothing δ)) (both-nothing (making (build t δ)))
+making-form r (suc (suc (suc (suc zero)))) g (t ∷ u ∷ ts) δ l s = absurd (omega arith)
+making-form r (suc (suc (suc (suc (suc k))))) g ts δ l s = absurd (omega arith)
+
+-- ---- a row of a valid book
+module _ (b e : List ℕ) (v : Valid b) (r : ℕ) (h : r < rows b) where
+  row-form : term (table b) r ≡ form r (kind b r) (tag b r) (gathered (map (term (table b)) (parts b r)))
+  unfolding terms table
+  row-form = term-row (rows b) (table b) (formed b v) r h
+
+  row-shape : Shape (kind b r) (length (map (term (table b)) (parts b r)))
+  unfolding table
+  row-shape = shape-row (rows b) (table b) (formed b v) r h
+
+  making-row : making (build (term (table b) r) (view b e)) ≡ pick (pick (eqb (getD e r 0) 0) false true) (nothing (view b e)) (pick (eqb (kind b r) 0) (one r (view b e)) (allMaking (buildAll (terms (table b) (parts b r)) (view b e))))
+  unfolding terms
+  making-row =
+      ap (λ t. making (build t (view b e))) row-form ∙ making-form r _ _ _ (view b e) (v .rowsKeep r h .kinded) row-shape
+      ∙ rw (← row-form, view-row b v e r h, held-zero (getD e r 0))
+
+  pub making-held : (getD e r 0 ≡ 0 → ⊥) → making (build (term (table b) r) (view b e)) ≡ nothing (view b e)
+  unfolding pick
+  making-held n = rw (making-row, ne-eqb (getD e r 0) 0 n)
+
+  pub making-atom : getD e r 0 ≡ 0 → kind b r ≡ 0 → making (build (term (table b) r) (view b e)) ≡ one r (view b e)
+  unfolding pick
+  making-atom n k = rw (making-row, eq-eqb (getD e r 0) 0 n, eq-eqb (kind b r) 0 k)
+
+  pub making-parts : getD e r 0 ≡ 0 → (kind b r ≡ 0 → ⊥) → making (build (term (table b) r) (view b e)) ≡ allMaking (buildAll (terms (table b) (parts b r)) (view b e))
+  unfolding pick
+  making-parts n k = rw (making-row, eq-eqb (getD e r 0) 0 n, ne-eqb (kind b r) 0 k)
+
+  -- the made atom's entry
+  pub one-set : kind b r ≡ 0 → r < length e → view b (set e r 1) ≡ one r (view b e) .dictionary
+  unfolding heldOf table
+  one-set k l = view-set b v e r 1 h l ∙ ap (λ t. enter (view b e) t Held.itself) (atom-row (rows b) (table b) (formed b v) r h k)
+
+-- ---- lists of rows, one after another
+pub making-none : (b : List ℕ) (f n : ℕ) (δ : Dictionary) → n ≡ 0 → allMaking (buildAll (terms (table b) (listAt b f n)) δ) ≡ nothing δ
+unfolding build terms gathered
+making-none b f n δ z = rw (list-none b f n (omega arith))
+
+pub making-more : (b : List ℕ) (f n : ℕ) (δ : Dictionary) → 0 < n
+    → allMaking (buildAll (terms (table b) (listAt b f n)) δ) ≡ both (making (build (term (table b) (entry b f)) δ)) (allMaking (buildAll (terms (table b) (listAt b (f + 1) (n - 1))) (build (term (table b) (entry b f)) δ .dictionary)))
+unfolding build terms gathered
+making-more b f n δ h = rw (list-more b f n h)
+
+-- ---- orTaken
+pub or-stays : (t : Bool) (x r : ℕ) → (x ≡ 0 → ⊥) → orTaken x t r ≡ x
+unfolding orTaken
+or-stays t x r n = pick-false _ _ _ (ne-eqb x 0 n)
+
+pub or-taken : (t : Bool) (x r : ℕ) → x ≡ 0 → t ≡ true → orTaken x t r ≡ r + 1
+unfolding orTaken
+or-taken t x r z e = pick-true _ _ _ (eq-eqb x 0 z) ∙ pick-true _ _ _ e
+
+pub or-untaken : (t : Bool) (x r : ℕ) → x ≡ 0 → t ≡ false → orTaken x t r ≡ 0
+unfolding orTaken
+or-untaken t x r z e = pick-true _ _ _ (eq-eqb x 0 z) ∙ pick-false _ _ _ e
+
+-- ---- firstTaken
+module _ (t : ℕ → Bool) where
+  pub first-append : (x : ℕ) (l m : List ℕ) → firstTaken t x (l ++ m) ≡ firstTaken t (firstTaken t x l) m
+  unfolding firstTaken
+  first-append x [] m = refl
+  first-append x (r ∷ l) m = first-append (orTaken x (t r) r) l m
+
+  first-stays : (x : ℕ) (rs : List ℕ) → (x ≡ 0 → ⊥) → firstTaken t x rs ≡ x
+  unfolding firstTaken
+  first-stays x [] n = refl
+  first-stays x (r ∷ rs) n = ap (λ y. firstTaken t y rs) (or-stays (t r) x r n) ∙ first-stays x rs n
+
+  -- none of the rows is taken, or one is and none before it
+  record NoneTaken (rs : List ℕ) : Type 0 where
+    none : (k : ℕ) → k < length rs → t (getD rs k 0) ≡ false
+    zeroed : firstTaken t 0 rs ≡ 0
+
+  record OneTaken (rs : List ℕ) : Type 0 where
+    place : ℕ
+    within : place < length rs
+    before : (k : ℕ) → k < place → t (getD rs k 0) ≡ false
+    taken : t (getD rs place 0) ≡ true
+    noted : firstTaken t 0 rs ≡ 1 + getD rs place 0
+
+  none-or-one : (rs : List ℕ) → NoneTaken rs ⊎ OneTaken rs
+  unfolding firstTaken
+  none-or-one [] = inl (record { none = λ k h. absurd (omega arith); zeroed = refl })
+  none-or-one (r ∷ rs) = go (t r) refl (none-or-one rs)
+    where
+      go : (x : Bool) → t r ≡ x → NoneTaken rs ⊎ OneTaken rs → NoneTaken (r ∷ rs) ⊎ OneTaken (r ∷ rs)
+      go true e s =
+          let n = ap (λ y. firstTaken t y rs) (or-taken (t r) 0 r refl e) ∙ first-stays (r + 1) rs (λ z. absurd (omega arith)) in
+          inr (record { place = 0; within = omega arith; before = λ k h. absurd (omega arith); taken = e; noted = omega arith })
+      go false e s = ⊎-elim
+          (λ (n : NoneTaken rs). inl (record { none = λ k h. later k h (n .none); zeroed = ap (λ y. firstTaken t y rs) (or-untaken (t r) 0 r refl e) ∙ n .zeroed }))
+          (λ (n : OneTaken rs). inr (record { place = suc (n .place); within = let w = n .within in omega arith; before = λ k h. sooner k (n .place) h (n .before); taken = n .taken; noted = ap (λ y. firstTaken t y rs) (or-untaken (t r) 0 r refl e) ∙ n .noted }))
+          s
+        where
+          later : (k : ℕ) → k < length (r ∷ rs) → ((j : ℕ) → j < length rs → t (getD rs j 0) ≡ false) → t (getD (r ∷ rs) k 0) ≡ false
+          later zero h f = e
+          later (suc k) h f = f k (omega arith)
+
+          sooner : (k p : ℕ) → k < suc p → ((j : ℕ) → j < p → t (getD rs j 0) ≡ false) → t (getD (r ∷ rs) k 0) ≡ false
+          sooner zero p h f = e
+          sooner (suc k) p h f = f k (omega arith)
+
+  module _ (rs : List ℕ) where
+    -- the first of the rows that is taken, where one is
+    pub some-taken : any (λ j. t (getD rs j 0)) (length rs) ≡ true → firstTaken t 0 rs ≡ 1 + getD rs (first (λ j. t (getD rs j 0)) (length rs)) 0
+    some-taken a = ⊎-elim
+        (λ (n : NoneTaken rs). absurd (clash a (any-none (λ j. t (getD rs j 0)) (length rs) (n .none))))
+        (λ (n : OneTaken rs). n .noted ∙ ap (λ k. 1 + getD rs k 0) (first-at (λ j. t (getD rs j 0)) (length rs) (n .place) (n .within) (n .before) (n .taken)))
+        (none-or-one rs)
+
+    -- 0 exactly if none is
+    pub none-taken : (firstTaken t 0 rs ≡ 0) ↔ (any (λ j. t (getD rs j 0)) (length rs) ≡ false)
+    none-taken = (
+      λ z. ⊎-elim (λ (n : NoneTaken rs). any-none (λ j. t (getD rs j 0)) (length rs) (n .none)) (λ (n : OneTaken rs). let y = n .noted in absurd (omega arith)) (none-or-one rs),
+      λ a. ⊎-elim (λ (n : NoneTaken rs). n .zeroed) (λ (n : OneTaken rs). absurd (clash (any-at (λ j. t (getD rs j 0)) (length rs) (n .place) (n .within) (n .taken)) a)) (none-or-one rs),
+    )
+
+-- ---- the words of events
+module _ (row : Term → ℕ) where
+  pub news-append : (l m : List ℕ) → programWords row (map Event.new (l ++ m)) ≡ programWords row (map Event.new l) ++ programWords row (map Event.new m)
+  unfolding programWords eventWords
+  news-append [] m = refl
+  news-append (r ∷ l) m = ap (λ k. 1 ∷ r ∷ k) (news-append l m)
+
+  words-all : (δ : Dictionary) (ts : List Term) → wordsOf row (images δ (gathered ts)) ≡ concat (map (λ t. words row (image δ t)) ts)
+  unfolding gathered image words concat
+  words-all δ [] = refl
+  words-all δ (t ∷ ts) = ap (λ l. words row (image δ t) ++ l) (words-all δ ts)
+
+  count-all : (δ : Dictionary) (ts : List Term) → Image'.count (images δ (gathered ts)) ≡ length ts
+  unfolding gathered image Image'.count
+  count-all δ [] = refl
+  count-all δ (t ∷ ts) = ap suc (count-all δ ts)
+
+-- of a SEND in the dictionary that the entries hold
+send-words : (b e : List ℕ) (s f n : ℕ) → programWords (rowOf b) (Event.sends s (images (view b e) (terms (table b) (listAt b f n))) ∷ []) ≡ 2 ∷ s ∷ n ∷ imagesAt b e f n
+unfolding programWords eventWords terms imagesAt
+send-words b e s f n =
+    append-nil _
+    ∙ ap₂ (λ c l. 2 ∷ s ∷ c ∷ l) (count-all (rowOf b) (view b e) (map (term (table b)) (listAt b f n)) ∙ length-map (listAt b f n) (term (table b)) ∙ run-length b (begins b 3 + f) n)
+    (words-all (rowOf b) (view b e) (map (term (table b)) (listAt b f n)) ∙ ap concat (map-map (λ t. words (rowOf b) (image (view b e) t)) (term (table b)) (listAt b f n)))
+
+-- a step's events: the NEWs, then the SEND with the images in the dictionary afterwards
+pub sent-words : (b e : List ℕ) (s f n : ℕ) (δ : Dictionary) → view b e ≡ buildAll (terms (table b) (listAt b f n)) δ .dictionary
+    → programWords (rowOf b) (sent s (buildAll (terms (table b) (listAt b f n)) δ) .events) ≡ programWords (rowOf b) (map Event.new (buildAll (terms (table b) (listAt b f n)) δ .made)) ++ (2 ∷ s ∷ n ∷ imagesAt b e f n)
+sent-words b e s f n δ d =
+    let ts = terms (table b) (listAt b f n) in
+    program-append (rowOf b) (map Event.new (buildAll ts δ .made)) (Event.sends s (buildAll ts δ .images) ∷ [])
+    ∙ ap (λ l. programWords (rowOf b) (map Event.new (buildAll ts δ .made)) ++ l)
+    (ap (λ i. programWords (rowOf b) (Event.sends s i ∷ [])) (buildAll-images ts δ ∙ ap (λ ε. images ε ts) (sym d)) ∙ send-words b e s f n)

@@ -1,0 +1,163 @@
+use book::Kind;
+use book::row_count;
+use book::row_first;
+use book::row_kind;
+use book::rows;
+use holding::entry;
+use holding::narrow;
+use holding::write_images;
+use words::put2;
+use words::put3;
+use words::wide;
+ghost use mathlib.Core.Path.{_≡_};
+ghost use Prim.Native.Nat.{_≤_, _<_};
+ghost use lib.ListN.{length};
+ghost use Rattle.terms.specs.Table.{term, terms};
+ghost use Rattle.book.specs.Layout.{rows as rowsOf, table, listAt};
+ghost use Rattle.book.specs.Valid.{Valid};
+ghost use Rattle.translation.specs.Build.{build, buildAll};
+ghost use Rattle.holding.specs.View.{view};
+ghost use Rattle.holding.specs.Span.{Span};
+ghost use Rattle.holding.specs.Since.{takenIn};
+ghost use Rattle.sending.specs.Sending.{making, allMaking, orTaken, Makes, Sends};
+
+// Where the next word goes, and one more than the row of the first taken atom that was made (0 if none was).
+pub struct Made {
+    pub at: usize,
+    pub taken: u32,
+}
+
+// The atom of that row is taken at the step.
+fn is_taken(since: &[u32; 1024], row: u32, step: u32) -> bool
+    requires { ⌜ row < 1024 ⌝ }
+    ensures { λ r. ⌜ r ≡ takenIn (now (since .entry)) step row ⌝ }
+{
+    let from = since[wide(row)];
+    if from == 0 {
+        return false;
+    }
+    from - 1 <= step
+}
+
+// What was found so far, or one more than the row if its atom is taken.
+fn first_taken(since: &[u32; 1024], row: u32, step: u32, found: u32) -> u32
+    requires { ⌜ row < 1024 ⌝ }
+    ensures { λ r. ⌜ r ≡ orTaken found (takenIn (now (since .entry)) step row) row ⌝ }
+{
+    if found != 0 {
+        return found;
+    }
+    if is_taken(since, row, step) {
+        return row + 1;
+    }
+    0
+}
+
+// Makes the atoms of a row that are not held, parts first, and writes a NEW for each.
+fn make(
+    book: &[u32],
+    since: &[u32; 1024],
+    entries: &mut [u32; 1024],
+    step: u32,
+    row: u32,
+    m: Made,
+    out: &mut [u32],
+) -> Made
+    requires { ⌜ Valid (now book) × (row < rowsOf (now book)) × (length (now entries) ≡ 1024) ⌝ }
+    ensures { λ r. ⌜ Makes (now (book .entry)) (now (since .entry)) step (making (build (term (table (now (book .entry))) row) (view (now (book .entry)) (now (entries .entry))))) m (now (entries .exit)) (now (out .entry)) (now (out .exit)) r ⌝ }
+{
+    if entries[wide(row)] != 0 {
+        return m;
+    }
+    if row_kind(book, row) == Kind::ATOM {
+        entries[wide(row)] = 1;
+        let at = put2(out, m.at, 1, row);
+        let taken = first_taken(since, row, step, m.taken);
+        return Made { at, taken };
+    }
+    make_list(
+        book,
+        since,
+        entries,
+        step,
+        row,
+        row_first(book, row),
+        row_count(book, row),
+        m,
+        out,
+    )
+}
+
+// The same for a list of rows below a bound.
+fn make_list(
+    book: &[u32],
+    since: &[u32; 1024],
+    entries: &mut [u32; 1024],
+    step: u32,
+    bound: u32,
+    first: usize,
+    left: usize,
+    m: Made,
+    out: &mut [u32],
+) -> Made
+    requires { ⌜ Valid (now book) × (bound ≤ rowsOf (now book)) × Span (now book) bound first left × (length (now entries) ≡ 1024) ⌝ }
+    ensures { λ r. ⌜ Makes (now (book .entry)) (now (since .entry)) step (allMaking (buildAll (terms (table (now (book .entry))) (listAt (now (book .entry)) first left)) (view (now (book .entry)) (now (entries .entry))))) m (now (entries .exit)) (now (out .entry)) (now (out .exit)) r ⌝ }
+{
+    if left == 0 {
+        return m;
+    }
+    let next = make(
+        book,
+        since,
+        entries,
+        step,
+        entry(book, first, left, bound),
+        m,
+        out,
+    );
+    make_list(
+        book,
+        since,
+        entries,
+        step,
+        bound,
+        first + 1,
+        left - 1,
+        next,
+        out,
+    )
+}
+
+// Sends a step's messages: a NEW for each atom that has to be made, then a SEND with the messages' images.
+pub fn send(
+    book: &[u32],
+    since: &[u32; 1024],
+    entries: &mut [u32; 1024],
+    step: u32,
+    first: usize,
+    n: usize,
+    out: &mut [u32],
+    at: usize,
+) -> Made
+    requires { ⌜ Valid (now book) × Span (now book) (rowsOf (now book)) first n × (length (now entries) ≡ 1024) ⌝ }
+    ensures { λ r. ⌜ Sends (now (book .entry)) (now (since .entry)) step (buildAll (terms (table (now (book .entry))) (listAt (now (book .entry)) first n)) (view (now (book .entry)) (now (entries .entry)))) at (now (entries .exit)) (now (out .entry)) (now (out .exit)) r ⌝ }
+{
+    let bound = rows(book);
+    let m = make_list(
+        book,
+        since,
+        entries,
+        step,
+        bound,
+        first,
+        n,
+        Made { at, taken: 0 },
+        out,
+    );
+    let next = put3(out, m.at, 2, step, narrow(n));
+    let end = write_images(book, entries, bound, first, n, out, next);
+    Made {
+        at: end,
+        taken: m.taken,
+    }
+}

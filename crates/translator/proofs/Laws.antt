@@ -1,0 +1,108 @@
+-- What the functions of this room know, as their contracts name it. Assumes nothing.
+use Prim.Native.Nat.{ℕ, suc, _+_, _*_, _≤_, _<_}
+use mathlib.Core.List.{List, [], _∷_, _++_, append-nil, append-assoc}
+use mathlib.Core.Path.{_≡_, sym, ap, ap₂, _∙_}
+use native.Mathlib.Omega.{arith}
+use native.Mathlib.Nat.{add-zero}
+use lib.ListN.{length, length-append}
+use Rattle.words.specs.Overlay.{Wrote}
+use Rattle.words.specs.Overlay.Laws.{wrote-then, wrote-cons, wrote-none, wrote-as}
+use Rattle.words.specs.Run.{values}
+use Rattle.words.specs.Run.Laws.{values-last, values-length}
+use Rattle.book.specs.Layout.{parties, steps}
+use Rattle.book.specs.Valid.{Valid}
+use Rattle.translation.specs.Listing.{heads, bodies, framed, partWords, listing}
+use Rattle.walking.specs.Found.{FoundBefore}
+use Rattle.walking.specs.Long.{mostPart, mostListing}
+use Rattle.walking.specs.Long.Laws.{part-short, offset-short, listing-length}
+use Rattle.translator.specs.Found.{FoundAmong, Sooner}
+use Rattle.translator.specs.Found.Laws.{among-none, among-more}
+
+-- ---- one part more
+bodies-last : (ls : List (List ℕ)) (l : List ℕ) → bodies (ls ++ l ∷ []) ≡ bodies ls ++ l
+unfolding bodies
+bodies-last [] l = append-nil l
+bodies-last (k ∷ ls) l = ap (λ r. k ++ r) (bodies-last ls l) ∙ sym (append-assoc k (bodies ls) l)
+
+heads-last : (o : ℕ) (ls : List (List ℕ)) (l : List ℕ) → heads o (ls ++ l ∷ []) ≡ heads o ls ++ (o + length (bodies ls)) ∷ length l ∷ []
+unfolding heads bodies
+heads-last o [] l = rw add-zero
+heads-last o (k ∷ ls) l =
+    let e = length-append k (bodies ls) in
+    let z : o + length k + length (bodies ls) ≡ o + length (k ++ bodies ls) = omega arith in
+    ap (λ r. o ∷ length k ∷ r) (heads-last (o + length k) ls l ∙ ap (λ x. heads (o + length k) ls ++ x ∷ length l ∷ []) z)
+
+module _ (b : List ℕ) where
+  -- the programs of the first q parties
+  abbrev parts : ℕ → List (List ℕ)
+  parts q = values (partWords b) 0 q
+
+  parts-more : (q : ℕ) → parts (q + 1) ≡ parts q ++ partWords b q ∷ []
+  parts-more q =
+      let z : q + 1 ≡ suc q = omega arith in
+      let y : 0 + q ≡ q = omega arith in
+      ap parts z ∙ values-last (partWords b) 0 q ∙ ap (λ k. parts q ++ partWords b k ∷ []) y
+
+-- ---- the loop over the parties' heads
+pub record Measuring (b : List ℕ) (n q : ℕ) (old : List ℕ) (at : ℕ) (new : List ℕ) (next end step taken : ℕ) : Type 0 where
+  pub few : q ≤ n
+  pub wrote : Wrote (heads (1 + 2 * parties b) (values (partWords b) 0 q)) old at new next
+  pub ends : end ≡ 1 + 2 * parties b + length (bodies (values (partWords b) 0 q))
+  pub found : FoundAmong b q step taken
+
+module _ (b : List ℕ) (n : ℕ) (e : n ≡ parties b) where
+  pub heads-start : (old : List ℕ) (at end : ℕ) → end ≡ 1 + 2 * n → Measuring b n 0 old at old at end 0 0
+  unfolding values heads bodies
+  heads-start old at end h = record { few = omega arith; wrote = wrote-none; ends = omega arith; found = among-none b }
+
+  module _ (v : Valid b) (q : ℕ) (l : q < n) where
+    pub end-low : {old new : List ℕ} {at next end step taken : ℕ} → Measuring b n q old at new next end step taken → end ≤ mostListing
+    end-low h = let x = h .ends in let y = offset-short b v q (omega arith) in omega arith
+
+    pub part-low : (w : ℕ) → w ≡ length (partWords b q) → w ≤ mostPart
+    part-low w d = let y = part-short b v q (omega arith) in omega arith
+
+  pub heads-on : (q : ℕ) {old new later : List ℕ} {at next end step taken : ℕ} (w s t x y f g r : ℕ) → q < n → Measuring b n q old at new next end step taken
+      → w ≡ length (partWords b q) → FoundBefore b q (steps b) s t → f ≡ end → g ≡ w → Wrote (f ∷ g ∷ []) new next later r → Sooner step taken s t x y → Measuring b n (q + 1) old at later r (end + w) x y
+  heads-on q {old} {new} {later} {at} {next} {end} {step} {taken} w s t x y f g r l h d k i j p o =
+      let a = h .ends in
+      let z : length (bodies (parts b (q + 1))) ≡ length (bodies (parts b q)) + length (partWords b q) = ap (λ ls. length (bodies ls)) (parts-more b q) ∙ ap length (bodies-last (parts b q) (partWords b q)) ∙ length-append (bodies (parts b q)) (partWords b q) in
+      record {
+        few = omega arith;
+        wrote = wrote-as (wrote-then (h .wrote) p) (ap (heads (1 + 2 * parties b)) (parts-more b q) ∙ heads-last (1 + 2 * parties b) (parts b q) (partWords b q)
+            ∙ ap₂ (λ m k. heads (1 + 2 * parties b) (parts b q) ++ m ∷ k ∷ []) (sym (i ∙ a)) (sym (j ∙ d)));
+        ends = omega arith;
+        found = among-more b q step taken s t (h .found) k o;
+      }
+
+  pub heads-end : (q : ℕ) {old new : List ℕ} {at next end step taken : ℕ} → n ≤ q → Measuring b n q old at new next end step taken
+      → Wrote (heads (1 + 2 * parties b) (values (partWords b) 0 (parties b))) old at new next × (end ≡ length (listing b)) × FoundAmong b (parties b) step taken
+  heads-end q {old} {new} {at} {next} {end} {step} {taken} l h =
+      let f = h .few in
+      let z : q ≡ parties b = omega arith in
+      let a = h .ends ∙ ap (λ k. 1 + 2 * parties b + length (bodies (parts b k))) z in
+      (rw z at (h .wrote), a ∙ sym (listing-length b), rw z at (h .found))
+
+-- ---- the loop over their programs
+pub record Laid (b : List ℕ) (n q : ℕ) (old : List ℕ) (at : ℕ) (new : List ℕ) (next : ℕ) : Type 0 where
+  pub few : q ≤ n
+  pub wrote : Wrote (bodies (values (partWords b) 0 q)) old at new next
+
+module _ (b : List ℕ) (n : ℕ) (e : n ≡ parties b) where
+  pub bodies-start : (old : List ℕ) (at : ℕ) → Laid b n 0 old at old at
+  unfolding values bodies
+  bodies-start old at = record { few = omega arith; wrote = wrote-none }
+
+  pub bodies-on : (q : ℕ) {old new later : List ℕ} {at next r : ℕ} → q < n → Laid b n q old at new next → Wrote (partWords b q) new next later r → Laid b n (q + 1) old at later r
+  bodies-on q l h w = record { few = omega arith; wrote = wrote-as (wrote-then (h .wrote) w) (ap bodies (parts-more b q) ∙ bodies-last (parts b q) (partWords b q)) }
+
+  pub bodies-end : (q : ℕ) {old new : List ℕ} {at next : ℕ} → n ≤ q → Laid b n q old at new next → Wrote (bodies (values (partWords b) 0 (parties b))) old at new next
+  bodies-end q l h = let f = h .few in let z : q ≡ parties b = omega arith in rw z at (h .wrote)
+
+-- ---- the whole
+pub listing-wrote : (b : List ℕ) (n : ℕ) {old one two new : List ℕ} {p q r : ℕ} → n ≡ parties b → Wrote (n ∷ []) old 0 one p → Wrote (heads (1 + 2 * parties b) (values (partWords b) 0 (parties b))) one p two q
+    → Wrote (bodies (values (partWords b) 0 (parties b))) two q new r → Wrote (listing b) old 0 new r
+unfolding listing framed
+listing-wrote b n e x y z =
+    wrote-as (wrote-cons x (wrote-then y z)) (ap (λ k. k ∷ (heads (1 + 2 * k) (parts b (parties b)) ++ bodies (parts b (parties b)))) (values-length (partWords b) 0 (parties b))
+    ∙ ap (λ k. k ∷ (heads (1 + 2 * parties b) (parts b (parties b)) ++ bodies (parts b (parties b)))) (sym e))

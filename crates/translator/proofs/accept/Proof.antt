@@ -1,0 +1,16 @@
+-- `translator::accept` meets its contract: the reader's refusal is given first, and an accepted book is valid. Assumes nothing.
+use Rattle.translator.specs.Came.Laws.{refused-accept, accepted-book}
+use borrow.Author.Needs.{needs}
+use Rattle.translator.proofs.accept.Statement.{statement}
+use Rattle.translator.proofs.accept.Tie as tie
+
+pub accept-spec : {M : Type 1} → statement M
+accept-spec =
+    tie.close
+    (tie.spec
+    (λ c κs. search needs)  -- read-requires
+    (λ c. search needs)  -- enum-known-why
+    (λ c. search needs)  -- enum-told
+    (λ c κs. accepted-book (c .before .before .before .before .args .book .now) _ (c .before .before .read .ensures) (c .enum-told .given .1))  -- accept-valid-requires
+    (λ c. refused-accept (c .before .before .before .before .before .args .book .now) _ _ (c .before .before .before .read .ensures) (c .before .why .given .1))  -- returns
+    (λ c. search needs))  -- returns-2

@@ -1,0 +1,173 @@
+use book::Reading;
+use book::Refusal;
+use book::parties;
+use claims::claims;
+use holding::narrow;
+use reader::read;
+use translation::Answer;
+use walking::measure;
+use walking::write_program;
+use words::put;
+use words::put2;
+use words::wide;
+ghost use mathlib.Core.Path.{_≡_};
+ghost use Prim.Native.Nat.{_+_, _*_};
+ghost use lib.ListN.{length};
+ghost use Rattle.words.specs.Overlay.{Wrote};
+ghost use Rattle.words.specs.Run.{values};
+ghost use Rattle.book.specs.Layout.{parties as partiesOf};
+ghost use Rattle.book.specs.Valid.{Valid};
+ghost use Rattle.book.specs.Said.{readingSays};
+ghost use Rattle.translation.specs.Listing.{heads, bodies, partWords, listing};
+ghost use Rattle.translation.specs.Outcome.{acceptance, outcome};
+ghost use Rattle.claims.specs.Claims.{Claims};
+ghost use Rattle.translator.specs.Found.{FoundAmong, Sooner};
+ghost use Rattle.translator.specs.Came.{came};
+
+// The first step at which some party would make a taken atom, and one more than the atom's row; 0 if there is no such step.
+struct Found {
+    step: u32,
+    taken: u32,
+}
+
+// Behind the heads: where the next word goes, where the last program ends, and the first step at which a taken atom would be made.
+struct Heads {
+    at: usize,
+    end: usize,
+    step: u32,
+    taken: u32,
+}
+
+// Of two steps the one that comes sooner, where `taken` says if it is there at all.
+fn sooner(step: u32, taken: u32, other: u32, found: u32) -> Found
+    ensures { λ r. ⌜ Sooner step taken other found (r .step) (r .taken) ⌝ }
+{
+    if found == 0 {
+        return Found { step, taken };
+    }
+    if taken == 0 {
+        return Found {
+            step: other,
+            taken: found,
+        };
+    }
+    if other < step {
+        return Found {
+            step: other,
+            taken: found,
+        };
+    }
+    Found { step, taken }
+}
+
+// Offset and count of each party's program; the first begins behind them.
+fn write_heads(book: &[u32], since: &[u32; 1024], out: &mut [u32], at: usize) -> Heads
+    requires { ⌜ Valid (now book) × Claims (now book) (now since) ⌝ }
+    ensures { λ r. ⌜ Wrote (heads (1 + 2 * partiesOf (now (book .entry))) (values (partWords (now (book .entry))) 0 (partiesOf (now (book .entry))))) (now (out .entry)) at (now (out .exit)) (r .at) × (r .end ≡ length (listing (now (book .entry)))) × FoundAmong (now (book .entry)) (partiesOf (now (book .entry))) (r .step) (r .taken) ⌝ }
+{
+    let n = parties(book);
+    let mut next = at;
+    let mut end = 1 + 2 * wide(n);
+    let mut step = 0;
+    let mut taken = 0;
+    let mut party = 0;
+    while party < n {
+        let part = measure(book, since, party);
+        next = put2(out, next, narrow(end), narrow(part.words));
+        end += part.words;
+        let found = sooner(step, taken, part.step, part.taken);
+        step = found.step;
+        taken = found.taken;
+        party += 1;
+    }
+    Heads {
+        at: next,
+        end,
+        step,
+        taken,
+    }
+}
+
+// The programs, in party order.
+fn write_bodies(book: &[u32], since: &[u32; 1024], out: &mut [u32], at: usize) -> usize
+    requires { ⌜ Valid (now book) × Claims (now book) (now since) ⌝ }
+    ensures { λ r. ⌜ Wrote (bodies (values (partWords (now (book .entry))) 0 (partiesOf (now (book .entry))))) (now (out .entry)) at (now (out .exit)) r ⌝ }
+{
+    let n = parties(book);
+    let mut next = at;
+    let mut party = 0;
+    while party < n {
+        next = write_program(book, since, party, out, next);
+        party += 1;
+    }
+    next
+}
+
+// The whole output.
+fn write_listing(book: &[u32], since: &[u32; 1024], out: &mut [u32]) -> usize
+    requires { ⌜ Valid (now book) × Claims (now book) (now since) ⌝ }
+    ensures { λ r. ⌜ Wrote (listing (now (book .entry))) (now (out .entry)) 0 (now (out .exit)) r ⌝ }
+{
+    let first = put(out, 0, parties(book));
+    let heads = write_heads(book, since, out, first);
+    write_bodies(book, since, out, heads.at)
+}
+
+// The output's length and the first taken atom, with nothing written.
+fn survey(book: &[u32], since: &[u32; 1024]) -> Heads
+    requires { ⌜ Valid (now book) × Claims (now book) (now since) ⌝ }
+    ensures { λ r. ⌜ (r .end ≡ length (listing (now (book .entry)))) × FoundAmong (now (book .entry)) (partiesOf (now (book .entry))) (r .step) (r .taken) ⌝ }
+{
+    let mut none = [0u32; 1];
+    write_heads(book, since, &mut none[0..0], 0)
+}
+
+// Refusals 10 and 12, or the output.
+fn write_valid(book: &[u32], out: &mut [u32]) -> Answer
+    requires { ⌜ Valid (now book) ⌝ }
+    ensures { λ r. ⌜ came r (now (out .exit)) ≡ outcome (now (book .entry)) (now (out .entry)) ⌝ }
+{
+    let since = claims(book);
+    let all = survey(book, &since);
+    if all.taken != 0 {
+        return Answer::Refused(Refusal::Taken(all.step, all.taken - 1));
+    }
+    if out.len() < all.end {
+        return Answer::Refused(Refusal::Room(all.end));
+    }
+    let n = write_listing(book, &since, out);
+    Answer::Written(n)
+}
+
+// Refusal 10, or acceptance.
+fn accept_valid(book: &[u32]) -> Reading
+    requires { ⌜ Valid (now book) ⌝ }
+    ensures { λ r. ⌜ readingSays r ≡ acceptance (now (book .entry)) ⌝ }
+{
+    let since = claims(book);
+    let all = survey(book, &since);
+    if all.taken != 0 {
+        return Reading::Refused(Refusal::Taken(all.step, all.taken - 1));
+    }
+    Reading::Accepted
+}
+
+// The output of any words into any lent buffer, or the first refusal that applies.
+pub fn translate(book: &[u32], out: &mut [u32]) -> Answer
+    ensures { λ r. ⌜ came r (now (out .exit)) ≡ outcome (now (book .entry)) (now (out .entry)) ⌝ }
+{
+    match read(book) {
+        Reading::Refused(why) => Answer::Refused(why),
+        Reading::Accepted => write_valid(book, out),
+    }
+}
+
+// Refusals 1 to 10 of any words, with no buffer.
+pub fn accept(book: &[u32]) -> Reading
+    ensures { λ r. ⌜ readingSays r ≡ acceptance (now (book .entry)) ⌝ }
+{
+    match read(book) {
+        Reading::Refused(why) => Reading::Refused(why),
+        Reading::Accepted => accept_valid(book),
+    }
+}

@@ -1,0 +1,163 @@
+-- What the functions of this room know, as their contracts name it. Assumes nothing.
+use Prim.Native.Nat.{ℕ, _+_, _*_, _/_, _≤_, _<_}
+use native.Mathlib.Nat.{add-zero}
+use native.Mathlib.Numerals.{add-one}
+use native.Mathlib.Omega.{arith}
+use mathlib.Core.List.{List, [], _∷_, _++_, map, append-nil}
+use mathlib.Core.Path.{_≡_, refl, sym, ap, ap₂, _∙_}
+use lib.ListN.{length, length-append, length-map}
+use borrow.Author.Tests.{eq-eqb, ne-eqb}
+use Rattle.words.specs.Choice.Laws.{pick-true, pick-false}
+use Rattle.words.specs.Run.Laws.{run-length}
+use Rattle.words.specs.Overlay.{Wrote}
+use Rattle.words.specs.Overlay.Laws.{wrote-none, wrote-then, wrote-as}
+use Rattle.terms.specs.Term.{count}
+use Rattle.terms.specs.Term.Laws.{count-gathered}
+use Rattle.terms.specs.Table.{term, terms}
+use Rattle.book.specs.Layout.{table, parties, steps, sender, receiver, stepFirst, stepCount, known, messages, listAt}
+use Rattle.book.specs.Valid.{Valid}
+use Rattle.translation.specs.Dictionary.{start}
+use Rattle.translation.specs.Build.{buildAll}
+use Rattle.translation.specs.Receive.{Did, Event, followed}
+use Rattle.translation.specs.Program.{sent}
+use Rattle.translation.specs.Listing.{programWords, pairWords, eventWords, partWords}
+use Rattle.holding.specs.View.{rowOf, view}
+use Rattle.holding.specs.Doing.{Doing}
+use Rattle.sending.specs.Sending.{Sends}
+use Rattle.sending.specs.declared.Made.{Made}
+use Rattle.receiving.specs.declared.Received.{Received}
+use Rattle.receiving.specs.Bound.{limit}
+use Rattle.receiving.specs.Turn.{inTurn}
+use Rattle.receiving.specs.Walk.{Walked}
+use Rattle.walking.specs.declared.Acted.{Acted}
+use Rattle.walking.specs.declared.Passed.{Passed}
+use Rattle.walking.specs.Walk.{stepDid, before}
+use Rattle.walking.specs.Walk.Laws.{step-sends, step-receives, step-idle, before-none, before-more, before-all}
+use Rattle.translation.specs.Listing.Laws.{program-append}
+use Rattle.holding.specs.Doing.Laws.{doing-none, doing-then, doing-as}
+use Rattle.walking.specs.Long.{Within, mostPlaceholders, mostEvents}
+use Rattle.walking.specs.Long.Laws.{all-within, pairs-length, part-length}
+use Rattle.walking.specs.Found.{foundAt, FoundBefore}
+use Rattle.walking.specs.Walking.{Acting, Along, Walking}
+
+-- ---- one step
+-- RECEIVE, and nothing yet received
+abbrev announced : ℕ → ℕ → ℕ → List ℕ → List ℕ → Did
+announced s n c b e = record { dictionary = view b e; given = []; events = Event.receives s n c ∷ []; stored = [] }
+
+module _ (b l : List ℕ) (p s : ℕ) (x : Received) (f n : ℕ) (df : f ≡ stepFirst b s) (dn : n ≡ stepCount b s) where
+  said : terms (table b) (listAt b f n) ≡ terms (table b) (messages b s)
+  said = rw (df, dn)
+
+  pub acts-send : (z : ℕ) → z ≡ sender b s → z ≡ p → {e out outAfter log : List ℕ} {m : Made} → Sends b l s (buildAll (terms (table b) (listAt b f n)) (view b (x .dictionary .entries))) (x .at) e out outAfter m
+      → Acting b l p s x log log out outAfter (record { here = record { dictionary = record { entries = e; next = x .dictionary .next; kept = x .dictionary .kept }; at = m .at }; taken = m .taken })
+  unfolding pairWords foundAt
+  acts-send z dz e w =
+      let g = said in
+      let v = view b (x .dictionary .entries) in
+      let is : sender b s ≡ p = sym dz ∙ e in
+      record {
+        doing = doing-as (record { holds = w .holds ∙ ap (λ ts. buildAll ts v .dictionary) g; goes = sym (add-zero _); wrote = wrote-as (w .wrote) (ap (λ ts. programWords (rowOf b) (sent s (buildAll ts v) .events)) (sym g)); keeps = wrote-none }) (step-sends b p s v (x .dictionary .next) is);
+        found = w .found ∙ sym (pick-true _ _ _ (eq-eqb (sender b s) p is) ∙ rw (← g));
+      }
+
+  -- the step is received: announced, and then its messages in turn
+  pub step-turns : (z y : ℕ) → z ≡ sender b s → (z ≡ p → ⊥) → y ≡ receiver b s → y ≡ p
+      → stepDid b p s (view b (x .dictionary .entries)) (x .dictionary .next) ≡ followed (announced s (x .dictionary .next) n b (x .dictionary .entries)) (inTurn (terms (table b) (listAt b f n)) (view b (x .dictionary .entries)) (x .dictionary .next))
+  unfolding inTurn terms
+  step-turns z y dz e dy h =
+      let many : count (terms (table b) (messages b s)) ≡ n = count-gathered (map (term (table b)) (messages b s)) ∙ length-map (messages b s) (term (table b)) ∙ run-length b _ (stepCount b s) ∙ sym dn in
+      step-receives b p s (view b (x .dictionary .entries)) (x .dictionary .next) (λ q. e (dz ∙ q)) (sym dy ∙ h)
+      ∙ rw (said, many)
+
+  pub acts-receive : (z y : ℕ) → z ≡ sender b s → (z ≡ p → ⊥) → y ≡ receiver b s → y ≡ p
+      → {log logAfter out middle outAfter : List ℕ} {a c : ℕ} {r : Received} → c ≡ n
+      → Wrote (3 ∷ s ∷ x .dictionary .next ∷ c ∷ []) out (x .at) middle a
+      → Walked b (inTurn (terms (table b) (listAt b f n)) (view b (x .dictionary .entries)) (x .dictionary .next)) (record { dictionary = x .dictionary; at = a }) log logAfter middle outAfter r
+      → Acting b l p s x log logAfter out outAfter (record { here = r; taken = 0 })
+  unfolding pairWords programWords eventWords foundAt
+  acts-receive z y dz e dy h {log} {logAfter} {out} {middle} {outAfter} {a} {c} {r} dc w t =
+      let first : Doing b (announced s (x .dictionary .next) n b (x .dictionary .entries)) (x .dictionary .next) (x .dictionary .kept) log log (x .at) out middle (x .dictionary .entries) (x .dictionary .next) (x .dictionary .kept) a =
+      record { holds = refl; goes = sym (add-zero _); wrote = wrote-as w (rw dc); keeps = wrote-none } in
+      record {
+        doing = doing-as (doing-then b _ _ first t) (step-turns z y dz e dy h);
+        found = sym (pick-false _ _ _ (ne-eqb (sender b s) p (λ q. e (dz ∙ q))));
+      }
+
+  -- what is given fits
+  pub turn-fits : (z y : ℕ) → z ≡ sender b s → (z ≡ p → ⊥) → y ≡ receiver b s → y ≡ p
+      → x .dictionary .next + length (stepDid b p s (view b (x .dictionary .entries)) (x .dictionary .next) .given) ≤ limit
+      → x .dictionary .next + length (inTurn (terms (table b) (listAt b f n)) (view b (x .dictionary .entries)) (x .dictionary .next) .given) ≤ limit
+  turn-fits z y dz e dy h fits = let d = ap (λ (g : Did). length (g .given)) (step-turns z y dz e dy h) in omega arith
+
+  pub acts-idle : (z y : ℕ) → z ≡ sender b s → (z ≡ p → ⊥) → y ≡ receiver b s → (y ≡ p → ⊥) → {log out : List ℕ} → Acting b l p s x log log out out (record { here = x; taken = 0 })
+  unfolding foundAt
+  acts-idle z y dz e dy h =
+      let no : sender b s ≡ p → ⊥ = λ q. e (dz ∙ q) in
+      record {
+        doing = doing-as doing-none (step-idle b p s (view b (x .dictionary .entries)) (x .dictionary .next) no (λ q. h (dy ∙ q)));
+        found = sym (pick-false _ _ _ (ne-eqb (sender b s) p no));
+      }
+
+-- ---- all steps
+module _ (b : List ℕ) (p i k : ℕ) (log : List ℕ) (a : ℕ) (out : List ℕ) where
+  -- one step more
+  pub along-on : (l : List ℕ) {middle logAfter between outAfter : List ℕ} {x : Received} {r : Acted} → Along b p i k log middle a out between x → Acting b l p i x middle logAfter between outAfter r
+      → Along b p (i + 1) k log logAfter a out outAfter (r .here)
+  along-on l {x = x} {r = r} g w =
+      let n = g .goes in
+      let d : stepDid b p i (view b (x .dictionary .entries)) (x .dictionary .next) ≡ stepDid b p i (before b p i .dictionary) (length (before b p i .given)) = ap₂ (stepDid b p i) (g .holds) (omega arith) in
+      let e : before b p (i + 1) ≡ followed (before b p i) (stepDid b p i (view b (x .dictionary .entries)) (x .dictionary .next)) =
+      ap (before b p) (add-one i) ∙ before-more b p i ∙ ap (followed (before b p i)) (sym d) in
+      doing-as (doing-then b _ _ g (w .doing)) e
+
+  -- its placeholders fit, where those of the first i + 1 steps do
+  pub along-fits : {logAfter outAfter : List ℕ} {x : Received} → Along b p i k log logAfter a out outAfter x → length (before b p (i + 1) .given) ≤ limit
+      → x .dictionary .next + length (stepDid b p i (view b (x .dictionary .entries)) (x .dictionary .next) .given) ≤ limit
+  along-fits {x = x} g h =
+      let n = g .goes in
+      let m : x .dictionary .next ≡ length (before b p i .given) = omega arith in
+      let d : stepDid b p i (view b (x .dictionary .entries)) (x .dictionary .next) ≡ stepDid b p i (before b p i .dictionary) (length (before b p i .given)) = ap₂ (stepDid b p i) (g .holds) m in
+      let j = ap (λ (g : Did). length (g .given)) d in
+      let e = ap (λ (g : Did). length (g .given)) (ap (before b p) (add-one i) ∙ before-more b p i) in
+      let w = length-append (before b p i .given) (stepDid b p i (before b p i .dictionary) (length (before b p i .given)) .given) in
+      omega arith
+
+  pub along-start : (e : List ℕ) → view b e ≡ start (map (term (table b)) (known b p)) → i ≡ 0 → Along b p i k log log a out out (record { dictionary = record { entries = e; next = 0; kept = k }; at = a })
+  along-start e h z = rw z (doing-as (rw (← h) (doing-none {b = b} {x = e})) (before-none b p))
+
+  -- they are all
+  pub walked : {logAfter outAfter : List ℕ} {x : Received} {s t : ℕ} → i ≡ steps b → Along b p i k log logAfter a out outAfter x → FoundBefore b p i s t → Walking b p k log logAfter a out outAfter (record { here = x; step = s; taken = t })
+  walked z g f = record { along = rw (← z) g; found = rw (← z) f }
+
+-- ---- the whole program
+module _ (b : List ℕ) (v : Valid b) (p : ℕ) (h : p < parties b) where
+  all : Within (rowOf b) mostPlaceholders mostEvents (before b p (steps b))
+  all = all-within b v (rowOf b) p (steps b) (omega arith)
+
+  -- the places behind what was written and what was stored, counted from 0
+  pub ends-at : {log logAfter out outAfter : List ℕ} {k : ℕ} {r : Passed} → Walking b p k log logAfter 0 out outAfter r → r .here .at ≡ length (programWords (rowOf b) (before b p (steps b) .events))
+  ends-at g = let n = g .along .wrote .next in let w = all .words in omega arith
+
+  pub ends-kept : {log logAfter out outAfter : List ℕ} {a : ℕ} {r : Passed} → Walking b p 0 log logAfter a out outAfter r → r .here .dictionary .kept ≡ 2 * length (before b p (steps b) .stored)
+  ends-kept g = let n = g .along .keeps .next in let w = all .stored in let l = pairs-length (rowOf b) (before b p (steps b) .stored) in omega arith
+
+  pub few-words : length (programWords (rowOf b) (before b p (steps b) .events)) ≤ mostEvents
+  few-words = all .words
+
+  pub few-stored : length (before b p (steps b) .stored) ≤ mostPlaceholders
+  few-stored = all .stored
+
+  pub measured : {log logAfter out outAfter : List ℕ} {r : Passed} → Walking b p 0 log logAfter 0 out outAfter r → r .here .at + 2 + r .here .dictionary .kept ≡ length (partWords b p)
+  measured g = let a = ends-at g in let k = ends-kept g in let l = part-length b p h in omega arith
+
+  -- the events, END's first words, and the pairs behind them
+  pub programmed : {log logAfter out middle between outAfter other otherAfter : List ℕ} {a i m j : ℕ} {r q : Passed}
+      → Walking b p 0 log logAfter a out middle r → m ≡ r .here .dictionary .kept / 2 → Wrote (6 ∷ m ∷ []) middle (r .here .at) between i → Walking b p i between outAfter j other otherAfter q
+      → Wrote (partWords b p) out a outAfter (q .here .dictionary .kept)
+  unfolding partWords programWords eventWords
+  programmed {r = r} g d w f =
+      let k = ends-kept g in
+      let u : r .here .dictionary .kept / 2 ≡ length (before b p (steps b) .stored) = omega arith in
+      wrote-as (wrote-then (g .along .wrote) (wrote-then (rw (d ∙ u) at w) (f .along .keeps)))
+      (ap (programWords (rowOf b)) (before-all b p h) ∙ program-append (rowOf b) (before b p (steps b) .events) _ ∙ ap (λ l. programWords (rowOf b) (before b p (steps b) .events) ++ l) (append-nil _))

@@ -1,0 +1,86 @@
+-- Laws of the first step at which a taken atom would be made. Assumes nothing.
+use Prim.Native.Nat.{ℕ, _+_, _<_}
+use native.Mathlib.Nat.{zero-add}
+use native.Mathlib.Omega.{arith}
+use mathlib.Core.Bool.{Bool, true, false}
+use mathlib.Core.List.{List}
+use mathlib.Core.Path.{_≡_, refl, sym, ap, _∙_, fun-ext}
+use lib.Dec.{eqb}
+use borrow.Author.Tests.{eqb-true}
+use borrow.Author.Count.{below-more}
+use Rattle.words.specs.Choice.{pick}
+use Rattle.words.specs.Run.Laws.{values-getD}
+use Rattle.terms.specs.Table.{terms}
+use Rattle.book.specs.Layout.{table, parties, steps, sender, messages}
+use Rattle.translation.specs.Dictionary.{Dictionary}
+use Rattle.translation.specs.Build.{buildAll}
+use Rattle.translation.specs.Narration.{stepAt, narration}
+use Rattle.translation.specs.Taken.{taken, stepOf, holdsBefore, madeAt, takenAt, unplayable, firstTaken}
+use Rattle.holding.specs.Since.{takenIn}
+use Rattle.sending.specs.Sending.{firstTaken as firstIn}
+use Rattle.sending.specs.Sending.Laws.{some-taken, none-taken}
+use Rattle.claims.specs.Claims.{Claims}
+use Rattle.walking.specs.Walk.{before, refusedFor}
+use Rattle.walking.specs.Walk.Laws.{before-holds}
+use Rattle.walking.specs.Found.{foundAt, FoundBefore}
+
+module _ (b : List ℕ) (s : ℕ) (h : s < steps b) where
+  pub step-of : stepOf (narration b) s ≡ stepAt b s
+  unfolding stepOf narration
+  step-of = values-getD (stepAt b) 0 (steps b) s _ h ∙ ap (stepAt b) (zero-add s)
+
+  made-here : (p : ℕ) → p < parties b → sender b s ≡ p → madeAt (narration b) s ≡ buildAll (terms (table b) (messages b s)) (before b p s .dictionary) .made
+  unfolding madeAt stepAt
+  made-here p l e =
+      ap (λ a. buildAll (a .messages) (holdsBefore (narration b) (a .sender) s) .made) step-of
+      ∙ ap (λ q. buildAll (terms (table b) (messages b s)) (holdsBefore (narration b) q s) .made) e
+      ∙ ap (λ δ. buildAll (terms (table b) (messages b s)) δ .made) (before-holds b p l s (omega arith))
+
+  -- what code finds is what refusal 10 says
+  found-first : (t : ℕ → Bool) → t ≡ taken (narration b) s → firstIn t 0 (madeAt (narration b) s) ≡ pick (unplayable (narration b) s) (firstTaken (narration b) s + 1) 0
+  unfolding unplayable takenAt firstTaken pick
+  found-first t d = ap (λ u. firstIn u 0 (madeAt (narration b) s)) d ∙ go (unplayable (narration b) s) refl
+    where
+      go : (x : Bool) → unplayable (narration b) s ≡ x → firstIn (taken (narration b) s) 0 (madeAt (narration b) s) ≡ pick x (firstTaken (narration b) s + 1) 0
+      go true e = let z = some-taken (taken (narration b) s) (madeAt (narration b) s) e in omega arith
+      go false e = none-taken (taken (narration b) s) (madeAt (narration b) s) .1 e
+
+  pub found-exact : (l : List ℕ) (p : ℕ) (δ : Dictionary) → Claims b l → p < parties b → δ ≡ before b p s .dictionary
+      → foundAt b l p s δ ≡ pick (refusedFor b p s) (firstTaken (narration b) s + 1) 0
+  unfolding foundAt refusedFor pick
+  found-exact l p δ c j d = go (eqb (sender b s) p) refl
+    where
+      go : (x : Bool) → eqb (sender b s) p ≡ x → pick x (firstIn (takenIn l s) 0 (buildAll (terms (table b) (messages b s)) δ .made)) 0 ≡ pick (pick x (unplayable (narration b) s) false) (firstTaken (narration b) s + 1) 0
+      go true e =
+          ap (firstIn (takenIn l s) 0) (ap (λ ε. buildAll (terms (table b) (messages b s)) ε .made) d ∙ sym (made-here p j (eqb-true (sender b s) p e)))
+          ∙ found-first (takenIn l s) (fun-ext (λ q. c s q))
+      go false e = refl
+
+-- ---- one step more
+module _ (b : List ℕ) (p i : ℕ) where
+  pub found-none : {s : ℕ} → FoundBefore b p 0 s 0
+  found-none = FoundBefore.none (λ k l. absurd (omega arith))
+
+  -- it was found before
+  stays : {s t : ℕ} → FoundBefore b p i s t → (t ≡ 0 → ⊥) → FoundBefore b p (i + 1) s t
+  stays (FoundBefore.none n) z = absurd (z refl)
+  stays (FoundBefore.one {s = s} l r n) z = FoundBefore.one {s = s} (omega arith) r n
+
+  pub found-stays : {s t u v : ℕ} → FoundBefore b p i s t → (t ≡ 0 → ⊥) → u ≡ s → v ≡ t → FoundBefore b p (i + 1) u v
+  found-stays f z d e = rw (d, e) (stays f z)
+
+  clear : {s t : ℕ} → FoundBefore b p i s t → t ≡ 0 → (k : ℕ) → k < i → refusedFor b p k ≡ false
+  clear (FoundBefore.none n) z = n
+  clear (FoundBefore.one l r n) z = absurd (omega arith)
+
+  -- or it is looked for at this step
+  now : {s t x : ℕ} → FoundBefore b p i s t → t ≡ 0 → x ≡ pick (refusedFor b p i) (firstTaken (narration b) i + 1) 0 → FoundBefore b p (i + 1) i x
+  unfolding pick
+  now {s} {t} {x} f z e = go (refusedFor b p i) refl e
+    where
+      go : (y : Bool) → refusedFor b p i ≡ y → x ≡ pick y (firstTaken (narration b) i + 1) 0 → FoundBefore b p (i + 1) i x
+      go true r d = rw d (FoundBefore.one {s = i} (omega arith) r (clear f z))
+      go false r d = rw d (FoundBefore.none (below-more (λ k. refusedFor b p k ≡ false) i (clear f z) r))
+
+  pub found-now : {s t x u v : ℕ} → FoundBefore b p i s t → t ≡ 0 → x ≡ pick (refusedFor b p i) (firstTaken (narration b) i + 1) 0 → u ≡ i → v ≡ x → FoundBefore b p (i + 1) u v
+  found-now f z e c d = rw (c, d) (now f z e)

@@ -1,0 +1,4 @@
+pub mod Walk
+pub mod Long
+pub mod Found
+pub mod Walking

@@ -1,0 +1,27 @@
+-- A party's walk through the steps of a book, one step after another: the form in which code meets a program.
+use Prim.Native.Nat.{ℕ}
+use mathlib.Core.Bool.{Bool, false}
+use mathlib.Core.List.{List, [], _∷_, map}
+use lib.Dec.{eqb}
+use Rattle.words.specs.Choice.{pick}
+use Rattle.words.specs.Run.{values}
+use Rattle.terms.specs.Table.{term}
+use Rattle.book.specs.Layout.{table, known, sender}
+use Rattle.translation.specs.Dictionary.{Dictionary}
+use Rattle.translation.specs.Receive.{Did}
+use Rattle.translation.specs.Program.{own, walk, walked}
+use Rattle.translation.specs.Narration.{stepAt, narration}
+use Rattle.translation.specs.Taken.{unplayable}
+pub mod Laws
+
+-- what step i adds for party p, where n is the next placeholder
+unfoldable pub stepDid : List ℕ → ℕ → ℕ → Dictionary → ℕ → Did
+stepDid b p i δ n = walk (own p i (stepAt b i ∷ [])) δ n
+
+-- what the first i steps add
+unfoldable pub before : List ℕ → ℕ → ℕ → Did
+before b p i = walked (map (term (table b)) (known b p)) (own p 0 (values (stepAt b) 0 i))
+
+-- step s is party p's to send, and a taken atom would have to be made for it
+unfoldable pub refusedFor : List ℕ → ℕ → ℕ → Bool
+refusedFor b p s = pick (eqb (sender b s) p) (unplayable (narration b) s) false

@@ -1,0 +1,172 @@
+use book::rows;
+use book::step_count;
+use book::step_first;
+use book::step_receiver;
+use book::step_sender;
+use book::steps;
+use holding::narrow;
+use holding::start;
+use receiving::Dictionary;
+use receiving::Received;
+use receiving::receive_messages;
+use sending::send;
+use words::put2;
+use words::put4;
+ghost use mathlib.Core.Path.{_≡_};
+ghost use Prim.Native.Nat.{_+_, _*_, _≤_, _<_};
+ghost use lib.ListN.{length};
+ghost use Rattle.words.specs.Overlay.{Wrote};
+ghost use Rattle.book.specs.Layout.{parties as partiesOf, steps as stepsOf};
+ghost use Rattle.book.specs.Valid.{Valid};
+ghost use Rattle.translation.specs.Listing.{partWords};
+ghost use Rattle.holding.specs.View.{view};
+ghost use Rattle.claims.specs.Claims.{Claims};
+ghost use Rattle.receiving.specs.Bound.{limit};
+ghost use Rattle.walking.specs.Walk.{stepDid};
+ghost use Rattle.walking.specs.Found.{FoundBefore};
+ghost use Rattle.walking.specs.Walking.{Acting, Walking};
+
+// What a step left: how far the party got, and one more than the first taken atom that it would make there (0 if there is none).
+pub struct Acted {
+    pub here: Received,
+    pub taken: u32,
+}
+
+// What all steps left: how far the party got, and the first step of its own at which it would make a taken atom.
+pub struct Passed {
+    pub here: Received,
+    pub step: u32,
+    pub taken: u32,
+}
+
+// A party's part in one step.
+fn act(
+    book: &[u32],
+    since: &[u32; 1024],
+    before: Received,
+    party: u32,
+    step: u32,
+    log: &mut [u32],
+    out: &mut [u32],
+) -> Acted
+    requires { ⌜ Valid (now book) × (step < stepsOf (now book))
+        × (before .dictionary .next + length (stepDid (now book) party step (view (now book) (before .dictionary .entries)) (before .dictionary .next) .given) ≤ limit) ⌝ }
+    ensures { λ r. ⌜ Acting (now (book .entry)) (now (since .entry)) party step before (now (log .entry)) (now (log .exit)) (now (out .entry)) (now (out .exit)) r ⌝ }
+{
+    let first = step_first(book, step);
+    let n = step_count(book, step);
+    if step_sender(book, step) == party {
+        let mut here = before;
+        let at = here.at;
+        let sent = send(
+            book,
+            since,
+            &mut here.dictionary.entries,
+            step,
+            first,
+            n,
+            out,
+            at,
+        );
+        here.at = sent.at;
+        return Acted {
+            here,
+            taken: sent.taken,
+        };
+    }
+    if step_receiver(book, step) == party {
+        let mut here = before;
+        let at = put4(out, here.at, 3, step, here.dictionary.next, narrow(n));
+        here.at = at;
+        let there = receive_messages(book, here, rows(book), first, n, log, out);
+        return Acted {
+            here: there,
+            taken: 0,
+        };
+    }
+    Acted {
+        here: before,
+        taken: 0,
+    }
+}
+
+// All steps, for one party: its events' words go to `out`, what it stores to `log`.
+pub fn walk(
+    book: &[u32],
+    since: &[u32; 1024],
+    party: u32,
+    kept: usize,
+    log: &mut [u32],
+    out: &mut [u32],
+    at: usize,
+) -> Passed
+    requires { ⌜ Valid (now book) × Claims (now book) (now since) × (party < partiesOf (now book)) ⌝ }
+    ensures { λ r. ⌜ Walking (now (book .entry)) party kept (now (log .entry)) (now (log .exit)) at (now (out .entry)) (now (out .exit)) r ⌝ }
+{
+    let n = steps(book);
+    let entries = start(book, party);
+    let dictionary = Dictionary {
+        entries,
+        next: 0,
+        kept,
+    };
+    let mut here = Received { dictionary, at };
+    let mut step = n;
+    let mut taken = 0;
+    let mut i = 0;
+    while i < n {
+        let acted = act(book, since, here, party, i, log, out);
+        if taken == 0 {
+            step = i;
+            taken = acted.taken;
+        }
+        here = acted.here;
+        i += 1;
+    }
+    Passed { here, step, taken }
+}
+
+// A party's program, measured: how many words it has, and the first step at which the party would make a taken atom.
+pub struct Measured {
+    pub words: usize,
+    pub step: u32,
+    pub taken: u32,
+}
+
+// The walk with nothing lent to write to.
+pub fn measure(book: &[u32], since: &[u32; 1024], party: u32) -> Measured
+    requires { ⌜ Valid (now book) × Claims (now book) (now since) × (party < partiesOf (now book)) ⌝ }
+    ensures { λ r. ⌜ (r .words ≡ length (partWords (now (book .entry)) party)) × FoundBefore (now (book .entry)) party (stepsOf (now (book .entry))) (r .step) (r .taken) ⌝ }
+{
+    let mut log = [0u32; 1];
+    let mut out = [0u32; 1];
+    let passed = walk(book, since, party, 0, &mut log[0..0], &mut out[0..0], 0);
+    Measured {
+        words: passed.here.at + 2 + passed.here.dictionary.kept,
+        step: passed.step,
+        taken: passed.taken,
+    }
+}
+
+// A party's program: its events by one walk, and by a second one the pairs of its END, straight to their place.
+pub fn write_program(
+    book: &[u32],
+    since: &[u32; 1024],
+    party: u32,
+    out: &mut [u32],
+    at: usize,
+) -> usize
+    requires { ⌜ Valid (now book) × Claims (now book) (now since) × (party < partiesOf (now book)) ⌝ }
+    ensures { λ r. ⌜ Wrote (partWords (now (book .entry)) party) (now (out .entry)) at (now (out .exit)) r ⌝ }
+{
+    let mut none = [0u32; 1];
+    let events = walk(book, since, party, 0, &mut none[0..0], out, at);
+    let pairs = put2(
+        out,
+        events.here.at,
+        6,
+        narrow(events.here.dictionary.kept / 2),
+    );
+    let end = walk(book, since, party, pairs, out, &mut none[0..0], 0);
+    end.here.dictionary.kept
+}

@@ -9,11 +9,12 @@ use holding::first_part;
 use holding::narrow;
 use holding::write_image;
 use holding::write_partner;
+use translation::Code;
 use words::put2;
 use words::wide;
 ghost use mathlib.Core.Path.{_≡_};
 ghost use Prim.Native.Nat.{_+_, _≤_, _<_};
-ghost use lib.ListN.{length, replicate};
+ghost use lib.ListN.{length};
 ghost use Rattle.words.specs.Overlay.{Wrote};
 ghost use Rattle.terms.specs.Table.{term, terms};
 ghost use Rattle.book.specs.Layout.{rows, kind, table, listAt};
@@ -48,14 +49,14 @@ struct Settled {
 }
 
 impl Dictionary {
-    // Nothing held, nothing handed out.
-    pub fn new() -> Self
-        ensures { λ r. ⌜ (r .entries ≡ replicate 1024 0) × (r .next ≡ 0) × (r .kept ≡ 0) ⌝ }
+    // What is held at the start; no placeholder is handed out yet.
+    pub fn new(entries: [u32; 1024], kept: usize) -> Self
+        ensures { λ r. ⌜ (r .entries ≡ entries) × (r .next ≡ 0) × (r .kept ≡ kept) ⌝ }
     {
         Dictionary {
-            entries: [0u32; 1024],
+            entries,
             next: 0,
-            kept: 0,
+            kept,
         }
     }
 }
@@ -83,7 +84,7 @@ fn put_check(
     requires { ⌜ Valid (now book) × (row < rows (now book)) ⌝ }
     ensures { λ r. ⌜ Wrote (programWords (rowOf (now (book .entry))) (compared (term (table (now (book .entry))) row) place (view (now (book .entry)) (now (entries .entry))) .events)) (now (out .entry)) at (now (out .exit)) r ⌝ }
 {
-    let next = put2(out, at, 4, place);
+    let next = put2(out, at, Code::CHECK, place);
     write_image(book, entries, row, out, next)
 }
 
@@ -100,7 +101,7 @@ fn put_open(
     requires { ⌜ Valid (now book) × (row < rows (now book)) × (kind (now book) row ≡ 2) ⌝ }
     ensures { λ r. ⌜ Wrote (programWords (rowOf (now (book .entry))) (unlocked (term (table (now (book .entry))) row) place (view (now (book .entry)) (now (entries .entry))) from .events)) (now (out .entry)) at (now (out .exit)) r ⌝ }
 {
-    let next = put2(out, at, 5, place);
+    let next = put2(out, at, Code::OPEN, place);
     let last = put2(out, next, from, narrow(row_count(book, row) - 1));
     write_partner(book, entries, first_part(book, row), out, last)
 }

@@ -6,6 +6,7 @@ use book::rows;
 use holding::entry;
 use holding::narrow;
 use holding::write_images;
+use translation::Code;
 use words::put2;
 use words::put3;
 use words::wide;
@@ -71,7 +72,7 @@ fn make(
     }
     if row_kind(book, row) == Kind::ATOM {
         entries[wide(row)] = 1;
-        let at = put2(out, m.at, 1, row);
+        let at = put2(out, m.at, Code::NEW, row);
         let taken = first_taken(since, row, step, m.taken);
         return Made { at, taken };
     }
@@ -154,7 +155,7 @@ pub fn send(
         Made { at, taken: 0 },
         out,
     );
-    let next = put3(out, m.at, 2, step, narrow(n));
+    let next = put3(out, m.at, Code::SEND, step, narrow(n));
     let end = write_images(book, entries, bound, first, n, out, next);
     Made {
         at: end,

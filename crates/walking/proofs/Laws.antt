@@ -25,6 +25,7 @@ use Rattle.holding.specs.View.{rowOf, view}
 use Rattle.holding.specs.Doing.{Doing}
 use Rattle.sending.specs.Sending.{Sends}
 use Rattle.sending.specs.declared.Made.{Made}
+use Rattle.receiving.specs.declared.Dictionary.{Dictionary}
 use Rattle.receiving.specs.declared.Received.{Received}
 use Rattle.receiving.specs.Bound.{limit}
 use Rattle.receiving.specs.Turn.{inTurn}
@@ -123,8 +124,8 @@ module _ (b : List ℕ) (p i k : ℕ) (log : List ℕ) (a : ℕ) (out : List ℕ
       let w = length-append (before b p i .given) (stepDid b p i (before b p i .dictionary) (length (before b p i .given)) .given) in
       omega arith
 
-  pub along-start : (e : List ℕ) → view b e ≡ start (map (term (table b)) (known b p)) → i ≡ 0 → Along b p i k log log a out out (record { dictionary = record { entries = e; next = 0; kept = k }; at = a })
-  along-start e h z = rw z (doing-as (rw (← h) (doing-none {b = b} {x = e})) (before-none b p))
+  pub along-start : (e : List ℕ) (d : Dictionary) → view b e ≡ start (map (term (table b)) (known b p)) → (d .entries ≡ e) × (d .next ≡ 0) × (d .kept ≡ k) → i ≡ 0 → Along b p i k log log a out out (record { dictionary = d; at = a })
+  along-start e d h w z = rw (z, w .0, w .1, w .2) (doing-as (rw (← h) (doing-none {b = b} {x = e})) (before-none b p))
 
   -- they are all
   pub walked : {logAfter outAfter : List ℕ} {x : Received} {s t : ℕ} → i ≡ steps b → Along b p i k log logAfter a out outAfter x → FoundBefore b p i s t → Walking b p k log logAfter a out outAfter (record { here = x; step = s; taken = t })

@@ -10,6 +10,7 @@ use receiving::Dictionary;
 use receiving::Received;
 use receiving::receive_messages;
 use sending::send;
+use translation::Code;
 use words::put2;
 use words::put4;
 ghost use mathlib.Core.Path.{_≡_};
@@ -76,7 +77,14 @@ fn act(
     }
     if step_receiver(book, step) == party {
         let mut here = before;
-        let at = put4(out, here.at, 3, step, here.dictionary.next, narrow(n));
+        let at = put4(
+            out,
+            here.at,
+            Code::RECEIVE,
+            step,
+            here.dictionary.next,
+            narrow(n),
+        );
         here.at = at;
         let there = receive_messages(book, here, rows(book), first, n, log, out);
         return Acted {
@@ -105,11 +113,7 @@ pub fn walk(
 {
     let n = steps(book);
     let entries = start(book, party);
-    let dictionary = Dictionary {
-        entries,
-        next: 0,
-        kept,
-    };
+    let dictionary = Dictionary::new(entries, kept);
     let mut here = Received { dictionary, at };
     let mut step = n;
     let mut taken = 0;
@@ -164,7 +168,7 @@ pub fn write_program(
     let pairs = put2(
         out,
         events.here.at,
-        6,
+        Code::END,
         narrow(events.here.dictionary.kept / 2),
     );
     let end = walk(book, since, party, pairs, out, &mut none[0..0], 0);

@@ -14,5 +14,7 @@ pub mod Start
 pub mod Spelled
 pub mod Finish
 pub mod Sequence
+pub mod Rehearsal
+pub mod Counting
 pub mod Example
 pub mod Counterexamples

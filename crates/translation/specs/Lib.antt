@@ -6,6 +6,7 @@ pub mod Narration
 pub mod Taken
 pub mod Rows
 pub mod Listing
+pub mod Places
 pub mod Spelling
 pub mod Outcome
 pub mod Trials

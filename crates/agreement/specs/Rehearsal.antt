@@ -6,9 +6,7 @@
 use Prim.Native.Nat.{ℕ}
 use mathlib.Core.List.{List, [], _∷_, _++_}
 use lib.ListN.{length, getD}
-use lib.Seq.{sets}
-use lib.Dec.{ltb, leb, eqb}
-use Rattle.words.specs.Choice.{pick}
+use lib.Dec.{ltb, leb}
 use Rattle.words.specs.Run.{values}
 use Rattle.book.specs.Layout.{parties}
 use Rattle.book.specs.Said.{Said, said}
@@ -16,10 +14,12 @@ use Rattle.book.specs.Refusals.{Line, line, here, firstOf, readingTable}
 use Rattle.translation.specs.Receive.{Event}
 use Rattle.translation.specs.Narration.{narration}
 use Rattle.translation.specs.Listing.{listing}
-use Rattle.translation.specs.Outcome.{Outcome, takenLine, roomLine}
+use Rattle.translation.specs.Outcome.{Outcome, takenLine, roomLine, laid}
 use Rattle.agreement.specs.Machine.{System, Move, move}
 use Rattle.agreement.specs.Agree.{receiverOf}
 use Rattle.agreement.specs.Spelled.{started}
+pub mod Laws
+pub mod Came
 
 -- ---- the play
 -- the move that party p makes with these events left: it takes the copy of the step that it waits for, or moves by itself
@@ -60,6 +60,4 @@ rehearsalSays b ms out =
 
 -- of the words b, the schedule ms and the lent words out
 unfoldable pub rehearsal : List ℕ → List ℕ → List ℕ → Outcome
-rehearsal b ms out =
-    let s = rehearsalSays b ms out in
-    record { says = s; lent = pick (eqb (s .number) 0) (sets out 0 (eventsDone b ms)) out }
+rehearsal b ms out = laid (rehearsalSays b ms out) out (eventsDone b ms)

@@ -37,13 +37,19 @@ pub record Outcome : Type 0 where
   pub says : Said
   pub lent : List ℕ
 
+-- on acceptance the output ws is laid over the lent words; on refusal they all stay as they were
+abbrev pub laid : Said → List ℕ → List ℕ → Outcome
+laid s out ws = record { says = s; lent = pick (eqb (s .number) 0) (sets out 0 ws) out }
+
 -- of the words b and the lent words out
 unfoldable pub outcome : List ℕ → List ℕ → Outcome
-outcome b out =
-    let s = translationSays b out in
-    record { says = s; lent = pick (eqb (s .number) 0) (sets out 0 (listing b)) out }
+outcome b out = laid (translationSays b out) out (listing b)
 
 -- the paper's number and values of each answer
 abbrev pub answerSays : Answer → Said
 answerSays (Written n) = Said.said 0 (n ∷ [])
 answerSays (Refused f) = refusalSays f
+
+-- what came of a call: the answer as document 01 counts it, and the lent words afterwards
+abbrev pub came : Answer → List ℕ → Outcome
+came r new = record { says = answerSays r; lent = new }

@@ -19,10 +19,9 @@ ghost use Rattle.book.specs.Layout.{parties as partiesOf};
 ghost use Rattle.book.specs.Valid.{Valid};
 ghost use Rattle.book.specs.Said.{readingSays};
 ghost use Rattle.translation.specs.Listing.{heads, bodies, partWords, listing};
-ghost use Rattle.translation.specs.Outcome.{acceptance, outcome};
+ghost use Rattle.translation.specs.Outcome.{acceptance, outcome, came};
 ghost use Rattle.claims.specs.Claims.{Claims};
 ghost use Rattle.translator.specs.Found.{FoundAmong, Sooner};
-ghost use Rattle.translator.specs.Came.{came};
 
 // The first step at which some party would make a taken atom, and one more than the atom's row; 0 if there is no such step.
 struct Found {

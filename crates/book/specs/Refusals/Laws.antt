@@ -27,6 +27,19 @@ abbrev pub lines : List Ruled → List Line
 lines [] = []
 lines (x ∷ xs) = x .line ∷ lines xs
 
+-- two tables, one behind the other
+pub append-keep : (xs ys : List Ruled) → AllKeep xs → AllKeep ys → AllKeep (xs ++ ys)
+append-keep [] ys k h = h
+append-keep (x ∷ xs) ys k h = (k .0, append-keep xs ys (k .1) h)
+
+pub keep-append : (xs ys : List Ruled) → AllKeep (xs ++ ys) → AllKeep xs × AllKeep ys
+keep-append [] ys k = (tt, k)
+keep-append (x ∷ xs) ys k = let r = keep-append xs ys (k .1) in ((k .0, r .0), r .1)
+
+pub lines-append : (xs ys : List Ruled) → lines (xs ++ ys) ≡ lines xs ++ lines ys
+lines-append [] ys = refl
+lines-append (x ∷ xs) ys = ap (λ (ls : List Line). x .line ∷ ls) (lines-append xs ys)
+
 -- ---- firstOf: one line
 firstOf-here : (l : Line) (ls : List Line) (rest : Said) → applies l ≡ true → firstOf (l ∷ ls) rest ≡ gives l
 unfolding firstOf
@@ -124,6 +137,10 @@ abbrev pub Apart : ℕ → List Ruled → Type 0
 Apart n [] = Unit {0}
 Apart n (x ∷ xs) = (x .line .number ≡ n → ⊥) × Apart n xs
 
+pub apart-append : (n : ℕ) (xs ys : List Ruled) → Apart n xs → Apart n ys → Apart n (xs ++ ys)
+apart-append n [] ys a b = b
+apart-append n (x ∷ xs) ys a b = (a .0, apart-append n xs ys (a .1) b)
+
 -- "given exactly when": with the lines xs before it and the lines ys behind it
 module _ (xs : List Ruled) (x : Ruled) (ys : List Ruled) (rest : Said) where
   abbrev whole : Said
@@ -142,25 +159,33 @@ apart-number n (y ∷ ys) rest a z e = go (applies (y .line)) refl (apart-number
     go true q h = a .0 (sym (ap (λ (s : Said). s .number) (firstOf-here (y .line) (lines ys) rest q)) ∙ e)
     go false q h = h (sym (ap (λ (s : Said). s .number) (firstOf-on (y .line) (lines ys) rest q)) ∙ e)
 
+-- lines of other numbers were passed
+pub passed : (n : ℕ) (xs : List Ruled) (ls : List Line) (rest : Said) (vs : List ℕ) → Apart n xs
+    → firstOf (lines xs ++ ls) rest ≡ said n vs → AllKeep xs × (firstOf ls rest ≡ said n vs)
+unfolding gives
+passed n [] ls rest vs a e = (tt, e)
+passed n (w ∷ xs) ls rest vs a e = go (applies (w .line)) refl (passed n xs ls rest vs (a .1))
+  where
+    go : (v : Bool) → applies (w .line) ≡ v → (firstOf (lines xs ++ ls) rest ≡ said n vs → AllKeep xs × (firstOf ls rest ≡ said n vs)) → (Keeps w × AllKeep xs) × (firstOf ls rest ≡ said n vs)
+    go true q h = absurd (a .0 (ap (λ (s : Said). s .number) (sym (firstOf-here (w .line) (lines xs ++ ls) rest q) ∙ e)))
+    go false q h =
+        let r = h (sym (firstOf-on (w .line) (lines xs ++ ls) rest q) ∙ e) in
+        ((not-keeps w q, r .0), r .1)
+
 pub caused : (xs : List Ruled) (x : Ruled) (ys : List Ruled) (rest : Said) (vs : List ℕ)
     → Apart (x .line .number) xs → Apart (x .line .number) ys → (rest .number ≡ x .line .number → ⊥)
     → firstOf (lines xs ++ (x .line ∷ lines ys)) rest ≡ said (x .line .number) vs → AllKeep xs × Cause x vs
 unfolding gives
-caused [] x ys rest vs a b z e = go (applies (x .line)) refl
+caused xs x ys rest vs a b z e =
+    let r = passed (x .line .number) xs (x .line ∷ lines ys) rest vs a e in
+    (r .0, go (applies (x .line)) refl (r .1))
   where
-    go : (v : Bool) → applies (x .line) ≡ v → Unit {0} × Cause x vs
-    go true q =
-        let s = sym (firstOf-here (x .line) (lines ys) rest q) ∙ e in
+    go : (v : Bool) → applies (x .line) ≡ v → firstOf (x .line ∷ lines ys) rest ≡ said (x .line .number) vs → Cause x vs
+    go true q f =
+        let s = sym (firstOf-here (x .line) (lines ys) rest q) ∙ f in
         let c = gives-cause x q in
-        (tt, record { place = c .place; within = c .within; broken = c .broken; smallest = c .smallest; says = sym (ap (λ (s : Said). s .values) s) ∙ c .says })
-    go false q = absurd (apart-number (x .line .number) ys rest b z (ap (λ (s : Said). s .number) (sym (firstOf-on (x .line) (lines ys) rest q) ∙ e)))
-caused (w ∷ xs) x ys rest vs a b z e = go (applies (w .line)) refl (caused xs x ys rest vs (a .1) b z)
-  where
-    go : (v : Bool) → applies (w .line) ≡ v → (firstOf (lines xs ++ (x .line ∷ lines ys)) rest ≡ said (x .line .number) vs → AllKeep xs × Cause x vs) → (Keeps w × AllKeep xs) × Cause x vs
-    go true q h = absurd (a .0 (ap (λ (s : Said). s .number) (sym (firstOf-here (w .line) (lines xs ++ (x .line ∷ lines ys)) rest q) ∙ e)))
-    go false q h =
-        let r = h (sym (firstOf-on (w .line) (lines xs ++ (x .line ∷ lines ys)) rest q) ∙ e) in
-        ((not-keeps w q, r .0), r .1)
+        record { place = c .place; within = c .within; broken = c .broken; smallest = c .smallest; says = sym (ap (λ (s : Said). s .values) s) ∙ c .says }
+    go false q f = absurd (apart-number (x .line .number) ys rest b z (ap (λ (s : Said). s .number) (sym (firstOf-on (x .line) (lines ys) rest q) ∙ f)))
 
 -- ---- acceptance
 pub none-given : (xs : List Ruled) (rest : Said) → Apart 0 xs → firstOf (lines xs) rest .number ≡ 0 → AllKeep xs

@@ -1,10 +1,12 @@
 -- Laws of outcomes: each refusal of a translation is given exactly when document 01 says so; a refusal changes no lent word; on
--- acceptance the lent words are the listing and what was behind it; no two outcomes keep one promise. Assumes nothing.
+-- acceptance the lent words are the listing and what was behind it; no two outcomes keep one promise. What the rehearsal has in
+-- common with the translation is said once: refusals 1 to 10 first, refusal 12 as the last, and an output that is laid over the lent
+-- words. Assumes nothing.
 use Prim.Native.Nat.{ℕ, _+_, _≤_, _<_}
 use mathlib.Core.Bool.{Bool, true, false}
 use mathlib.Core.List.{List, [], _∷_, _++_}
 use mathlib.Core.Logic.{_↔_}
-use mathlib.Core.Path.{_≡_, refl, sym, ap, _∙_}
+use mathlib.Core.Path.{_≡_, refl, sym, ap, ap₂, _∙_}
 use native.Mathlib.Omega.{arith}
 use lib.ListN.{length, drop}
 use lib.Seq.{sets, sets-eq}
@@ -13,34 +15,102 @@ use borrow.Author.Tests.{ltb-false, le-ltb, ne-eqb, eq-eqb}
 use Rattle.words.specs.Choice.Laws.{pick-true, pick-false}
 use Rattle.book.specs.Layout.{steps}
 use Rattle.book.specs.Said as Said
-use Rattle.book.specs.Said.{accepted}
-use Rattle.book.specs.Refusals.{line, firstOf, readingTable, verdict}
-use Rattle.book.specs.Refusals.Laws.{Ruled, Keeps, AllKeep, lines, Cause, Apart, given, caused, all-keep, none-given, firstOf-stop}
+use Rattle.book.specs.Said.{accepted, refusalSays}
+use Rattle.book.specs.Said.Laws.{refusal-number}
+use Rattle.book.specs.declared.Refusal.{Refusal}
+use Rattle.book.specs.Refusals.{Line, line, firstOf, readingTable, verdict}
+use Rattle.book.specs.Refusals.Laws.{Ruled, AllKeep, append-keep, keep-append, lines, lines-append, Cause, Apart, apart-append, given, caused, all-keep, none-given, firstOf-none, firstOf-stop}
 use Rattle.book.specs.Valid.{Valid}
 use Rattle.book.specs.Valid.Laws.{nine, reading-lines, keep-valid, valid-keep}
 use Rattle.translation.specs.Narration.{narration}
 use Rattle.translation.specs.Taken.{unplayable, firstTaken, Playable}
 use Rattle.translation.specs.Taken.Laws.{playable-exact, NoDerivation, unplayable-exact, FirstTaken, first-taken}
 use Rattle.translation.specs.Listing.{listing}
-use Rattle.translation.specs.Outcome.{takenLine, roomLine, acceptance, translationSays, Outcome, outcome}
+use Rattle.translation.specs.Outcome.{takenLine, roomLine, acceptance, translationSays, Outcome, laid, outcome, came}
+use Rattle.translation.specs.declared.Answer.the-variants.{Written, Refused}
 
--- ---- the eleven lines with their rules
+-- ---- refusal 12 is the last, behind the lines xs: "No room is said only when there is none."
+abbrev pub room-line : ℕ → ℕ → Ruled
+room-line room need =
+    record { line = line 12 1 (λ i. ltb room need) (λ i. need ∷ []); rule = λ i. need ≤ room; exact = λ i. (λ e. ltb-false _ _ e, λ h. le-ltb _ _ h) }
+
+module _ (xs : List Ruled) (room need : ℕ) where
+  abbrev pub ends-in-room : Said.Said
+  ends-in-room = firstOf (lines xs ++ (room-line room need .line ∷ [])) (Said.said 0 (need ∷ []))
+
+  pub room-exact : Apart 12 xs → (vs : List ℕ) → (ends-in-room ≡ Said.said 12 vs) ↔ (AllKeep xs × (room < need) × (vs ≡ need ∷ []))
+  room-exact a vs = (
+    λ e. (let z = caused xs (room-line room need) [] (Said.said 0 (need ∷ [])) vs a tt (omega arith) e in
+        let c = z .1 in
+        (z .0, less (c .broken), c .says)),
+    λ u. given xs (room-line room need) [] (Said.said 0 (need ∷ [])) vs (u .0)
+        (record { place = 0; within = omega arith; broken = λ h. (let l = u .1 in absurd (omega arith)); smallest = λ k h. absurd (omega arith); says = u .2 }),
+  )
+    where
+      less : (need ≤ room → ⊥) → room < need
+      less n = elim (native.Mathlib.Decide.decLt room need) [ yes h ↦ h | no h ↦ absurd (n (omega arith)) ]
+
+  -- there is room
+  pub room-says : AllKeep xs → need ≤ room → ends-in-room ≡ Said.said 0 (need ∷ [])
+  room-says k h =
+      all-keep xs (room-line room need .line ∷ []) (Said.said 0 (need ∷ [])) k
+      ∙ all-keep (room-line room need ∷ []) [] (Said.said 0 (need ∷ [])) (λ i l. h, tt)
+      ∙ firstOf-none (Said.said 0 (need ∷ []))
+
+  pub fits-exact : Apart 0 xs → (ends-in-room .number ≡ 0) ↔ (AllKeep xs × (need ≤ room))
+  fits-exact a = (
+    λ e. (let k = none-given (xs ++ room-line room need ∷ []) (Said.said 0 (need ∷ [])) (apart-append 0 xs (room-line room need ∷ []) a (omega arith))
+        (ap (λ (ls : List Line). firstOf ls (Said.said 0 (need ∷ [])) .number) (lines-append xs (room-line room need ∷ [])) ∙ e) in
+        let r = keep-append xs (room-line room need ∷ []) k in
+        (r .0, r .1 .0 0 (omega arith))),
+    λ u. ap (λ (s : Said.Said). s .number) (room-says (u .0) (u .1)),
+  )
+
+-- ---- an output is laid over the lent words
+-- an outcome of its two parts
+abbrev of : Said.Said → List ℕ → Outcome
+of x l = record { says = x; lent = l }
+
+module _ (s : Said.Said) (out ws : List ℕ) where
+  pub laid-keeps : (s .number ≡ 0 → ⊥) → laid s out ws .lent ≡ out
+  laid-keeps n = pick-false _ _ _ (ne-eqb _ _ n)
+
+  pub laid-lays : s .number ≡ 0 → laid s out ws .lent ≡ sets out 0 ws
+  laid-lays e = pick-true _ _ _ (eq-eqb _ _ e)
+
+  pub laid-past : s .number ≡ 0 → length ws ≤ length out → laid s out ws .lent ≡ ws ++ drop (length ws) out
+  laid-past e l =
+      let z : 0 + length ws ≡ length ws = omega arith in
+      laid-lays e ∙ sets-eq ws out 0 (omega arith) ∙ ap (λ n. ws ++ drop n out) z
+
+  -- what came of a call: a refusal, or the output's length
+  pub came-refused : (f : Refusal) → s ≡ refusalSays f → came (Refused f) out ≡ laid s out ws
+  came-refused f e = ap₂ of (sym e) (sym (laid-keeps (λ z. refusal-number f (ap (λ (x : Said.Said). x .number) (sym e) ∙ z))))
+
+  pub came-written : (new : List ℕ) (n : ℕ) → s ≡ Said.said 0 (n ∷ []) → new ≡ sets out 0 ws → came (Written n) new ≡ laid s out ws
+  came-written new n e l = ap₂ of (sym e) (l ∙ sym (laid-lays (ap (λ (x : Said.Said). x .number) e)))
+
+-- ---- the lines of a translation with their rules
 module _ (b : List ℕ) where
   abbrev pub taken-line : Ruled
   taken-line = record { line = line 10 (steps b) (unplayable (narration b)) (λ s. s ∷ firstTaken (narration b) s ∷ []); rule = Playable (narration b); exact = playable-exact (narration b) }
 
-  abbrev pub room-line : ℕ → Ruled
-  room-line room =
-      record { line = line 12 1 (λ i. ltb room (length (listing b))) (λ i. length (listing b) ∷ []); rule = λ i. length (listing b) ≤ room; exact = λ i. (λ e. ltb-false _ _ e, λ h. le-ltb _ _ h) }
+  -- refusals 1 to 10
+  abbrev pub ten : List Ruled
+  ten = nine b ++ taken-line ∷ []
 
   abbrev pub written : Said.Said
   written = Said.said 0 (length (listing b) ∷ [])
 
-  says-lines : (out : List ℕ) → translationSays b out ≡ firstOf (lines (nine b) ++ (taken-line .line ∷ lines (room-line (length out) ∷ []))) written
+  pub ten-lines : (ls : List Line) → readingTable b ++ takenLine b ∷ ls ≡ lines ten ++ ls
+  unfolding takenLine
+  ten-lines ls = rw (reading-lines b)
+
+  says-lines : (out : List ℕ) → translationSays b out ≡ ends-in-room ten (length out) (length (listing b))
   unfolding translationSays takenLine roomLine
   says-lines out = rw (reading-lines b)
 
-  accept-lines : acceptance b ≡ firstOf (lines (nine b) ++ (taken-line .line ∷ lines [])) accepted
+  accept-lines : acceptance b ≡ firstOf (lines ten) accepted
   unfolding acceptance takenLine
   accept-lines = rw (reading-lines b)
 
@@ -48,6 +118,16 @@ module _ (b : List ℕ) where
   pub reading-first : (out : List ℕ) → (verdict b .number ≡ 0 → ⊥) → translationSays b out ≡ verdict b
   unfolding translationSays verdict
   reading-first out n = firstOf-stop (readingTable b) (takenLine b ∷ roomLine (length out) (length (listing b)) ∷ []) accepted written refl n
+
+  -- ---- refusals 1 to 10 are the book's, whatever lines ls stand behind
+  pub book-first : (ls : List Line) (rest : Said.Said) → (acceptance b .number ≡ 0 → ⊥) → firstOf (readingTable b ++ takenLine b ∷ ls) rest ≡ acceptance b
+  unfolding acceptance readingTable
+  book-first ls rest n = firstOf-stop (readingTable b ++ takenLine b ∷ []) ls accepted rest refl n
+
+  pub book-came : (ls : List Line) (rest : Said.Said) (out ws : List ℕ) (f : Refusal) → refusalSays f ≡ acceptance b
+      → came (Refused f) out ≡ laid (firstOf (readingTable b ++ takenLine b ∷ ls) rest) out ws
+  book-came ls rest out ws f e =
+      came-refused _ out ws f (book-first ls rest (λ z. refusal-number f (ap (λ (x : Said.Said). x .number) e ∙ z)) ∙ sym e)
 
   -- ---- refusal 10
   -- the smallest step with a message that has no derivation from what its sender holds by then and atoms that are nobody's yet,
@@ -79,90 +159,70 @@ module _ (b : List ℕ) where
   unplayable-cause vs u =
       record { place = u .step; within = u .within; broken = unplayable-exact (narration b) (u .step) .1 (u .none); smallest = u .smallest; says = u .says }
 
-  apart-ten : Apart 10 (nine b)
-  apart-ten = omega arith
+  -- whatever lines ys stand behind
+  pub taken-exact : (ys : List Ruled) (rest : Said.Said) → Apart 10 ys → (rest .number ≡ 10 → ⊥) → (vs : List ℕ)
+      → (firstOf (lines (nine b) ++ (taken-line .line ∷ lines ys)) rest ≡ Said.said 10 vs) ↔ (Valid b × Unplayable vs)
+  taken-exact ys rest a n vs = (
+    λ e. (let z = caused (nine b) taken-line ys rest vs (omega arith) a n e in (keep-valid b (z .0), cause-unplayable vs (z .1))),
+    λ u. given (nine b) taken-line ys rest vs (valid-keep b (u .0)) (unplayable-cause vs (u .1)),
+  )
 
   pub exactly-10 : (out vs : List ℕ) → (translationSays b out ≡ Said.said 10 vs) ↔ (Valid b × Unplayable vs)
-  exactly-10 out vs = (
-    λ e. (let z = caused (nine b) taken-line (room-line (length out) ∷ []) written vs apart-ten (omega arith) (omega arith) (sym (says-lines out) ∙ e) in
-        (keep-valid b (z .0), cause-unplayable vs (z .1))),
-    λ u. says-lines out ∙ given (nine b) taken-line (room-line (length out) ∷ []) written vs (valid-keep b (u .0)) (unplayable-cause vs (u .1)),
-  )
+  exactly-10 out vs =
+      let r = taken-exact (room-line (length out) (length (listing b)) ∷ []) written (omega arith) (omega arith) vs in
+      (λ e. r .0 (sym (says-lines out) ∙ e), λ u. says-lines out ∙ r .1 u)
 
   -- the same with no buffer
   pub accept-10 : (vs : List ℕ) → (acceptance b ≡ Said.said 10 vs) ↔ (Valid b × Unplayable vs)
-  accept-10 vs = (
-    λ e. (let z = caused (nine b) taken-line [] accepted vs apart-ten (omega arith) (omega arith) (sym accept-lines ∙ e) in
-        (keep-valid b (z .0), cause-unplayable vs (z .1))),
-    λ u. accept-lines ∙ given (nine b) taken-line [] accepted vs (valid-keep b (u .0)) (unplayable-cause vs (u .1)),
-  )
+  accept-10 vs = let r = taken-exact [] accepted (omega arith) (omega arith) vs in (λ e. r .0 (sym accept-lines ∙ e), λ u. accept-lines ∙ r .1 u)
 
   -- ---- a playable book
   pub record Plays : Type 0 where
     pub valid : Valid b
     pub playable : (s : ℕ) → s < steps b → Playable (narration b) s
 
-  append-keep : (xs : List Ruled) (x : Ruled) → AllKeep xs → Keeps x → AllKeep (xs ++ x ∷ [])
-  append-keep [] x k h = (h, tt)
-  append-keep (y ∷ xs) x k h = (k .0, append-keep xs x (k .1) h)
+  pub keep-plays : AllKeep ten → Plays
+  keep-plays k = let r = keep-append (nine b) (taken-line ∷ []) k in record { valid = keep-valid b (r .0); playable = r .1 .0 }
 
-  keep-append : (xs : List Ruled) (x : Ruled) → AllKeep (xs ++ x ∷ []) → AllKeep xs × Keeps x
-  keep-append [] x k = (tt, k .0)
-  keep-append (y ∷ xs) x k = let r = keep-append xs x (k .1) in ((k .0, r .0), r .1)
+  pub plays-keep : Plays → AllKeep ten
+  plays-keep p = append-keep (nine b) (taken-line ∷ []) (valid-keep b (p .valid)) (p .playable, tt)
 
-  -- ---- refusal 12: "No room is said only when there is none."
-  pub exactly-12 : (out vs : List ℕ) → (translationSays b out ≡ Said.said 12 vs) ↔ (Plays × (length out < length (listing b)) × (vs ≡ length (listing b) ∷ []))
-  exactly-12 out vs = (
-    λ e. (let z = caused (nine b ++ taken-line ∷ []) (room-line (length out)) [] written vs (omega arith) (omega arith) (omega arith) (sym (says-lines out) ∙ e) in
-        let k = keep-append (nine b) taken-line (z .0) in
-        let c = z .1 in
-        (record { valid = keep-valid b (k .0); playable = k .1 }, less (c .broken), c .says)),
-    λ u. says-lines out
-        ∙ given (nine b ++ taken-line ∷ []) (room-line (length out)) [] written vs (append-keep (nine b) taken-line (valid-keep b (u .0 .valid)) (u .0 .playable))
-        (record { place = 0; within = omega arith; broken = λ h. (let l = u .1 in absurd (omega arith)); smallest = λ k h. absurd (omega arith); says = u .2 }),
+  pub accepted-plays : (acceptance b ≡ accepted) ↔ Plays
+  accepted-plays = (
+    λ e. keep-plays (none-given ten accepted (omega arith) (ap (λ (s : Said.Said). s .number) (sym accept-lines ∙ e))),
+    λ p. accept-lines ∙ all-keep ten [] accepted (plays-keep p) ∙ firstOf-none accepted,
   )
-    where
-      less : (length (listing b) ≤ length out → ⊥) → length out < length (listing b)
-      less n = elim (native.Mathlib.Decide.decLt (length out) (length (listing b))) [ yes h ↦ h | no h ↦ absurd (n (omega arith)) ]
+
+  -- ---- refusal 12
+  pub exactly-12 : (out vs : List ℕ) → (translationSays b out ≡ Said.said 12 vs) ↔ (Plays × (length out < length (listing b)) × (vs ≡ length (listing b) ∷ []))
+  exactly-12 out vs =
+      let r = room-exact ten (length out) (length (listing b)) (omega arith) vs in
+      (λ e. (let z = r .0 (sym (says-lines out) ∙ e) in (keep-plays (z .0), z .1, z .2)), λ u. says-lines out ∙ r .1 (plays-keep (u .0), u .1, u .2))
 
   -- ---- acceptance
   pub exactly-written : (out : List ℕ) → (translationSays b out .number ≡ 0) ↔ (Plays × (length (listing b) ≤ length out))
-  exactly-written out = (
-    λ e. (let k = none-given (nine b ++ taken-line ∷ room-line (length out) ∷ []) written (omega arith) (ap (λ (s : Said.Said). s .number) (sym (says-lines out)) ∙ e) in
-        to k),
-    λ u. ap (λ (s : Said.Said). s .number) (says-lines out ∙ all-keep (nine b ++ taken-line ∷ room-line (length out) ∷ []) [] written (from u) ∙ nil),
-  )
-    where
-      to : AllKeep (nine b ++ taken-line ∷ room-line (length out) ∷ []) → Plays × (length (listing b) ≤ length out)
-      to k =
-          let r : AllKeep (nine b ++ taken-line ∷ []) × Keeps (room-line (length out)) = keep-append (nine b ++ taken-line ∷ []) (room-line (length out)) k in
-          let q = keep-append (nine b) taken-line (r .0) in
-          (record { valid = keep-valid b (q .0); playable = q .1 }, r .1 0 (omega arith))
+  exactly-written out =
+      let n = ap (λ (s : Said.Said). s .number) (says-lines out) in
+      let r = fits-exact ten (length out) (length (listing b)) (omega arith) in
+      (λ e. (let z = r .0 (sym n ∙ e) in (keep-plays (z .0), z .1)), λ u. n ∙ r .1 (plays-keep (u .0), u .1))
 
-      from : Plays × (length (listing b) ≤ length out) → AllKeep (nine b ++ taken-line ∷ room-line (length out) ∷ [])
-      from u = append-keep (nine b ++ taken-line ∷ []) (room-line (length out)) (append-keep (nine b) taken-line (valid-keep b (u .0 .valid)) (u .0 .playable)) (λ i h. u .1)
-
-      nil : firstOf [] written ≡ written
-      nil = unfold firstOf in refl
+  pub written-says : (out : List ℕ) → Plays → length (listing b) ≤ length out → translationSays b out ≡ written
+  written-says out p h = says-lines out ∙ room-says ten (length out) (length (listing b)) (plays-keep p) h
 
   -- a refusal changes no lent word
   pub refused-keeps : (out : List ℕ) → (outcome b out .says .number ≡ 0 → ⊥) → outcome b out .lent ≡ out
   unfolding outcome
-  refused-keeps out n = pick-false _ _ _ (ne-eqb _ _ n)
+  refused-keeps out n = laid-keeps (translationSays b out) out (listing b) n
 
   -- on acceptance the listing is laid over what was lent
   pub written-lays : (out : List ℕ) → outcome b out .says .number ≡ 0 → outcome b out .lent ≡ sets out 0 (listing b)
   unfolding outcome
-  written-lays out e = pick-true _ _ _ (eq-eqb _ _ e)
+  written-lays out e = laid-lays (translationSays b out) out (listing b) e
 
   -- "words past it are untouched"
   pub written-past : (out : List ℕ) → outcome b out .says .number ≡ 0 → outcome b out .lent ≡ listing b ++ drop (length (listing b)) out
   unfolding outcome
-  written-past out e =
-      let r = exactly-written out .0 e in
-      let l = r .1 in
-      let z : 0 + length (listing b) ≡ length (listing b) = omega arith in
-      written-lays out e ∙ sets-eq (listing b) out 0 (omega arith) ∙ ap (λ n. listing b ++ drop n out) z
+  written-past out e = laid-past (translationSays b out) out (listing b) e (exactly-written out .0 e .1)
 
 -- ---- no two outcomes keep one promise
 -- what a translator promises of the words b and the lent words out

@@ -60,6 +60,10 @@ all-getD P [] a i h = absurd (omega arith)
 all-getD P (x ∷ xs) a zero h = a .0
 all-getD P (x ∷ xs) a (suc i) h = all-getD P xs (a .1) i (omega arith)
 
+pub getD-all : (P : ℕ → Type 0) (xs : List ℕ) → ((i : ℕ) → i < length xs → P (getD xs i 0)) → All P xs
+getD-all P [] h = tt
+getD-all P (x ∷ xs) h = (h 0 (omega arith), getD-all P xs (λ i l. h (suc i) (omega arith)))
+
 pub all-imp : (P Q : ℕ → Type 0) → ((x : ℕ) → P x → Q x) → (xs : List ℕ) → All P xs → All Q xs
 all-imp P Q f [] a = tt
 all-imp P Q f (x ∷ xs) a = (f x (a .0), all-imp P Q f xs (a .1))

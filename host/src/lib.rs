@@ -1,5 +1,6 @@
 //! Nghiralum's second implementation, written from the papers alone, on terms.
 
+pub mod bench;
 pub mod book;
 pub mod compare;
 pub mod corpus;

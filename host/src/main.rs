@@ -1,7 +1,7 @@
 //! The commands of the second implementation.
 
 use host::translate;
-use host::{compare, corpus, narration, random, rehearse, show};
+use host::{bench, compare, corpus, narration, random, rehearse, show};
 use std::fs::{self, File};
 use std::io::{self, Read, Write};
 use std::path::{Path, PathBuf};
@@ -18,6 +18,7 @@ host books [--check] DIR                write (or only check) the files derived 
 host random SEED COUNT DIR              write random books
 host compare PROGRAM PATH..             compare a program over books and folders of books
 host compare PROGRAM --random SEED COUNT   compare a program over random books
+host bench LIB BOOKS [PLOT]             time proved code, a library made by host/bench, against this on books
 host help                               print this
 ";
 
@@ -102,6 +103,11 @@ fn run(arguments: &[String]) -> Result<bool, String> {
             let paths = [&[*first], rest].concat();
             let paths: Vec<PathBuf> = paths.iter().map(PathBuf::from).collect();
             return compare::files(program, &paths, &mut io::stdout());
+        }
+        ["bench", library, books, plot @ ..] if plot.len() < 2 => {
+            let (library, books) = (Path::new(library), Path::new(books));
+            let plot = plot.first().map(Path::new);
+            bench::run(library, books, plot, &mut io::stdout())?;
         }
         [command, ..] => {
             return Err(format!(

@@ -68,6 +68,17 @@ pub fn well_formed(seed: u64, count: usize, size: usize) -> impl Iterator<Item =
     (0..count).map(move |number| shape::book_of(&mut at(seed, number), size))
 }
 
+/// Random books that can be played, with so many rows and steps and, where there are names for them, parties.
+pub fn playable(
+    seed: u64,
+    count: usize,
+    rows: usize,
+    parties: usize,
+    steps: usize,
+) -> impl Iterator<Item = Book> {
+    (0..count).map(move |number| shape::playable_of(&mut at(seed, number), rows, parties, steps))
+}
+
 /// The generator of one book.
 fn at(seed: u64, number: usize) -> Random {
     let start = Random::new(seed).word();

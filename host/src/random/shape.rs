@@ -37,17 +37,28 @@ pub fn book_of(random: &mut Random, size: usize) -> Book {
         ),
         _ => (MOST_ROWS as usize, 16, 64),
     };
-    let mut table = Table::default();
-    table.fill(random, rows, size);
-    let parties = table.parties(random, parties);
-    let book = Book {
-        rows: table.rows,
-        parties,
-        steps: Vec::new(),
-    };
+    let book = without_steps(random, rows, parties, size);
     let playable = random.percent(35);
     let most = if size == 3 { 8 } else { random.between(1, 8) };
     narrate(random, book, steps, most, playable)
+}
+
+/// A book with so many rows and steps, of up to eight messages each, none of which makes a taken atom.
+pub fn playable_of(random: &mut Random, rows: usize, parties: usize, steps: usize) -> Book {
+    let size = if rows < 64 { 1 } else { 2 };
+    let book = without_steps(random, rows, parties, size);
+    narrate(random, book, steps, 8, true)
+}
+
+fn without_steps(random: &mut Random, rows: usize, parties: usize, size: usize) -> Book {
+    let mut table = Table::default();
+    table.fill(random, rows, size);
+    let parties = table.parties(random, parties);
+    Book {
+        rows: table.rows,
+        parties,
+        steps: Vec::new(),
+    }
 }
 
 /// Row 0 an atom and each later row a half of the one before, down to the largest size that passes.

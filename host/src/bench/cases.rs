@@ -1,0 +1,276 @@
+//! The books that are timed.
+
+use crate::book::{
+    Book, Party, Row, Step, ATOM, CIPHER, MOST_MESSAGES, MOST_PARTIES, MOST_ROWS, MOST_STEPS,
+    OPERATION, PRIVATE, PUBLIC,
+};
+use crate::random;
+use crate::translate::{self, LENT};
+use std::fs;
+use std::path::Path;
+
+/// A book in memory, with a name to tell it by.
+pub struct Case {
+    pub name: String,
+    pub words: Vec<u32>,
+}
+
+/// Books whose times are taken together.
+pub struct Group {
+    pub name: String,
+    pub cases: Vec<Case>,
+}
+
+/// Random books of a group.
+const RANDOM: usize = 40;
+/// Random books for each size of the growth.
+const GROWN: usize = 12;
+const SEED: u64 = 1;
+
+/// Whether the host accepts a book.
+fn accepts(words: &[u32]) -> bool {
+    translate::translate(words, &mut [0; LENT]).is_ok()
+}
+
+/// The groups from a folder of books and from random ones.
+pub fn groups(folder: &Path) -> Result<Vec<Group>, String> {
+    let random: Vec<Case> = (random::well_formed(SEED, RANDOM, 3).enumerate())
+        .map(|(number, book)| Case {
+            name: format!("random {number}"),
+            words: book.words(),
+        })
+        .collect();
+    let named = |start: &'static str| move |case: &Case| case.name.starts_with(start);
+    let accepted = |case: &Case| accepts(&case.words);
+    let refused = |case: &Case| !accepts(&case.words);
+    let groups = [
+        group("examples", books(folder)?, named("example-")),
+        group("corpus, accepted", books(folder)?, accepted),
+        group("corpus, refused", books(folder)?, refused),
+        group("corpus, full size", books(folder)?, named("full-")),
+    ];
+    let (played, unplayed): (Vec<Case>, Vec<Case>) = random.into_iter().partition(accepted);
+    let random = [
+        group("random, full size", played, |_| true),
+        group("random, full size, refused", unplayed, |_| true),
+    ];
+    let filled = |group: &Group| !group.cases.is_empty();
+    Ok(groups.into_iter().chain(random).filter(filled).collect())
+}
+
+fn group(name: &str, cases: Vec<Case>, wanted: impl Fn(&Case) -> bool) -> Group {
+    Group {
+        name: name.to_string(),
+        cases: cases.into_iter().filter(wanted).collect(),
+    }
+}
+
+/// The books of a folder whose bytes are words, sorted by name.
+fn books(folder: &Path) -> Result<Vec<Case>, String> {
+    let told = |error: std::io::Error| format!("{}: {error}", folder.display());
+    let mut cases = Vec::new();
+    for entry in fs::read_dir(folder).map_err(told)? {
+        let path = entry.map_err(told)?.path();
+        if path.extension().is_none_or(|extension| extension != "book") {
+            continue;
+        }
+        let bytes = fs::read(&path).map_err(told)?;
+        let name = path.file_stem().unwrap_or_default();
+        cases.extend(translate::words_of(&bytes).ok().map(|words| Case {
+            name: name.to_string_lossy().into_owned(),
+            words,
+        }));
+    }
+    cases.sort_by(|one, other| one.name.cmp(&other.name));
+    Ok(cases)
+}
+
+/// Random playable books that grow in everything at once, up to full size: the rows' number, and the books.
+pub fn growth() -> Vec<(usize, Group)> {
+    let sizes = [16, 32, 64, 128, 256, 512, MOST_ROWS as usize];
+    let grown = sizes.map(|rows| {
+        let (parties, steps) = ((rows / 64).max(2), rows / 16);
+        let books = random::playable(SEED, GROWN, rows, parties, steps);
+        let cases = books.enumerate().map(|(number, book)| Case {
+            name: format!("{rows} rows, random {number}"),
+            words: book.words(),
+        });
+        let name = format!("{rows} rows, {parties} parties, {steps} steps");
+        let cases = cases.collect();
+        (rows, group(&name, cases, |case| accepts(&case.words)))
+    });
+    grown.into_iter().collect()
+}
+
+/// Books made to be slow on the proved side, a group each.
+pub fn worst() -> Vec<Group> {
+    let kinds = [
+        ("idle parties", idle()),
+        ("idle parties, one row", idle_small()),
+        ("messages that are stored", stored()),
+        ("alike rows", alike()),
+        ("halves in a chain", chain()),
+        ("keys without a partner", partners()),
+        ("ciphers in ciphers", nested()),
+        ("many known rows", known()),
+        ("long images", long()),
+    ];
+    let alone = |(name, book): (&str, Book)| Group {
+        name: name.to_string(),
+        cases: vec![Case {
+            name: name.to_string(),
+            words: book.words(),
+        }],
+    };
+    kinds.into_iter().map(alone).collect()
+}
+
+fn row(kind: u32, parts: &[u32]) -> Row {
+    Row {
+        kind,
+        tag: 0,
+        parts: parts.to_vec(),
+    }
+}
+
+fn atoms(count: u32) -> Vec<Row> {
+    (0..count).map(|_| row(ATOM, &[])).collect()
+}
+
+/// Parties named by the first atoms, who all know the same rows.
+fn parties(count: u32, known: &[u32]) -> Vec<Party> {
+    let party = |name: u32| Party {
+        name,
+        known: known.to_vec(),
+    };
+    (0..count).map(party).collect()
+}
+
+/// As many steps as there may be, from party 0 to party 1, with these messages.
+fn steps(mut messages: impl FnMut(u32) -> Vec<u32>) -> Vec<Step> {
+    let step = |number: u32| Step {
+        sender: 0,
+        receiver: 1,
+        messages: messages(number),
+    };
+    (0..MOST_STEPS).map(step).collect()
+}
+
+/// Fourteen of sixteen parties do nothing in any step, and nothing is said.
+fn idle() -> Book {
+    Book {
+        rows: atoms(MOST_PARTIES),
+        parties: parties(MOST_PARTIES, &[]),
+        steps: steps(|_| Vec::new()),
+    }
+}
+
+fn idle_small() -> Book {
+    Book {
+        rows: atoms(2),
+        parties: parties(2, &[]),
+        steps: steps(|_| Vec::new()),
+    }
+}
+
+/// Each of 512 messages is an atom, made for it and stored on arrival.
+fn stored() -> Book {
+    let most = MOST_MESSAGES;
+    Book {
+        rows: atoms(2 + MOST_STEPS * most),
+        parties: parties(2, &[]),
+        steps: steps(|number| (0..most).map(|k| 2 + number * most + k).collect()),
+    }
+}
+
+/// Rows that agree in kind, tag and count and in all parts but the last two.
+fn alike() -> Book {
+    let mut rows = atoms(32);
+    for number in 0..MOST_ROWS - 32 {
+        rows.push(row(
+            OPERATION,
+            &[0, 0, 0, 0, 0, 0, number / 32, number % 32],
+        ));
+    }
+    Book {
+        rows,
+        parties: parties(1, &[]),
+        steps: Vec::new(),
+    }
+}
+
+/// Each row the public half of the row before, down to the largest size.
+fn chain() -> Book {
+    let mut rows = atoms(1);
+    for number in 0..MOST_ROWS - 2 {
+        rows.push(row(PUBLIC, &[number]));
+    }
+    Book {
+        rows,
+        parties: parties(1, &[]),
+        steps: Vec::new(),
+    }
+}
+
+/// Ciphers under public halves whose private halves are no rows: the receiver, who knows the part, opens them all.
+fn partners() -> Book {
+    let mut rows = atoms(3);
+    rows.push(row(PUBLIC, &[2]));
+    let ciphers = MOST_STEPS * MOST_MESSAGES;
+    for _ in 0..ciphers - 8 {
+        rows.push(row(ATOM, &[]));
+    }
+    let content = 4;
+    let first = rows.len() as u32;
+    for number in 0..ciphers - 8 {
+        rows.push(row(CIPHER, &[3, content + number]));
+    }
+    let most = MOST_MESSAGES;
+    Book {
+        rows,
+        parties: parties(2, &[2]),
+        steps: steps(|number| {
+            let messages = (0..most).map(|k| number * most + k);
+            let messages = messages.filter(|message| *message < ciphers - 8);
+            messages.map(|message| first + message).collect()
+        }),
+    }
+}
+
+/// A cipher in a cipher and so on, 255 deep, all of which the receiver opens.
+fn nested() -> Book {
+    let mut rows = atoms(4);
+    rows.push(row(CIPHER, &[2, 3]));
+    for inner in 4..4 + 254 {
+        rows.push(row(CIPHER, &[2, inner]));
+    }
+    let last = rows.len() as u32 - 1;
+    Book {
+        rows,
+        parties: parties(2, &[2]),
+        steps: steps(|number| if number == 0 { vec![last] } else { Vec::new() }),
+    }
+}
+
+/// Sixteen parties know 256 rows each; two of them say something once.
+fn known() -> Book {
+    let rows: Vec<u32> = (0..256).collect();
+    Book {
+        rows: atoms(MOST_ROWS),
+        parties: parties(MOST_PARTIES, &rows),
+        steps: steps(|number| if number == 0 { vec![0] } else { Vec::new() }).split_off(63),
+    }
+}
+
+/// The longest listing that fits: large terms over known atoms, compared in full.
+fn long() -> Book {
+    let mut rows = atoms(2);
+    rows.push(row(OPERATION, &[0, 1, 0, 1, 0, 1, 0, 1]));
+    rows.push(row(OPERATION, &[2, 2, 2, 2, 2, 2, 2, 2]));
+    rows.push(row(PRIVATE, &[3]));
+    Book {
+        rows,
+        parties: parties(2, &[0, 1]),
+        steps: steps(|_| vec![4]).split_off(64 - 50),
+    }
+}

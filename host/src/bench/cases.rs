@@ -1,8 +1,8 @@
 //! The books that are timed.
 
 use crate::book::{
-    Book, Party, Row, Step, ATOM, CIPHER, MOST_MESSAGES, MOST_PARTIES, MOST_ROWS, MOST_STEPS,
-    OPERATION, PRIVATE, PUBLIC,
+    Book, Party, Row, Step, ATOM, CIPHER, MOST_KNOWN, MOST_MESSAGES, MOST_PARTIES, MOST_ROWS,
+    MOST_STEPS, OPERATION, PRIVATE, PUBLIC,
 };
 use crate::random;
 use crate::translate::{self, LENT};
@@ -102,18 +102,19 @@ pub fn growth() -> Vec<(usize, Group)> {
     grown.into_iter().collect()
 }
 
-/// Books made to be slow on the proved side, a group each.
+/// Books that ask most of one thing, a group each.
 pub fn worst() -> Vec<Group> {
     let kinds = [
         ("idle parties", idle()),
-        ("idle parties, one row", idle_small()),
+        ("empty steps", empty()),
         ("messages that are stored", stored()),
         ("alike rows", alike()),
         ("halves in a chain", chain()),
-        ("keys without a partner", partners()),
+        ("partner in the last row", far_partner()),
         ("ciphers in ciphers", nested()),
         ("many known rows", known()),
         ("long images", long()),
+        ("refused at step 0", early()),
     ];
     let alone = |(name, book): (&str, Book)| Group {
         name: name.to_string(),
@@ -165,7 +166,8 @@ fn idle() -> Book {
     }
 }
 
-fn idle_small() -> Book {
+/// The same with two parties, both of whom have a part in every step.
+fn empty() -> Book {
     Book {
         rows: atoms(2),
         parties: parties(2, &[]),
@@ -212,28 +214,23 @@ fn chain() -> Book {
     }
 }
 
-/// Ciphers under public halves whose private halves are no rows: the receiver, who knows the part, opens them all.
-fn partners() -> Book {
+/// One cipher in all 512 messages, under a public half. The receiver can't build that half and opens the cipher every time with the
+/// private one, which is the last row, behind private halves of other rows.
+fn far_partner() -> Book {
     let mut rows = atoms(3);
     rows.push(row(PUBLIC, &[2]));
-    let ciphers = MOST_STEPS * MOST_MESSAGES;
-    for _ in 0..ciphers - 8 {
-        rows.push(row(ATOM, &[]));
+    rows.push(row(CIPHER, &[3, 0]));
+    rows.push(row(PRIVATE, &[0]));
+    for number in 5..MOST_ROWS - 2 {
+        rows.push(row(PRIVATE, &[number]));
     }
-    let content = 4;
-    let first = rows.len() as u32;
-    for number in 0..ciphers - 8 {
-        rows.push(row(CIPHER, &[3, content + number]));
-    }
-    let most = MOST_MESSAGES;
+    rows.push(row(PRIVATE, &[2]));
+    let mut parties = parties(2, &[0, 3]);
+    parties[1].known = vec![MOST_ROWS - 1];
     Book {
         rows,
-        parties: parties(2, &[2]),
-        steps: steps(|number| {
-            let messages = (0..most).map(|k| number * most + k);
-            let messages = messages.filter(|message| *message < ciphers - 8);
-            messages.map(|message| first + message).collect()
-        }),
+        parties,
+        steps: steps(|_| vec![4; MOST_MESSAGES as usize]),
     }
 }
 
@@ -245,32 +242,98 @@ fn nested() -> Book {
         rows.push(row(CIPHER, &[2, inner]));
     }
     let last = rows.len() as u32 - 1;
+    let mut steps = steps(|_| vec![last]);
+    steps.truncate(1);
     Book {
         rows,
         parties: parties(2, &[2]),
-        steps: steps(|number| if number == 0 { vec![last] } else { Vec::new() }),
+        steps,
     }
 }
 
-/// Sixteen parties know 256 rows each; two of them say something once.
+/// Sixteen parties who know 256 rows each, and nothing is said.
 fn known() -> Book {
-    let rows: Vec<u32> = (0..256).collect();
+    let known: Vec<u32> = (0..MOST_KNOWN).collect();
     Book {
         rows: atoms(MOST_ROWS),
-        parties: parties(MOST_PARTIES, &rows),
-        steps: steps(|number| if number == 0 { vec![0] } else { Vec::new() }).split_off(63),
+        parties: parties(MOST_PARTIES, &known),
+        steps: Vec::new(),
     }
 }
 
-/// The longest listing that fits: large terms over known atoms, compared in full.
+/// A listing nearly as long as one may be: a large term over known atoms, sent and compared in full.
 fn long() -> Book {
     let mut rows = atoms(2);
     rows.push(row(OPERATION, &[0, 1, 0, 1, 0, 1, 0, 1]));
     rows.push(row(OPERATION, &[2, 2, 2, 2, 2, 2, 2, 2]));
-    rows.push(row(PRIVATE, &[3]));
+    let mut steps = steps(|_| vec![3]);
+    steps.truncate(50);
     Book {
         rows,
         parties: parties(2, &[0, 1]),
-        steps: steps(|_| vec![4]).split_off(64 - 50),
+        steps,
+    }
+}
+
+/// Party 0 sends what only party 1 knows, and then party 1 sends the largest term again and again.
+fn early() -> Book {
+    let mut rows = atoms(3);
+    rows.push(row(OPERATION, &[1, 2, 1, 2, 1, 2, 1, 2]));
+    rows.push(row(OPERATION, &[3; 8]));
+    rows.push(row(OPERATION, &[4; 6]));
+    let mut parties = parties(2, &[1, 2]);
+    parties[0].known = vec![0, 1];
+    let mut steps = steps(|_| vec![5; MOST_MESSAGES as usize]);
+    for step in &mut steps {
+        (step.sender, step.receiver) = (1, 0);
+    }
+    steps[0] = Step {
+        sender: 0,
+        receiver: 1,
+        messages: vec![2],
+    };
+    Book {
+        rows,
+        parties,
+        steps,
+    }
+}
+
+#[cfg(test)]
+mod tests {
+    use super::*;
+    use crate::book::Refusal;
+
+    /// The refusal of a book, if there is one.
+    fn refused(case: &Case) -> Option<Refusal> {
+        translate::translate(&case.words, &mut [0; LENT]).err()
+    }
+
+    #[test]
+    fn books_are_what_they_are_made_for() {
+        let grown = growth();
+        let grown = grown.iter().map(|(_, group)| group);
+        for group in worst().iter().chain(grown) {
+            assert!(!group.cases.is_empty(), "{}", group.name);
+            let refusal = match group.name.as_str() {
+                "refused at step 0" => Some(Refusal::new(10, &[0, 2])),
+                _ => None,
+            };
+            for case in &group.cases {
+                assert_eq!(refused(case), refusal, "{}", case.name);
+            }
+        }
+    }
+
+    #[test]
+    fn groups_of_a_folder() {
+        let groups = groups(Path::new("../books")).expect("the folder is there");
+        let names: Vec<&str> = groups.iter().map(|group| group.name.as_str()).collect();
+        assert_eq!(names.len(), 6, "{names:?}");
+        assert!(groups.iter().all(|group| !group.cases.is_empty()));
+        assert!(groups[0]
+            .cases
+            .iter()
+            .all(|case| case.name.starts_with("example-")));
     }
 }

@@ -82,13 +82,19 @@ pub fn svg(points: &[Point]) -> String {
     let middle = (LEFT + RIGHT) / 2.0;
     let below = "rows (parties and steps grow along, to 16 and 64)";
     put(text(middle, BOTTOM + 46.0, "middle", below));
-    for (name, colour, time) in [
+    // The names stand apart where the lines end close together.
+    let end = |point: &Point| (up.place(point.proved), up.place(point.host));
+    let (proved, host) = points.last().map_or((0.0, 0.0), end);
+    let shift = (20.0 - (proved - host).abs()).max(0.0) / 2.0;
+    let shift = if proved < host { -shift } else { shift };
+    for (name, colour, shift, time) in [
         (
             "proved",
             PROVED,
+            shift,
             (|point| point.proved) as fn(&Point) -> f64,
         ),
-        ("host", HOST, |point| point.host),
+        ("host", HOST, -shift, |point| point.host),
     ] {
         let place = |point: &Point| (across.place(point.rows as f64), up.place(time(point)));
         let places: Vec<(f64, f64)> = points.iter().map(place).collect();
@@ -107,7 +113,7 @@ pub fn svg(points: &[Point]) -> String {
             put(format!(
                 r#"<text x="{:.1}" y="{:.1}" fill="{colour}" font-weight="bold">{name}</text>"#,
                 x + 10.0,
-                y + 4.0
+                y + 4.0 + shift
             ));
         }
     }

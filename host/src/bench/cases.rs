@@ -95,7 +95,8 @@ pub fn growth() -> Vec<(usize, Group)> {
             name: format!("{rows} rows, random {number}"),
             words: book.words(),
         });
-        let name = format!("{rows} rows, {parties} parties, {steps} steps");
+        let many = if steps == 1 { "" } else { "s" };
+        let name = format!("{rows} rows, {parties} parties, {steps} step{many}");
         let cases = cases.collect();
         (rows, group(&name, cases, |case| accepts(&case.words)))
     });
@@ -110,7 +111,8 @@ pub fn worst() -> Vec<Group> {
         ("messages that are stored", stored()),
         ("alike rows", alike()),
         ("halves in a chain", chain()),
-        ("partner in the last row", far_partner()),
+        ("partner in the last row", far_partner(1)),
+        ("the same, 204 deep", far_partner(204)),
         ("ciphers in ciphers", nested()),
         ("many known rows", known()),
         ("long images", long()),
@@ -214,14 +216,18 @@ fn chain() -> Book {
     }
 }
 
-/// One cipher in all 512 messages, under a public half. The receiver can't build that half and opens the cipher every time with the
-/// private one, which is the last row, behind private halves of other rows.
-fn far_partner() -> Book {
+/// The same cipher in all 512 messages, with so many ciphers in one another, all under one public half. The receiver can't build that
+/// half and opens them every time with the private one, which is the last row, behind private halves of other rows.
+fn far_partner(depth: u32) -> Book {
     let mut rows = atoms(3);
     rows.push(row(PUBLIC, &[2]));
     rows.push(row(CIPHER, &[3, 0]));
+    for inner in 4..3 + depth {
+        rows.push(row(CIPHER, &[3, inner]));
+    }
+    let outermost = 3 + depth;
     rows.push(row(PRIVATE, &[0]));
-    for number in 5..MOST_ROWS - 2 {
+    for number in outermost + 1..MOST_ROWS - 2 {
         rows.push(row(PRIVATE, &[number]));
     }
     rows.push(row(PRIVATE, &[2]));
@@ -230,7 +236,7 @@ fn far_partner() -> Book {
     Book {
         rows,
         parties,
-        steps: steps(|_| vec![4; MOST_MESSAGES as usize]),
+        steps: steps(|_| vec![outermost; MOST_MESSAGES as usize]),
     }
 }
 
@@ -317,6 +323,7 @@ mod tests {
             assert!(!group.cases.is_empty(), "{}", group.name);
             let refusal = match group.name.as_str() {
                 "refused at step 0" => Some(Refusal::new(10, &[0, 2])),
+                "the same, 204 deep" => Some(Refusal::new(12, &[1_048_007])),
                 _ => None,
             };
             for case in &group.cases {

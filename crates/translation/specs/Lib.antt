@@ -5,6 +5,7 @@ pub mod Program
 pub mod Narration
 pub mod Taken
 pub mod Rows
+pub mod Stored
 pub mod Listing
 pub mod Places
 pub mod Spelling

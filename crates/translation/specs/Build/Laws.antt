@@ -10,7 +10,7 @@ use Rattle.terms.specs.Term.{Term, Terms, size, sizes, Occurs, OccursIn}
 use Rattle.terms.specs.Term.Laws.{size-two}
 use Rattle.terms.specs.Image.{words, wordsOf}
 use Rattle.translation.specs.Dictionary.{Held, Dictionary, isHeld, enter, Derives, DerivesAll}
-use Rattle.translation.specs.Dictionary.Laws.{enter-same, enter-ind, Grows, derivesAll-from}
+use Rattle.translation.specs.Dictionary.Laws.{enter-same, enter-ind, Grows, enter-grows, derivesAll-from}
 use Rattle.translation.specs.Build.{Built, builtOr, build, buildAll}
 
 abbrev pub NoRepeat : List ℕ → Type 0
@@ -56,7 +56,7 @@ making-then {a = a} {b = b} p q =
 making-one : (r : ℕ) (δ : Dictionary) → isHeld (δ (Term.atom r)) ≡ false → Making δ (enter δ (Term.atom r) Held.itself) (r ∷ []) (λ q. Occurs q (Term.atom r))
 making-one r δ e =
     record {
-      grows = λ u h. enter-ind (λ x. isHeld x ≡ true) δ (Term.atom r) Held.itself u (λ p. refl) (λ p. h);
+      grows = enter-grows δ (Term.atom r) Held.itself refl;
       fresh = λ q m h. true≢false (sym h ∙ ap (λ z. isHeld (δ (Term.atom z))) (List·Memᴰ·eq-of-singleton m) ∙ e);
       gained = λ q m. subst (λ z. Holds (enter δ (Term.atom r) Held.itself) (Term.atom z)) (sym (List·Memᴰ·eq-of-singleton m)) (ap isHeld (enter-same δ (Term.atom r) Held.itself));
       once = (λ m. List·Memᴰ·not-nil m, tt);

@@ -93,6 +93,10 @@ module _ (δ : Dictionary) where
 abbrev pub Grows : Dictionary → Dictionary → Type 0
 Grows δ ε = (u : Term) → isHeld (δ u) ≡ true → isHeld (ε u) ≡ true
 
+-- nothing is taken out
+pub enter-grows : (δ : Dictionary) (t : Term) (h : Held) → isHeld h ≡ true → Grows δ (enter δ t h)
+enter-grows δ t h e u k = enter-ind (λ x. isHeld x ≡ true) δ t h u (λ p. e) (λ p. k)
+
 module _ (free : ℕ → Type 0) {δ ε : Dictionary} (more : (u : Term) → isHeld (δ u) ≡ true → Derives free ε u) where
   mutual
     -- a derivation from what can itself be derived

@@ -27,6 +27,13 @@ pub rule-ind : (P : Rule → Type 0) (δ : Dictionary) (t : Term) → (buildable
 unfolding rule
 rule-ind P δ t f g h = pick-ind P (buildable δ t) _ _ f (λ e. pick-ind P (canOpen δ t) _ _ g (λ d. h))
 
+-- what holds of what each rule does holds of what the rule that fits does
+pub by-rule : (P : Did → Type 0) (r : Rule) (c o s : Did) → P c → P o → P s → P (byRule r c o s)
+unfolding byRule
+by-rule P Rule.compare c o s f g h = f
+by-rule P Rule.unlock c o s f g h = g
+by-rule P Rule.store c o s f g h = h
+
 -- ---- receive
 -- what opening adds; a term that is no cipher is never opened
 unfoldable pub opening : Term → ℕ → Dictionary → ℕ → Did

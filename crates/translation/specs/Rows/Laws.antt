@@ -17,7 +17,8 @@ use Rattle.book.specs.Valid.Laws.{formed}
 use Rattle.translation.specs.Dictionary.{Held, Dictionary, isHeld, enter, start, imageOr, image, images}
 use Rattle.translation.specs.Dictionary.Laws.{enter-ind}
 use Rattle.translation.specs.Build.{Built, builtOr, build, buildAll}
-use Rattle.translation.specs.Receive.{Event, Did, nothing, followed, Rule, byRule, compared, kept, opened, receive, receiveAll}
+use Rattle.translation.specs.Receive.{Event, Did, nothing, followed, compared, kept, opened, receive, receiveAll}
+use Rattle.translation.specs.Receive.Laws.{by-rule}
 use Rattle.translation.specs.Program.{Step, Act, own, arrived, act, walk, walked, program}
 use Rattle.translation.specs.Narration.{stepAt, narration, knownTo, programOf}
 use Rattle.translation.specs.Rows.{Names, NamesAll, StoredAll, ProgramNames}
@@ -108,12 +109,6 @@ module _ (tab : Table) (n : ℕ) (ok : Formed n tab) where
   nothing-rows : (δ : Dictionary) → HeldRows δ → DidRows (nothing δ)
   nothing-rows δ d = record { holds = d; named = ProgramNames.nil; stored = tt }
 
-  by-rows : (r : Rule) (c o s : Did) → DidRows c → DidRows o → DidRows s → DidRows (byRule r c o s)
-  unfolding byRule
-  by-rows Rule.compare c o s x y z = x
-  by-rows Rule.unlock c o s x y z = y
-  by-rows Rule.store c o s x y z = z
-
   partner-occurs : (k : Term) (q : ℕ) → Occurs q (partner k) → Occurs q k
   unfolding partner
   partner-occurs (Term.atom r) q o = o
@@ -137,15 +132,15 @@ module _ (tab : Table) (n : ℕ) (ok : Formed n tab) where
     unfolding receive
 
     receive-rows : (t : Term) (p : ℕ) (δ : Dictionary) (m : ℕ) → IsRow tab n t → HeldRows δ → DidRows (receive t p δ m)
-    receive-rows (Term.atom r) p δ m i d = by-rows _ _ _ _ (compared-rows δ d p _ i) (nothing-rows δ d) (kept-rows δ d p _ i)
-    receive-rows (Term.operation g ts) p δ m i d = by-rows _ _ _ _ (compared-rows δ d p _ i) (nothing-rows δ d) (kept-rows δ d p _ i)
+    receive-rows (Term.atom r) p δ m i d = by-rule DidRows _ _ _ _ (compared-rows δ d p _ i) (nothing-rows δ d) (kept-rows δ d p _ i)
+    receive-rows (Term.operation g ts) p δ m i d = by-rule DidRows _ _ _ _ (compared-rows δ d p _ i) (nothing-rows δ d) (kept-rows δ d p _ i)
     receive-rows (Term.cipher k ts) p δ m i d =
         let ps = parts-rows n tab ok _ i in
-        by-rows _ _ _ _ (compared-rows δ d p _ i)
+        by-rule DidRows _ _ _ _ (compared-rows δ d p _ i)
         (followed-rows (opened k ts p δ m) _ (opened-rows δ d p k ts m (ps .0)) (receiveAll-rows ts m δ _ (ps .1) d))
         (kept-rows δ d p _ i)
-    receive-rows (Term.public t) p δ m i d = by-rows _ _ _ _ (compared-rows δ d p _ i) (nothing-rows δ d) (kept-rows δ d p _ i)
-    receive-rows (Term.private t) p δ m i d = by-rows _ _ _ _ (compared-rows δ d p _ i) (nothing-rows δ d) (kept-rows δ d p _ i)
+    receive-rows (Term.public t) p δ m i d = by-rule DidRows _ _ _ _ (compared-rows δ d p _ i) (nothing-rows δ d) (kept-rows δ d p _ i)
+    receive-rows (Term.private t) p δ m i d = by-rule DidRows _ _ _ _ (compared-rows δ d p _ i) (nothing-rows δ d) (kept-rows δ d p _ i)
 
     receiveAll-rows : (ts : Terms) (p : ℕ) (δ : Dictionary) (m : ℕ) → AllRows tab n ts → HeldRows δ → DidRows (receiveAll ts p δ m)
     receiveAll-rows Terms.nil p δ m i d = nothing-rows δ d
@@ -209,7 +204,7 @@ module _ (tab : Table) (n : ℕ) (ok : Formed n tab) where
 
 -- ---- for a valid book
 module _ (b : List ℕ) (v : Valid b) where
-  steps-rows : (i m : ℕ) → i + m ≤ steps b → StepsRows (table b) (rows b) (formed b v) (values (stepAt b) i m)
+  pub steps-rows : (i m : ℕ) → i + m ≤ steps b → StepsRows (table b) (rows b) (formed b v) (values (stepAt b) i m)
   unfolding values stepAt
   steps-rows i zero h = tt
   steps-rows i (suc m) h = (

@@ -19,8 +19,10 @@ use Rattle.translation.specs.Dictionary.{Held, Dictionary, image}
 use Rattle.translation.specs.Dictionary.Laws.{image-short}
 use Rattle.translation.specs.Build.{Built, builtOr, build, buildAll}
 use Rattle.translation.specs.Build.Laws.{buildAll-short}
-use Rattle.translation.specs.Receive.{Event, Did, nothing, followed, Rule, rule, byRule, compared, kept, opened, receive, receiveAll}
+use Rattle.translation.specs.Receive.{Event, Did, nothing, followed, rule, byRule, compared, kept, opened, receive, receiveAll}
+use Rattle.translation.specs.Receive.Laws.{by-rule}
 use Rattle.translation.specs.Program.{sent, arrived}
+use Rattle.translation.specs.Stored.Laws.{walked-few}
 use Rattle.translation.specs.Listing.{pairWords, eventWords, programWords, heads, bodies, framed, partWords, listing}
 use Rattle.translation.specs.Spelling.Laws.{heads-length}
 use Rattle.walking.specs.Walk.{stepDid, before}
@@ -35,12 +37,6 @@ size-partner (Term.operation g ts) = refl
 size-partner (Term.cipher k ts) = refl
 size-partner (Term.public t) = refl
 size-partner (Term.private t) = refl
-
-by-rule : (P : Did → Type 0) (r : Rule) (c o s : Did) → P c → P o → P s → P (byRule r c o s)
-unfolding byRule
-by-rule P Rule.compare c o s f g h = f
-by-rule P Rule.unlock c o s f g h = g
-by-rule P Rule.store c o s f g h = h
 
 module _ (row : Term → ℕ) where
   program-then : (es fs : List Event) → length (programWords row (es ++ fs)) ≡ length (programWords row es) + length (programWords row fs)
@@ -273,6 +269,11 @@ module _ (b : List ℕ) (v : Valid b) where
 
   pub stored-room : (p i : ℕ) → i < steps b → length (before b p i .stored) + stepSize ≤ mostPlaceholders
   stored-room p i h = let k = before-within (λ t. 0) p i (omega arith) .stored in let m = valid-headed b v .fewSteps in omega arith
+
+  -- and in all a party stores no more terms than there are rows
+  pub stored-few : (p i : ℕ) → i ≤ steps b → length (before b p i .stored) ≤ rows b
+  unfolding before
+  stored-few p i h = walked-few b v _ p i h
 
 -- ---- the words of a program and of a listing
 pub pairs-length : (row : Term → ℕ) (ps : List (Term × ℕ)) → length (pairWords row ps) ≡ 2 * length ps

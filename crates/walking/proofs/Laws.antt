@@ -2,6 +2,7 @@
 use Prim.Native.Nat.{ℕ, _+_, _*_, _/_, _≤_, _<_}
 use native.Mathlib.Nat.{add-zero}
 use native.Mathlib.Numerals.{add-one}
+use native.Mathlib.Decide.{ℕ-discrete}
 use native.Mathlib.Omega.{arith}
 use mathlib.Core.List.{List, [], _∷_, _++_, map, append-nil}
 use mathlib.Core.Path.{_≡_, refl, sym, ap, ap₂, _∙_}
@@ -32,8 +33,8 @@ use Rattle.receiving.specs.Turn.{inTurn}
 use Rattle.receiving.specs.Walk.{Walked}
 use Rattle.walking.specs.declared.Acted.{Acted}
 use Rattle.walking.specs.declared.Passed.{Passed}
-use Rattle.walking.specs.Walk.{stepDid, before}
-use Rattle.walking.specs.Walk.Laws.{step-sends, step-receives, step-idle, before-none, before-more, before-all}
+use Rattle.walking.specs.Walk.{stepDid, before, NextOwn}
+use Rattle.walking.specs.Walk.Laws.{step-sends, step-receives, step-idle, before-none, before-more, before-skip, before-all}
 use Rattle.translation.specs.Listing.Laws.{program-append}
 use Rattle.holding.specs.Doing.Laws.{doing-none, doing-then, doing-as}
 use Rattle.walking.specs.Long.{Within, mostPlaceholders, mostEvents}
@@ -162,3 +163,15 @@ module _ (b : List ℕ) (v : Valid b) (p : ℕ) (h : p < parties b) where
       let u : r .here .dictionary .kept / 2 ≡ length (before b p (steps b) .stored) = omega arith in
       wrote-as (wrote-then (g .along .wrote) (wrote-then (rw (d ∙ u) at w) (f .along .keeps)))
       (ap (programWords (rowOf b)) (before-all b p h) ∙ program-append (rowOf b) (before b p (steps b) .events) _ ∙ ap (λ l. programWords (rowOf b) (before b p (steps b) .events) ++ l) (append-nil _))
+
+-- ---- the party's next step
+module _ (b : List ℕ) (p : ℕ) where
+  abbrev Idle : ℕ → Type 0
+  Idle k = (sender b k ≡ p → ⊥) × (receiver b k ≡ p → ⊥)
+
+  pub idle-on : (i j : ℕ) → ((k : ℕ) → i ≤ k → k < j → Idle k) → Idle j → (k : ℕ) → i ≤ k → k < j + 1 → Idle k
+  idle-on i j h n k x y = elim (ℕ-discrete k j) [ yes z ↦ rw z n | no z ↦ h k x (omega arith) ]
+
+-- nothing is added before it
+pub along-skip : {b : List ℕ} {p i j k a : ℕ} {log logAfter out outAfter : List ℕ} {x : Received} → NextOwn b p i j → Along b p i k log logAfter a out outAfter x → Along b p j k log logAfter a out outAfter x
+along-skip {b} {p} n g = doing-as g (before-skip b p n)

@@ -23,7 +23,7 @@ ghost use Rattle.translation.specs.Listing.{partWords};
 ghost use Rattle.holding.specs.View.{view};
 ghost use Rattle.claims.specs.Claims.{Claims};
 ghost use Rattle.receiving.specs.Bound.{limit};
-ghost use Rattle.walking.specs.Walk.{stepDid};
+ghost use Rattle.walking.specs.Walk.{stepDid, NextOwn};
 ghost use Rattle.walking.specs.Found.{FoundBefore};
 ghost use Rattle.walking.specs.Walking.{Acting, Walking};
 
@@ -98,6 +98,26 @@ fn act(
     }
 }
 
+// The first step from `from` on that the party sends or receives, or the number of steps: a party's dictionary is not handed on
+// where nothing is to do.
+fn next_own(book: &[u32], party: u32, from: u32) -> u32
+    requires { ⌜ Valid (now book) × (from ≤ stepsOf (now book)) ⌝ }
+    ensures { λ r. ⌜ NextOwn (now (book .entry)) party from r ⌝ }
+{
+    let n = steps(book);
+    let mut i = from;
+    while i < n {
+        if step_sender(book, i) == party {
+            return i;
+        }
+        if step_receiver(book, i) == party {
+            return i;
+        }
+        i += 1;
+    }
+    i
+}
+
 // All steps, for one party: its events' words go to `out`, what it stores to `log`.
 pub fn walk(
     book: &[u32],
@@ -117,7 +137,7 @@ pub fn walk(
     let mut here = Received { dictionary, at };
     let mut step = n;
     let mut taken = 0;
-    let mut i = 0;
+    let mut i = next_own(book, party, 0);
     while i < n {
         let acted = act(book, since, here, party, i, log, out);
         if taken == 0 {
@@ -125,7 +145,7 @@ pub fn walk(
             taken = acted.taken;
         }
         here = acted.here;
-        i += 1;
+        i = next_own(book, party, i + 1);
     }
     Passed { here, step, taken }
 }

@@ -1,6 +1,7 @@
 -- Laws of the first step at which a taken atom would be made. Assumes nothing.
 use Prim.Native.Nat.{ℕ, _+_, _<_}
 use native.Mathlib.Nat.{zero-add}
+use native.Mathlib.Decide.{decLt}
 use native.Mathlib.Omega.{arith}
 use mathlib.Core.Bool.{Bool, true, false}
 use mathlib.Core.List.{List}
@@ -20,8 +21,8 @@ use Rattle.holding.specs.Since.{takenIn}
 use Rattle.sending.specs.Sending.{firstTaken as firstIn}
 use Rattle.sending.specs.Sending.Laws.{some-taken, none-taken}
 use Rattle.claims.specs.Claims.{Claims}
-use Rattle.walking.specs.Walk.{before, refusedFor}
-use Rattle.walking.specs.Walk.Laws.{before-holds}
+use Rattle.walking.specs.Walk.{before, refusedFor, NextOwn}
+use Rattle.walking.specs.Walk.Laws.{before-holds, refused-idle}
 use Rattle.walking.specs.Found.{foundAt, FoundBefore}
 
 module _ (b : List ℕ) (s : ℕ) (h : s < steps b) where
@@ -84,3 +85,9 @@ module _ (b : List ℕ) (p i : ℕ) where
 
   pub found-now : {s t x u v : ℕ} → FoundBefore b p i s t → t ≡ 0 → x ≡ pick (refusedFor b p i) (firstTaken (narration b) i + 1) 0 → u ≡ i → v ≡ x → FoundBefore b p (i + 1) u v
   found-now f z e c d = rw (c, d) (now f z e)
+
+-- ---- steps in which the party has no part
+pub found-skip : {b : List ℕ} {p i r s t : ℕ} → NextOwn b p i r → FoundBefore b p i s t → FoundBefore b p r s t
+found-skip {b} {p} {i} {r} w (FoundBefore.none n) =
+    FoundBefore.none (λ k l. elim (decLt k i) [ yes h ↦ n k h | no h ↦ refused-idle b p k (w .idle k (omega arith) l .0) ])
+found-skip w (FoundBefore.one {s = s} l r n) = let f = w .from in FoundBefore.one {s = s} (omega arith) r n

@@ -1,11 +1,13 @@
 -- Laws of a party's walk. Assumes nothing.
-use Prim.Native.Nat.{ℕ, zero, suc, _+_, _≤_, _<_}
-use native.Mathlib.Nat.{zero-add}
+use Prim.Native.Nat.{ℕ, zero, suc, _+_, _-_, _≤_, _<_}
+use native.Mathlib.Nat.{zero-add, add-zero, add-suc}
 use native.Mathlib.Omega.{arith}
 use mathlib.Core.List.{List, [], _∷_, _++_, map, append-nil}
-use mathlib.Core.Path.{_≡_, refl, ap, ap₂, _∙_}
+use mathlib.Core.Bool.{false}
+use mathlib.Core.Path.{_≡_, refl, sym, ap, ap₂, _∙_}
 use lib.ListN.{length, take}
 use borrow.Author.Tests.{eq-eqb, ne-eqb}
+use Rattle.words.specs.Choice.Laws.{pick-false}
 use Rattle.words.specs.Run.{values}
 use Rattle.words.specs.Run.Laws.{values-last, values-length, values-getD}
 use Rattle.terms.specs.Term.{count}
@@ -18,7 +20,7 @@ use Rattle.translation.specs.Program.{Act, own, act, walk, walked, program, sen
 use Rattle.translation.specs.Program.Laws.{own-sends, own-receives, own-idle, own-append, walk-append}
 use Rattle.translation.specs.Narration.{stepAt, narration, knownTo, programOf}
 use Rattle.translation.specs.Taken.{holdsBefore}
-use Rattle.walking.specs.Walk.{stepDid, before}
+use Rattle.walking.specs.Walk.{stepDid, before, refusedFor, NextOwn}
 
 -- ---- values: the first of them
 values-take : {X : Type 0} (f : ℕ → X) (i n k : ℕ) → k ≤ n → take k (values f i n) ≡ values f i k
@@ -86,3 +88,23 @@ module _ (b : List ℕ) (p : ℕ) where
     pub before-holds : (i : ℕ) → i ≤ steps b → holdsBefore (narration b) p i ≡ before b p i .dictionary
     unfolding holdsBefore before narration
     before-holds i l = ap₂ (λ k s. walked k (own p 0 s) .dictionary) knows (values-take (stepAt b) 0 (steps b) i l)
+
+-- ---- steps in which the party has no part
+module _ (b : List ℕ) (p : ℕ) where
+  before-idle : (i d : ℕ) → ((k : ℕ) → i ≤ k → k < i + d → (sender b k ≡ p → ⊥) × (receiver b k ≡ p → ⊥)) → before b p (i + d) ≡ before b p i
+  before-idle i zero h = ap (before b p) (add-zero i)
+  before-idle i (suc d) h =
+      let n = h (i + d) (omega arith) (omega arith) in
+      let g = before b p (i + d) in
+      ap (before b p) (add-suc i d) ∙ before-more b p (i + d) ∙ ap (followed g) (step-idle b p (i + d) (g .dictionary) (length (g .given)) (n .0) (n .1)) ∙ followed-nothing g
+      ∙ before-idle i d (λ k x y. h k x (omega arith))
+
+  pub before-skip : {i r : ℕ} → NextOwn b p i r → before b p r ≡ before b p i
+  before-skip {i} {r} n =
+      let l = n .from in
+      let e : i + (r - i) ≡ r = omega arith in
+      ap (before b p) (sym e) ∙ before-idle i (r - i) (λ k x y. n .idle k x (omega arith))
+
+  pub refused-idle : (k : ℕ) → (sender b k ≡ p → ⊥) → refusedFor b p k ≡ false
+  unfolding refusedFor
+  refused-idle k n = pick-false _ _ _ (ne-eqb (sender b k) p n)

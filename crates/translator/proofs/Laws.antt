@@ -4,19 +4,22 @@ use mathlib.Core.List.{List, [], _∷_, _++_, append-nil, append-assoc}
 use mathlib.Core.Path.{_≡_, sym, ap, ap₂, _∙_}
 use native.Mathlib.Omega.{arith}
 use native.Mathlib.Nat.{add-zero}
-use lib.ListN.{length, length-append}
+use lib.ListN.{length, take, length-append, length-take}
 use Rattle.words.specs.Overlay.{Wrote}
-use Rattle.words.specs.Overlay.Laws.{wrote-then, wrote-cons, wrote-none, wrote-as}
+use Rattle.words.specs.Overlay.Laws.{wrote-then, wrote-cons, wrote-none, wrote-as, wrote-take}
 use Rattle.words.specs.Run.{values}
 use Rattle.words.specs.Run.Laws.{values-last, values-length}
 use Rattle.book.specs.Layout.{parties, steps}
 use Rattle.book.specs.Valid.{Valid}
+use Rattle.book.specs.Headed.Laws.{valid-headed}
 use Rattle.translation.specs.Listing.{heads, bodies, framed, partWords, listing}
+use Rattle.translation.specs.Spelling.Laws.{heads-length}
 use Rattle.walking.specs.Found.{FoundBefore}
 use Rattle.walking.specs.Long.{mostPart, mostListing}
 use Rattle.walking.specs.Long.Laws.{part-short, offset-short, listing-length}
 use Rattle.translator.specs.Found.{FoundAmong, Sooner}
 use Rattle.translator.specs.Found.Laws.{among-none, among-more}
+use Rattle.translator.specs.Heads.{headsOf}
 
 -- ---- one part more
 bodies-last : (ls : List (List ℕ)) (l : List ℕ) → bodies (ls ++ l ∷ []) ≡ bodies ls ++ l
@@ -100,9 +103,23 @@ module _ (b : List ℕ) (n : ℕ) (e : n ≡ parties b) where
   bodies-end q l h = let f = h .few in let z : q ≡ parties b = omega arith in rw z at (h .wrote)
 
 -- ---- the whole
-pub listing-wrote : (b : List ℕ) (n : ℕ) {old one two new : List ℕ} {p q r : ℕ} → n ≡ parties b → Wrote (n ∷ []) old 0 one p → Wrote (heads (1 + 2 * parties b) (values (partWords b) 0 (parties b))) one p two q
+heads-count : (b : List ℕ) → length (headsOf b) ≡ 2 * parties b
+heads-count b = heads-length (1 + 2 * parties b) (values (partWords b) 0 (parties b)) ∙ ap (λ k. 2 * k) (values-length (partWords b) 0 (parties b))
+
+-- the heads that a survey has found
+pub heads-found : (b : List ℕ) → Valid b → {o new : List ℕ} {r : ℕ} → length o ≡ 32 → Wrote (headsOf b) o 0 new r → take (2 * parties b) new ≡ headsOf b
+heads-found b v {new = new} l w =
+    let c = heads-count b in
+    let f = valid-headed b v .fewParties in
+    ap (λ k. take k new) (sym c) ∙ wrote-take w (omega arith)
+
+-- they are all there
+pub heads-there : (b hs : List ℕ) → take (2 * parties b) hs ≡ headsOf b → 2 * parties b ≤ length hs
+heads-there b hs h = let c = heads-count b in let l = ap length h in let k = length-take (2 * parties b) hs in omega arith
+
+pub listing-wrote : (b hs : List ℕ) (n m : ℕ) {old one two new : List ℕ} {p q r : ℕ} → n ≡ parties b → m ≡ n → take (2 * parties b) hs ≡ headsOf b → Wrote (n ∷ []) old 0 one p → Wrote (take (2 * m) hs) one p two q
     → Wrote (bodies (values (partWords b) 0 (parties b))) two q new r → Wrote (listing b) old 0 new r
 unfolding listing framed
-listing-wrote b n e x y z =
-    wrote-as (wrote-cons x (wrote-then y z)) (ap (λ k. k ∷ (heads (1 + 2 * k) (parts b (parties b)) ++ bodies (parts b (parties b)))) (values-length (partWords b) 0 (parties b))
-    ∙ ap (λ k. k ∷ (heads (1 + 2 * parties b) (parts b (parties b)) ++ bodies (parts b (parties b)))) (sym e))
+listing-wrote b hs n m e f h x y z =
+    wrote-as (wrote-cons x (wrote-then (wrote-as y (sym (ap (λ k. take (2 * k) hs) (f ∙ e) ∙ h))) z)) (ap (λ k. k ∷ (heads (1 + 2 * k) (parts b (parties b)) ++ bodies (parts b (parties b)))) (values-length (partWords b) 0 (parties b))
+    ∙ ap (λ k. k ∷ (headsOf b ++ bodies (parts b (parties b)))) (sym e))

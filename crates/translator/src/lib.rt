@@ -8,20 +8,22 @@ use translation::Answer;
 use walking::measure;
 use walking::write_program;
 use words::put;
+use words::put_all;
 use words::put2;
 use words::wide;
 ghost use mathlib.Core.Path.{_≡_};
-ghost use Prim.Native.Nat.{_+_, _*_};
-ghost use lib.ListN.{length};
+ghost use Prim.Native.Nat.{_*_};
+ghost use lib.ListN.{length, take};
 ghost use Rattle.words.specs.Overlay.{Wrote};
 ghost use Rattle.words.specs.Run.{values};
 ghost use Rattle.book.specs.Layout.{parties as partiesOf};
 ghost use Rattle.book.specs.Valid.{Valid};
 ghost use Rattle.book.specs.Said.{readingSays};
-ghost use Rattle.translation.specs.Listing.{heads, bodies, partWords, listing};
+ghost use Rattle.translation.specs.Listing.{bodies, partWords, listing};
 ghost use Rattle.translation.specs.Outcome.{acceptance, outcome, came};
 ghost use Rattle.claims.specs.Claims.{Claims};
 ghost use Rattle.translator.specs.Found.{FoundAmong, Sooner};
+ghost use Rattle.translator.specs.Heads.{headsOf};
 
 // The first step at which some party would make a taken atom, and one more than the atom's row; 0 if there is no such step.
 struct Found {
@@ -32,6 +34,14 @@ struct Found {
 // Behind the heads: where the next word goes, where the last program ends, and the first step at which a taken atom would be made.
 struct Heads {
     at: usize,
+    end: usize,
+    step: u32,
+    taken: u32,
+}
+
+// What is known before anything is written: the heads, where the last program ends, and that step.
+struct Surveyed {
+    heads: [u32; 32],
     end: usize,
     step: u32,
     taken: u32,
@@ -62,7 +72,7 @@ fn sooner(step: u32, taken: u32, other: u32, found: u32) -> Found
 // Offset and count of each party's program; the first begins behind them.
 fn write_heads(book: &[u32], since: &[u32; 1024], out: &mut [u32], at: usize) -> Heads
     requires { ⌜ Valid (now book) × Claims (now book) (now since) ⌝ }
-    ensures { λ r. ⌜ Wrote (heads (1 + 2 * partiesOf (now (book .entry))) (values (partWords (now (book .entry))) 0 (partiesOf (now (book .entry))))) (now (out .entry)) at (now (out .exit)) (r .at) × (r .end ≡ length (listing (now (book .entry)))) × FoundAmong (now (book .entry)) (partiesOf (now (book .entry))) (r .step) (r .taken) ⌝ }
+    ensures { λ r. ⌜ Wrote (headsOf (now (book .entry))) (now (out .entry)) at (now (out .exit)) (r .at) × (r .end ≡ length (listing (now (book .entry)))) × FoundAmong (now (book .entry)) (partiesOf (now (book .entry))) (r .step) (r .taken) ⌝ }
 {
     let n = parties(book);
     let mut next = at;
@@ -102,23 +112,30 @@ fn write_bodies(book: &[u32], since: &[u32; 1024], out: &mut [u32], at: usize) -
     next
 }
 
-// The whole output.
-fn write_listing(book: &[u32], since: &[u32; 1024], out: &mut [u32]) -> usize
-    requires { ⌜ Valid (now book) × Claims (now book) (now since) ⌝ }
+// The whole output: its heads were found before.
+fn write_listing(book: &[u32], since: &[u32; 1024], heads: &[u32], out: &mut [u32]) -> usize
+    requires { ⌜ Valid (now book) × Claims (now book) (now since) × (take (2 * partiesOf (now book)) (now heads) ≡ headsOf (now book)) ⌝ }
     ensures { λ r. ⌜ Wrote (listing (now (book .entry))) (now (out .entry)) 0 (now (out .exit)) r ⌝ }
 {
-    let first = put(out, 0, parties(book));
-    let heads = write_heads(book, since, out, first);
-    write_bodies(book, since, out, heads.at)
+    let n = parties(book);
+    let first = put(out, 0, n);
+    let next = put_all(out, first, heads, 2 * wide(n));
+    write_bodies(book, since, out, next)
 }
 
-// The output's length and the first taken atom, with nothing written.
-fn survey(book: &[u32], since: &[u32; 1024]) -> Heads
+// The heads, the output's length and the first taken atom, with nothing written to the output.
+fn survey(book: &[u32], since: &[u32; 1024]) -> Surveyed
     requires { ⌜ Valid (now book) × Claims (now book) (now since) ⌝ }
-    ensures { λ r. ⌜ (r .end ≡ length (listing (now (book .entry)))) × FoundAmong (now (book .entry)) (partiesOf (now (book .entry))) (r .step) (r .taken) ⌝ }
+    ensures { λ r. ⌜ (take (2 * partiesOf (now (book .entry))) (r .heads) ≡ headsOf (now (book .entry))) × (r .end ≡ length (listing (now (book .entry)))) × FoundAmong (now (book .entry)) (partiesOf (now (book .entry))) (r .step) (r .taken) ⌝ }
 {
-    let mut none = [0u32; 1];
-    write_heads(book, since, &mut none[0..0], 0)
+    let mut heads = [0u32; 32];
+    let all = write_heads(book, since, &mut heads, 0);
+    Surveyed {
+        heads,
+        end: all.end,
+        step: all.step,
+        taken: all.taken,
+    }
 }
 
 // Refusals 10 and 12, or the output.
@@ -134,7 +151,8 @@ fn write_valid(book: &[u32], out: &mut [u32]) -> Answer
     if out.len() < all.end {
         return Answer::Refused(Refusal::Room(all.end));
     }
-    let n = write_listing(book, &since, out);
+    let heads = all.heads;
+    let n = write_listing(book, &since, &heads, out);
     Answer::Written(n)
 }
 

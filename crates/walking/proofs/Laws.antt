@@ -6,16 +6,17 @@ use native.Mathlib.Decide.{ℕ-discrete}
 use native.Mathlib.Omega.{arith}
 use mathlib.Core.List.{List, [], _∷_, _++_, map, append-nil}
 use mathlib.Core.Path.{_≡_, refl, sym, ap, ap₂, _∙_}
-use lib.ListN.{length, length-append, length-map}
+use lib.ListN.{length, take, length-append, length-map}
 use borrow.Author.Tests.{eq-eqb, ne-eqb}
 use Rattle.words.specs.Choice.Laws.{pick-true, pick-false}
 use Rattle.words.specs.Run.Laws.{run-length}
 use Rattle.words.specs.Overlay.{Wrote}
-use Rattle.words.specs.Overlay.Laws.{wrote-none, wrote-then, wrote-as}
+use Rattle.words.specs.Overlay.Laws.{wrote-none, wrote-then, wrote-as, wrote-take}
 use Rattle.terms.specs.Term.{count}
 use Rattle.terms.specs.Term.Laws.{count-gathered}
 use Rattle.terms.specs.Table.{term, terms}
 use Rattle.book.specs.Layout.{table, parties, steps, sender, receiver, stepFirst, stepCount, known, messages, listAt}
+use Rattle.book.specs.Headed.Laws.{valid-headed}
 use Rattle.book.specs.Valid.{Valid}
 use Rattle.translation.specs.Dictionary.{start}
 use Rattle.translation.specs.Build.{buildAll}
@@ -38,7 +39,7 @@ use Rattle.walking.specs.Walk.Laws.{step-sends, step-receives, step-idle
 use Rattle.translation.specs.Listing.Laws.{program-append}
 use Rattle.holding.specs.Doing.Laws.{doing-none, doing-then, doing-as}
 use Rattle.walking.specs.Long.{Within, mostPlaceholders, mostEvents}
-use Rattle.walking.specs.Long.Laws.{all-within, pairs-length, part-length}
+use Rattle.walking.specs.Long.Laws.{all-within, pairs-length, part-length, stored-few}
 use Rattle.walking.specs.Found.{foundAt, FoundBefore}
 use Rattle.walking.specs.Walking.{Acting, Along, Walking}
 
@@ -153,15 +154,27 @@ module _ (b : List ℕ) (v : Valid b) (p : ℕ) (h : p < parties b) where
   pub measured : {log logAfter out outAfter : List ℕ} {r : Passed} → Walking b p 0 log logAfter 0 out outAfter r → r .here .at + 2 + r .here .dictionary .kept ≡ length (partWords b p)
   measured g = let a = ends-at g in let k = ends-kept g in let l = part-length b p h in omega arith
 
+  -- the pairs in the log: there is room for all of them
+  pub few-pairs : {logAfter out outAfter log : List ℕ} {a : ℕ} {r : Passed} → Walking b p 0 log logAfter a out outAfter r → r .here .dictionary .kept ≤ 2048
+  few-pairs g = let k = ends-kept g in let s = stored-few b v p (steps b) (omega arith) in let f = valid-headed b v .fewRows in omega arith
+
+  logged : {logAfter out outAfter log : List ℕ} {a : ℕ} {r : Passed} → length log ≡ 2048 → Walking b p 0 log logAfter a out outAfter r
+      → take (r .here .dictionary .kept) logAfter ≡ pairWords (rowOf b) (before b p (steps b) .stored)
+  logged {logAfter = logAfter} l g =
+      let n = pairs-length (rowOf b) (before b p (steps b) .stored) in
+      let f = few-pairs g in
+      let k = ends-kept g in
+      ap (λ i. take i logAfter) (k ∙ sym n) ∙ wrote-take (g .along .keeps) (omega arith)
+
   -- the events, END's first words, and the pairs behind them
-  pub programmed : {log logAfter out middle between outAfter other otherAfter : List ℕ} {a i m j : ℕ} {r q : Passed}
-      → Walking b p 0 log logAfter a out middle r → m ≡ r .here .dictionary .kept / 2 → Wrote (6 ∷ m ∷ []) middle (r .here .at) between i → Walking b p i between outAfter j other otherAfter q
-      → Wrote (partWords b p) out a outAfter (q .here .dictionary .kept)
+  pub programmed : {log logAfter out middle between outAfter : List ℕ} {a i m j : ℕ} {r : Passed}
+      → length log ≡ 2048 → Walking b p 0 log logAfter a out middle r → m ≡ r .here .dictionary .kept / 2 → Wrote (6 ∷ m ∷ []) middle (r .here .at) between i
+      → Wrote (take (r .here .dictionary .kept) logAfter) between i outAfter j → Wrote (partWords b p) out a outAfter j
   unfolding partWords programWords eventWords
-  programmed {r = r} g d w f =
+  programmed {r = r} l g d w f =
       let k = ends-kept g in
       let u : r .here .dictionary .kept / 2 ≡ length (before b p (steps b) .stored) = omega arith in
-      wrote-as (wrote-then (g .along .wrote) (wrote-then (rw (d ∙ u) at w) (f .along .keeps)))
+      wrote-as (wrote-then (g .along .wrote) (wrote-then (rw (d ∙ u) at w) (wrote-as f (sym (logged l g)))))
       (ap (programWords (rowOf b)) (before-all b p h) ∙ program-append (rowOf b) (before b p (steps b) .events) _ ∙ ap (λ l. programWords (rowOf b) (before b p (steps b) .events) ++ l) (append-nil _))
 
 -- ---- the party's next step

@@ -11,6 +11,7 @@ use receiving::Received;
 use receiving::receive_messages;
 use sending::send;
 use translation::Code;
+use words::put_all;
 use words::put2;
 use words::put4;
 ghost use mathlib.Core.Path.{_≡_};
@@ -172,7 +173,7 @@ pub fn measure(book: &[u32], since: &[u32; 1024], party: u32) -> Measured
     }
 }
 
-// A party's program: its events by one walk, and by a second one the pairs of its END, straight to their place.
+// A party's program. What it stores is kept beside it while its events are written, and follows behind them, in END.
 pub fn write_program(
     book: &[u32],
     since: &[u32; 1024],
@@ -183,14 +184,9 @@ pub fn write_program(
     requires { ⌜ Valid (now book) × Claims (now book) (now since) × (party < partiesOf (now book)) ⌝ }
     ensures { λ r. ⌜ Wrote (partWords (now (book .entry)) party) (now (out .entry)) at (now (out .exit)) r ⌝ }
 {
-    let mut none = [0u32; 1];
-    let events = walk(book, since, party, 0, &mut none[0..0], out, at);
-    let pairs = put2(
-        out,
-        events.here.at,
-        Code::END,
-        narrow(events.here.dictionary.kept / 2),
-    );
-    let end = walk(book, since, party, pairs, out, &mut none[0..0], 0);
-    end.here.dictionary.kept
+    let mut log = [0u32; 2048];
+    let events = walk(book, since, party, 0, &mut log, out, at);
+    let stored = events.here.dictionary.kept;
+    let pairs = put2(out, events.here.at, Code::END, narrow(stored / 2));
+    put_all(out, pairs, &log, stored)
 }

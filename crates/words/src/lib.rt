@@ -1,6 +1,7 @@
 ghost use mathlib.Core.Path.{_≡_};
 ghost use mathlib.Core.List.{[], _∷_};
-ghost use Prim.Native.Nat.{_^_, _<_};
+ghost use Prim.Native.Nat.{_^_, _≤_, _<_};
+ghost use lib.ListN.{length, take};
 ghost use Rattle.words.specs.Overlay.{Wrote};
 
 // A place in a lent slice, or past its end.
@@ -53,4 +54,18 @@ pub fn put4(out: &mut [u32], at: usize, t: u32, u: u32, v: u32, w: u32) -> usize
 {
     let next = put(out, at, t);
     put3(out, next, u, v, w)
+}
+
+// The same for the first n words of a slice.
+pub fn put_all(out: &mut [u32], at: usize, from: &[u32], n: usize) -> usize
+    requires { ⌜ n ≤ length (now from) ⌝ }
+    ensures { λ r. ⌜ Wrote (take n (now (from .entry))) (now (out .entry)) at (now (out .exit)) r ⌝ }
+{
+    let mut next = at;
+    let mut i = 0;
+    while i < n {
+        next = put(out, next, from[i]);
+        i += 1;
+    }
+    next
 }

@@ -1,5 +1,6 @@
 -- `translator::write_valid` meets its contract: refusal 10, then 12, and then the output. Assumes nothing.
 use Rattle.translator.specs.Came.{taken-came, room-came, output-came}
+use native.Mathlib.Omega.{arith}
 use borrow.Author.Needs.{needs}
 use Rattle.translator.proofs.write_valid.Statement.{statement}
 use Rattle.translator.proofs.write_valid.Tie as tie
@@ -10,9 +11,10 @@ write-valid-spec =
     (tie.spec
     (λ c κs. c .before .before .pre)  -- claims-requires
     (λ c κs. (c .before .before .before .before .pre, c .before .claims .ensures))  -- survey-requires
-    (λ c. search needs)  -- sub-t9
-    (λ c. taken-came _ (c .before .before .before .before .before .before .before .before .pre) _ _ (c .before .before .before .survey .ensures .1) _ (c .before .if1 .taken))  -- returns
-    (λ c. room-came _ (c .before .before .before .before .before .before .before .before .before .pre) _ _ (c .before .before .before .before .survey .ensures .1) _ (c .before .before .if1 .left) _ (c .before .before .before .before .survey .ensures .0) (c .if2 .taken))  -- returns-2
-    (λ c κs. (c .before .before .before .before .before .before .before .before .before .before .before .pre, c .before .before .before .before .before .before .before .before .claims .ensures))  -- write-listing-requires
+    (λ c. search needs)  -- sub-t10
+    (λ c. taken-came _ (c .before .before .before .before .before .before .before .before .pre) _ _ (c .before .before .before .survey .ensures .2) _ (c .before .if1 .taken))  -- returns
+    (λ c. room-came _ (c .before .before .before .before .before .before .before .before .before .pre) _ _ (c .before .before .before .before .survey .ensures .2) _ (c .before .before .if1 .left) _ (c .before .before .before .before .survey .ensures .1) (c .if2 .taken))  -- returns-2
+    (λ c. search needs)  -- slice-aggregate-write-listing
+    (λ c κs. (c .before .before .before .before .before .before .before .before .before .before .before .before .before .pre, c .before .before .before .before .before .before .before .before .before .before .claims .ensures, c .before .before .before .before .before .before .before .before .survey .ensures .0))  -- write-listing-requires
     (λ c. search needs)  -- same-length
-    (λ c. output-came _ (c .before .before .before .before .before .before .before .before .before .before .before .before .before .before .pre) _ _ (c .before .before .before .before .before .before .before .before .before .survey .ensures .1) _ (c .before .before .before .before .before .before .before .if1 .left) _ (c .before .before .before .before .before .before .before .before .before .survey .ensures .0) _ _ (c .before .before .before .before .before .if2 .left) (c .before .before .write-listing .ensures)))  -- returns-3
+    (λ c. output-came _ (c .before .before .before .before .before .before .before .before .before .before .before .before .before .before .before .before .pre) _ _ (c .before .before .before .before .before .before .before .before .before .before .before .survey .ensures .2) _ (c .before .before .before .before .before .before .before .before .before .if1 .left) _ (c .before .before .before .before .before .before .before .before .before .before .before .survey .ensures .1) _ _ (c .before .before .before .before .before .before .before .if2 .left) (c .before .before .write-listing .ensures)))  -- returns-3

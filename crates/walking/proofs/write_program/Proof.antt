@@ -1,5 +1,8 @@
--- `walking::write_program` meets its contract: the events, and END by a second walk. Assumes nothing.
-use Rattle.walking.proofs.Laws.{ends-kept, few-stored, programmed}
+-- `walking::write_program` meets its contract: the events, END's first words, and the pairs that the log has. Assumes nothing.
+use Rattle.words.specs.Overlay.Laws.{wrote-length}
+use mathlib.Core.Path.{refl}
+use Rattle.walking.specs.Long.Laws.{stored-few}
+use Rattle.walking.proofs.Laws.{few-pairs, programmed}
 use native.Mathlib.Omega.{arith}
 use borrow.Author.Needs.{needs}
 use Rattle.walking.proofs.write_program.Statement.{statement}
@@ -9,15 +12,11 @@ pub write-program-spec : {M : Type 1} → statement M
 write-program-spec =
     tie.close
     (tie.spec
-    (λ c. search needs)  -- sub-walk
-    (λ c. search needs)  -- part-none-start
-    (λ c. search needs)  -- part-none-end
-    (λ c κs. search needs)  -- walk-requires
-    (λ c κs. let k = ends-kept (c .before .before .before .before .before .before .before .before .before .before .args .book .now) (c .before .before .before .before .before .before .before .before .before .before .pre .0) (c .before .before .before .before .before .before .before .before .before .before .args .party) (c .before .before .before .before .before .before .before .before .before .before .pre .2) (c .before .before .before .before .before .walk .ensures) in let s = few-stored (c .before .before .before .before .before .before .before .before .before .before .args .book .now) (c .before .before .before .before .before .before .before .before .before .before .pre .0) (c .before .before .before .before .before .before .before .before .before .before .args .party) (c .before .before .before .before .before .before .before .before .before .before .pre .2) in omega arith)  -- narrow-requires
+    (λ c. search needs)  -- slice-aggregate-walk
+    (λ c κs. c .before .before .before .before .pre)  -- walk-requires
+    (λ c κs. let f = few-pairs (c .before .before .before .before .before .before .before .before .before .args .book .now) (c .before .before .before .before .before .before .before .before .before .pre .0) (c .before .before .before .before .before .before .before .before .before .args .party) (c .before .before .before .before .before .before .before .before .before .pre .2) (c .before .before .before .before .walk .ensures) in omega arith)  -- narrow-requires
     (λ c κs. search needs)  -- put2-requires
-    (λ c. search needs)  -- sub-walk-2
-    (λ c. search needs)  -- part-none-start-2
-    (λ c. search needs)  -- part-none-end-2
-    (λ c κs. search needs)  -- walk-requires-2
+    (λ c. search needs)  -- slice-aggregate-put-all
+    (λ c κs. let f = few-pairs (c .before .before .before .before .before .before .before .before .before .before .before .before .before .before .before .args .book .now) (c .before .before .before .before .before .before .before .before .before .before .before .before .before .before .before .pre .0) (c .before .before .before .before .before .before .before .before .before .before .before .before .before .before .before .args .party) (c .before .before .before .before .before .before .before .before .before .before .before .before .before .before .before .pre .2) (c .before .before .before .before .before .before .before .before .before .before .walk .ensures) in let l = wrote-length (c .before .before .before .before .before .before .before .before .before .before .walk .ensures .along .keeps) in omega arith)  -- put-all-requires
     (λ c. search needs)  -- same-length
-    (λ c. programmed (c .before .before .before .before .before .before .before .before .before .before .before .before .before .before .before .before .before .before .before .before .args .book .now) (c .before .before .before .before .before .before .before .before .before .before .before .before .before .before .before .before .before .before .before .before .pre .0) (c .before .before .before .before .before .before .before .before .before .before .before .before .before .before .before .before .before .before .before .before .args .party) (c .before .before .before .before .before .before .before .before .before .before .before .before .before .before .before .before .before .before .before .before .pre .2) (c .before .before .before .before .before .before .before .before .before .before .before .before .before .before .before .walk .ensures) (c .before .before .before .before .before .before .before .before .before .narrow .ensures) (c .before .before .before .before .before .before .before .before .put2 .ensures) (c .before .before .before .walk2 .ensures)))  -- returns
+    (λ c. programmed (c .before .before .before .before .before .before .before .before .before .before .before .before .before .before .before .before .before .before .args .book .now) (c .before .before .before .before .before .before .before .before .before .before .before .before .before .before .before .before .before .before .pre .0) (c .before .before .before .before .before .before .before .before .before .before .before .before .before .before .before .before .before .before .args .party) (c .before .before .before .before .before .before .before .before .before .before .before .before .before .before .before .before .before .before .pre .2) refl (c .before .before .before .before .before .before .before .before .before .before .before .before .before .walk .ensures) (c .before .before .before .before .before .before .before .before .narrow .ensures) (c .before .before .before .before .before .before .before .put2 .ensures) (c .before .before .put-all .ensures)))  -- returns

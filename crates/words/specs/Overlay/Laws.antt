@@ -5,8 +5,8 @@ use mathlib.Core.Path.{_≡_, refl, sym, ap, _∙_}
 use native.Mathlib.Omega.{arith}
 use native.Mathlib.Nat.{add-zero}
 use native.Mathlib.Decide.{decLe}
-use lib.ListN.{length, set, length-append}
-use lib.Seq.{sets, length-sets, set-out}
+use lib.ListN.{length, set, take, drop, length-append}
+use lib.Seq.{sets, sets-eq, length-sets, set-out, take-append-seam}
 use Rattle.words.specs.Overlay.{cap, forward, Wrote}
 
 -- ---- sets
@@ -69,3 +69,7 @@ wrote-length {ws} {o} {n} {a} f = rw (f .list) (length-sets o a ws)
 -- no two outcomes satisfy one writing
 pub wrote-one : {ws o m n : List ℕ} {a p r : ℕ} → Wrote ws o a m p → Wrote ws o a n r → (m ≡ n) × (p ≡ r)
 wrote-one f g = (f .list ∙ sym (g .list), f .next ∙ sym (g .next))
+
+-- what was written at the beginning is read there
+pub wrote-take : {ws o n : List ℕ} {r : ℕ} → Wrote ws o 0 n r → length ws ≤ length o → take (length ws) n ≡ ws
+wrote-take {ws} {o} w h = ap (take (length ws)) (w .list ∙ sets-eq ws o 0 (omega arith)) ∙ take-append-seam ws (drop (0 + length ws) o)

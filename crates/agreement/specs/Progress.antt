@@ -27,7 +27,7 @@ use Rattle.agreement.specs.Order.Laws.{sends-none, rising-sends, sends-t
 use Rattle.agreement.specs.Flow.{Posted, Flow}
 
 -- ---- events of a party's own
-data Own : Event → Type 0 where
+pub data Own : Event → Type 0 where
   new : {r : ℕ} → Own (Event.new r)
   sends : {s : ℕ} {is : Images} → Own (Event.sends s is)
   checks : {x : ℕ} {i : Image} → Own (Event.checks x i)
@@ -43,22 +43,22 @@ own-effect C (Own.opens {f = x}) v f g = opening-ind C x _ v f (λ w. g _ w)
 
 module _ (N : Narration) where
   -- ---- what a party's next event is: it is at END, waits, or has an event of its own
-  data Next (p : ℕ) : List Event → Type 0 where
+  pub data Next (p : ℕ) : List Event → Type 0 where
     ended : {es : List Event} → AtEnd es → Next p es
     waits : {s f n : ℕ} {es : List Event} → s < length (N .says) → receiverOf N s ≡ p → Rising N p (suc s) es → Next p (Event.receives s f n ∷ es)
     acts : {e : Event} {es : List Event} → Own e → Next p (e ∷ es)
 
-  rising-next : {p low : ℕ} {es : List Event} → Rising N p low es → Next p es
+  pub rising-next : {p low : ℕ} {es : List Event} → Rising N p low es → Next p es
   rising-next Rising.end = Next.ended AtEnd.end
   rising-next (Rising.new h) = Next.acts Own.new
-  rising-next (Rising.sends l h) = Next.acts Own.sends
+  rising-next (Rising.sends l e h) = Next.acts Own.sends
   rising-next (Rising.receives l w e h) = Next.waits w e h
   rising-next (Rising.checks h) = Next.acts Own.checks
   rising-next (Rising.opens h) = Next.acts Own.opens
 
   -- ---- an event of a party's own gets done
   module _ (p : ℕ) (P : Party) (g : Goes N p P) where
-    turn-own : (e : Event) (es : List Event) → P .left ≡ e ∷ es → Own e → (turn P .party .left ≡ es) × (turn P .party .done ≡ suc (P .done))
+    pub turn-own : (e : Event) (es : List Event) → P .left ≡ e ∷ es → Own e → (turn P .party .left ≡ es) × (turn P .party .done ≡ suc (P .done))
     unfolding turn next takes
     turn-own e es l o =
         let z : turn P ≡ takes (effect e (P .view)) P es = pick-false (P .halted) _ _ (g .standing) ∙ ap (λ fs. next fs P) l in
@@ -67,7 +67,7 @@ module _ (N : Narration) where
         rw z w
 
     -- ---- a copy of the step that a party waits for is taken
-    delivered-takes : (s f n : ℕ) (es : List Event) (ts : Terms) → P .left ≡ Event.receives s f n ∷ es → Said N s ts → delivered s (some ts) P ≡ goes P es (binds f ts (P .view))
+    pub delivered-takes : (s f n : ℕ) (es : List Event) (ts : Terms) → P .left ≡ Event.receives s f n ∷ es → Said N s ts → delivered s (some ts) P ≡ goes P es (binds f ts (P .view))
     unfolding delivered handed
     delivered-takes s f n es ts l w =
         let k : Safe N (meant N p) (Event.receives s f n ∷ es) (g .holding) (g .bound) = subst (λ fs. Safe N (meant N p) fs (g .holding) (g .bound)) l (g .safe) in

@@ -76,7 +76,7 @@ rising-toDo : {N : Narration} {p low : ℕ} {es : List Event} → Rising N p low
 unfolding toDo
 rising-toDo Rising.end = inl AtEnd.end
 rising-toDo (Rising.new h) = inr (omega arith)
-rising-toDo (Rising.sends l h) = inr (omega arith)
+rising-toDo (Rising.sends l e h) = inr (omega arith)
 rising-toDo (Rising.receives l w e h) = inr (omega arith)
 rising-toDo (Rising.checks h) = inr (omega arith)
 rising-toDo (Rising.opens h) = inr (omega arith)

@@ -1,12 +1,13 @@
 -- A program's events rise, and hold the SEND of each step that the party sends. Assumes nothing.
 use Prim.Native.Nat.{ℕ, suc, _+_, _≤_, _<_, zero-le}
 use native.Mathlib.Nat.{le-trans, le-suc}
+use native.Mathlib.Omega.{arith}
 use mathlib.Core.List.{List, [], _∷_, _++_, map, append-assoc, List·Memᴰ, List·Memᴰ·cases-cons, List·Memᴰ·not-nil}
 use mathlib.Core.Logic.{_⊎_, inl, inr, ⊎-elim}
 use mathlib.Core.Path.{_≡_, refl, sym, subst}
 use lib.ListN.{length}
 use Rattle.terms.specs.Term.{Term, Terms}
-use Rattle.terms.specs.Image.{Image}
+use Rattle.terms.specs.Image.{Image, Images}
 use Rattle.translation.specs.Dictionary.{Dictionary, start}
 use Rattle.translation.specs.Build.{buildAll}
 use Rattle.translation.specs.Receive.{Event, Did, Rule, byRule, receive, receiveAll}
@@ -18,7 +19,7 @@ use Rattle.agreement.specs.Machine.Laws.{Showing}
 use Rattle.agreement.specs.Agree.{receiverOf}
 use Rattle.agreement.specs.Parts.{Parts}
 use Rattle.agreement.specs.Parts.Laws.{own-parts, own-sends-in}
-use Rattle.agreement.specs.Order.{Rising, Sends}
+use Rattle.agreement.specs.Order.{Rising, Sends, Of, Holds}
 
 -- ---- receiving: comparisons and openings only
 pub data Quiet : List Event → Type 0 where
@@ -56,7 +57,7 @@ module _ (N : Narration) (p : ℕ) where
   rising-low : {low high : ℕ} {es : List Event} → low ≤ high → Rising N p high es → Rising N p low es
   rising-low l Rising.end = Rising.end
   rising-low l (Rising.new h) = Rising.new (rising-low l h)
-  rising-low l (Rising.sends m h) = Rising.sends (le-trans l m) h
+  rising-low l (Rising.sends m e h) = Rising.sends (le-trans l m) e h
   rising-low l (Rising.receives m w e h) = Rising.receives (le-trans l m) w e h
   rising-low l (Rising.checks h) = Rising.checks (rising-low l h)
   rising-low l (Rising.opens h) = Rising.opens (rising-low l h)
@@ -77,7 +78,7 @@ module _ (N : Narration) (p : ℕ) where
   walk-rising {low} fs h (Parts.sends {s = s} {ts = ts} l w e r) δ n =
       let d = act (Act.sends s ts) δ n in
       let b = buildAll ts δ in
-      subst (Rising N p low) (sym (append-assoc (d .events) _ fs)) (news-rising (b .made) (Event.sends s (b .images) ∷ []) _ (Rising.sends l (walk-rising fs h r (d .dictionary) (n + length (d .given)))))
+      subst (Rising N p low) (sym (append-assoc (d .events) _ fs)) (news-rising (b .made) (Event.sends s (b .images) ∷ []) _ (Rising.sends l e (walk-rising fs h r (d .dictionary) (n + length (d .given)))))
   walk-rising {low} fs h (Parts.receives {s = s} {ts = ts} l w e r) δ n =
       let d = act (Act.receives s ts) δ n in
       subst (Rising N p low) (sym (append-assoc (d .events) _ fs)) (Rising.receives l (w .within) e (quiet-rising (receiveAll-quiet ts n δ _) (walk-rising fs h r (d .dictionary) (n + length (d .given)))))
@@ -89,25 +90,55 @@ module _ (N : Narration) (p : ℕ) where
   -- what is left when an event was done
   pub rising-did : {low : ℕ} {e : Event} {es : List Event} {o : Shown} → Rising N p low (e ∷ es) → Showing e o → Rising N p 0 es
   rising-did (Rising.new h) Showing.new = rising-low zero-le h
-  rising-did (Rising.sends l h) Showing.sends = rising-low zero-le h
+  rising-did (Rising.sends l e h) Showing.sends = rising-low zero-le h
   rising-did (Rising.checks h) Showing.checks = rising-low zero-le h
   rising-did (Rising.opens h) Showing.opens = rising-low zero-le h
 
   pub rising-took : {low s f n : ℕ} {es : List Event} → Rising N p low (Event.receives s f n ∷ es) → Rising N p 0 es
   rising-took (Rising.receives l w e h) = rising-low zero-le h
 
+-- ---- Holds
+holds-none : {s : ℕ} → Holds s [] → ⊥
+holds-none h = elim h [ ]
+
+pub rising-holds : {N : Narration} {p low s : ℕ} {es : List Event} → Rising N p low es → Holds s es → low ≤ s
+rising-holds Rising.end (Holds.later k) = absurd (holds-none k)
+rising-holds (Rising.new h) (Holds.later k) = rising-holds h k
+rising-holds (Rising.sends l e h) (Holds.here Of.sends) = l
+rising-holds (Rising.sends l e h) (Holds.later k) = le-trans l (le-trans (le-suc _) (rising-holds h k))
+rising-holds (Rising.receives l w e h) (Holds.here Of.receives) = l
+rising-holds (Rising.receives l w e h) (Holds.later k) = le-trans l (le-trans (le-suc _) (rising-holds h k))
+rising-holds (Rising.checks h) (Holds.later k) = rising-holds h k
+rising-holds (Rising.opens h) (Holds.later k) = rising-holds h k
+
+-- before an event of a step no other is of that step
+pub rising-once : {N : Narration} {p low s : ℕ} {e : Event} {es : List Event} → Rising N p low (e ∷ es) → Holds s es → Of s e → ⊥
+rising-once (Rising.sends l e h) k Of.sends = let a = rising-holds h k in absurd (omega arith)
+rising-once (Rising.receives l w e h) k Of.receives = let a = rising-holds h k in absurd (omega arith)
+
+-- what is left behind an event that is not the last
+pub rising-left : {N : Narration} {p low s : ℕ} {e : Event} {es : List Event} → Rising N p low (e ∷ es) → Holds s es → Rising N p 0 es
+rising-left Rising.end k = absurd (holds-none k)
+rising-left {N} {p} (Rising.new h) k = rising-low N p zero-le h
+rising-left {N} {p} (Rising.sends l e h) k = rising-low N p zero-le h
+rising-left {N} {p} (Rising.receives l w e h) k = rising-low N p zero-le h
+rising-left {N} {p} (Rising.checks h) k = rising-low N p zero-le h
+rising-left {N} {p} (Rising.opens h) k = rising-low N p zero-le h
+
+-- a SEND is of a step that the party sends
+pub rising-sender : {N : Narration} {p low s : ℕ} {is : Images} {es : List Event} → Rising N p low (Event.sends s is ∷ es) → stepOf N s .sender ≡ p
+rising-sender (Rising.sends l e h) = e
+
 -- ---- Sends
 pub sends-none : {s : ℕ} → Sends s [] → ⊥
 sends-none h = elim h [ ]
 
+pub sends-holds : {s : ℕ} {es : List Event} → Sends s es → Holds s es
+sends-holds Sends.here = Holds.here Of.sends
+sends-holds (Sends.later h) = Holds.later (sends-holds h)
+
 pub rising-sends : {N : Narration} {p low s : ℕ} {es : List Event} → Rising N p low es → Sends s es → low ≤ s
-rising-sends Rising.end (Sends.later k) = absurd (sends-none k)
-rising-sends (Rising.new h) (Sends.later k) = rising-sends h k
-rising-sends (Rising.sends l h) Sends.here = l
-rising-sends (Rising.sends l h) (Sends.later k) = le-trans l (le-trans (le-suc _) (rising-sends h k))
-rising-sends (Rising.receives l w e h) (Sends.later k) = le-trans l (le-trans (le-suc _) (rising-sends h k))
-rising-sends (Rising.checks h) (Sends.later k) = rising-sends h k
-rising-sends (Rising.opens h) (Sends.later k) = rising-sends h k
+rising-sends h k = rising-holds h (sends-holds k)
 
 pub sends-did : {s : ℕ} {e : Event} {es : List Event} {o : Shown} → Sends s (e ∷ es) → Showing e o → Sends s es ⊎ ((ts : Terms) × (o ≡ Shown.sent s ts))
 sends-did Sends.here (Showing.sends {ts = ts}) = inr (ts, refl)

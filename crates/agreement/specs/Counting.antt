@@ -10,6 +10,9 @@ use Rattle.words.specs.First.{any}
 use Rattle.book.specs.Layout.{steps, sender, receiver}
 use Rattle.translation.specs.Places.{Places}
 use Rattle.agreement.specs.View.{change}
+pub mod Standing
+pub mod Reached
+pub mod Laws
 
 -- in the book b with the places P, where party q has done d q events
 module _ (b : List ℕ) (P : Places) where

@@ -11,7 +11,6 @@ use Rattle.words.specs.Run.{run, values}
 use Rattle.words.specs.Run.Laws.{values-length, values-getD}
 use Rattle.terms.specs.Table.{term}
 use Rattle.book.specs.Layout.{table, parties, steps}
-use Rattle.book.specs.Valid.{Valid}
 use Rattle.translation.specs.Program.{Step}
 use Rattle.translation.specs.Narration.{stepAt, narration, programOf}
 use Rattle.translation.specs.Taken.{stepOf}
@@ -55,14 +54,42 @@ part-within ls rest p h =
     rw (List·getD-append w rest 0 (1 + 2 * p) (omega arith), List·getD-append w rest 0 (2 + 2 * p) (omega arith))
     (run-within w rest (getD w (1 + 2 * p) 0) (getD w (2 + 2 * p) 0) (omega arith))
 
+-- ---- what demand 3 needs of the book
+module _ (b : List ℕ) where
+  spelled-programs : (w : List ℕ) → ((p : ℕ) → p < parties b → readProgram (term (table b)) (partOf w p) ≡ some (programOf (narration b) p)) → Programs (narration b) (parties b) (spelled b w)
+  unfolding spelled orEnd
+  spelled-programs w h =
+      record {
+        party = λ p l. pick-true _ _ _ (lt-ltb p (parties b) l) ∙ ap orEnd (h p l);
+        nobody = λ p l. pick-false _ _ _ (le-ltb p (parties b) l);
+      }
+
+  pub steps-length : length (narration b .says) ≡ steps b
+  unfolding narration
+  steps-length = values-length (stepAt b) 0 (steps b)
+
+  pub step-is : (s : ℕ) → s < steps b → stepOf (narration b) s ≡ stepAt b s
+  unfolding stepOf narration
+  step-is s l = let z : 0 + s ≡ s = omega arith in values-getD (stepAt b) 0 (steps b) s _ l ∙ ap (stepAt b) z
+
+  module _ (plays : Plays b) where
+    pub plays-programs : Programs (narration b) (parties b) (spelled b (listing b))
+    plays-programs = spelled-programs (listing b) (listing-spells b (plays .valid))
+
+    pub plays-played : Played (narration b) (parties b)
+    unfolding stepAt
+    plays-played =
+        let e = steps-length in
+        record {
+          senders = λ s l. (let k : s < steps b = omega arith in subst (λ (a : Step). a .sender < parties b) (sym (step-is s k)) (plays .valid .stepsKeep s k .sends));
+          playable = λ s l. plays .playable s (omega arith);
+        }
+
 -- ---- a book whose outcome is a listing
 module _ (b out : List ℕ) (accepted : outcome b out .says .number ≡ 0) where
   accepted-plays : Plays b × (length (listing b) ≤ length out)
   unfolding outcome
   accepted-plays = exactly-written b out .0 accepted
-
-  book-valid : Valid b
-  book-valid = accepted-plays .0 .valid
 
   -- the words that a party's part of the lent memory holds are its program
   pub outcome-spells : (p : ℕ) → p < parties b → readProgram (term (table b)) (partOf (outcome b out .lent) p) ≡ some (programOf (narration b) p)
@@ -71,30 +98,10 @@ module _ (b out : List ℕ) (accepted : outcome b out .says .number ≡ 0) where
       let n = values-length (partWords b) 0 (parties b) in
       ap (λ w. readProgram (term (table b)) (partOf w p)) (written-past b out accepted)
       ∙ ap (readProgram (term (table b))) (part-within (values (partWords b) 0 (parties b)) (drop (length (listing b)) out) p (omega arith))
-      ∙ listing-spells b book-valid p h
+      ∙ listing-spells b (accepted-plays .0 .valid) p h
 
-  -- ---- what demand 3 needs of the book
   pub accepted-programs : Programs (narration b) (parties b) (spelled b (outcome b out .lent))
-  unfolding spelled orEnd
-  accepted-programs =
-      record {
-        party = λ p l. pick-true _ _ _ (lt-ltb p (parties b) l) ∙ ap orEnd (outcome-spells p l);
-        nobody = λ p l. pick-false _ _ _ (le-ltb p (parties b) l);
-      }
-
-  steps-length : length (narration b .says) ≡ steps b
-  unfolding narration
-  steps-length = values-length (stepAt b) 0 (steps b)
-
-  step-is : (s : ℕ) → s < steps b → stepOf (narration b) s ≡ stepAt b s
-  unfolding stepOf narration
-  step-is s l = let z : 0 + s ≡ s = omega arith in values-getD (stepAt b) 0 (steps b) s _ l ∙ ap (stepAt b) z
+  accepted-programs = spelled-programs b (outcome b out .lent) outcome-spells
 
   pub accepted-played : Played (narration b) (parties b)
-  unfolding stepAt
-  accepted-played =
-      let e = steps-length in
-      record {
-        senders = λ s l. (let k : s < steps b = omega arith in subst (λ (a : Step). a .sender < parties b) (sym (step-is s k)) (book-valid .stepsKeep s k .sends));
-        playable = λ s l. accepted-plays .0 .playable s (omega arith);
-      }
+  accepted-played = plays-played b (accepted-plays .0)

@@ -20,6 +20,8 @@ use Rattle.agreement.specs.Agree.{receiverOf}
 use Rattle.agreement.specs.Spelled.{started}
 pub mod Laws
 pub mod Came
+pub mod Trials
+pub mod Idle
 
 -- ---- the play
 -- the move that party p makes with these events left: it takes the copy of the step that it waits for, or moves by itself

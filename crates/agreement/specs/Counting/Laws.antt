@@ -74,26 +74,13 @@ unfolding change
 changed-done f p R = fun-ext (λ q. pick-ap (λ (P : Party). P .done) (eqb p q) R (f q))
 
 -- ---- one move
-own-receives : {e : Event} → Own e → (s : ℕ) → isReceive s e ≡ false
-unfolding isReceive
-own-receives Own.new s = refl
-own-receives Own.sends s = refl
-own-receives Own.checks s = refl
-own-receives Own.opens s = refl
-
-own-move : {e : Event} → Own e → (p : ℕ) (es : List Event) → moveOf p (e ∷ es) ≡ Move.own p
-unfolding moveOf
-own-move Own.new p es = refl
-own-move Own.sends p es = refl
-own-move Own.checks p es = refl
-own-move Own.opens p es = refl
-
-own-toDo : {e : Event} → Own e → (es : List Event) → toDo (e ∷ es) ≡ suc (toDo es)
-unfolding toDo
-own-toDo Own.new es = refl
-own-toDo Own.sends es = refl
-own-toDo Own.checks es = refl
-own-toDo Own.opens es = refl
+-- an event of a party's own: the party moves by itself, it is no RECEIVE, and it is one to do
+own-next : {e : Event} → Own e → (p s : ℕ) (es : List Event) → (moveOf p (e ∷ es) ≡ Move.own p) × (isReceive s e ≡ false) × (toDo (e ∷ es) ≡ suc (toDo es))
+unfolding moveOf isReceive toDo
+own-next Own.new p s es = (refl, refl, refl)
+own-next Own.sends p s es = (refl, refl, refl)
+own-next Own.checks p s es = (refl, refl, refl)
+own-next Own.opens p s es = (refl, refl, refl)
 
 module _ (b : List ℕ) (plays : Plays b) {S : System} (r : Reach (receiverOf (narration b)) (started b (listing b)) S) where
   abbrev N : Narration
@@ -181,9 +168,9 @@ module _ (b : List ℕ) (plays : Plays b) {S : System} (r : Reach (receiverOf (n
     unfolding move
     move-acts {e} {es} z o =
         let a = adds p l in
-        let k : toDo (S .party p .left) ≡ suc (toDo es) = ap toDo z ∙ own-toDo o es in
-        rw (own-move o p es) (goes-on (turn (S .party p) .party) (turn-own N p (S .party p) (going .parties p) e es z o .1) (omega arith)
-        (waits-none b (placesOf b) d p (λ s i c h. absurd (true≢false (sym (next-receives z s c h) ∙ own-receives o s)))))
+        let k : toDo (S .party p .left) ≡ suc (toDo es) = ap toDo z ∙ own-next o p 0 es .2 in
+        rw (own-next o p 0 es .0) (goes-on (turn (S .party p) .party) (turn-own N p (S .party p) (going .parties p) e es z o .1) (omega arith)
+        (waits-none b (placesOf b) d p (λ s i c h. absurd (true≢false (sym (next-receives z s c h) ∙ own-next o p s es .1)))))
 
     module _ (s f n : ℕ) (es : List Event) (z : S .party p .left ≡ Event.receives s f n ∷ es) (i : s < steps b) (c : receiver b s ≡ p) where
       move-takes : (ts : Terms) → S .sent s ≡ some ts → Ticks (Move.delivery s)

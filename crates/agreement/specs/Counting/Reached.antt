@@ -13,8 +13,8 @@ use Rattle.translation.specs.Narration.{Narration, knownTo}
 use Rattle.translation.specs.Taken.{stepOf}
 use Rattle.translation.specs.Places.{placeOf, isSend}
 use Rattle.agreement.specs.View.{change}
-use Rattle.agreement.specs.Machine.{Party, Turn, turn, delivered, System, sentAfter, Move, move, begin, Reach}
-use Rattle.agreement.specs.Machine.Laws.{change-ind, change-same, Showing, Turned, turn-cases, Delivered, delivered-cases}
+use Rattle.agreement.specs.Machine.{Party, Turn, turn, System, sentAfter, Move, move, begin, Reach}
+use Rattle.agreement.specs.Machine.Laws.{change-ind, change-same, Showing, Turned, turn-cases, Delivered, move-parties}
 use Rattle.agreement.specs.Agree.{receiverOf}
 use Rattle.agreement.specs.Order.{Rising}
 use Rattle.agreement.specs.Order.Laws.{rising-sender}
@@ -38,13 +38,7 @@ delivered-onward (Delivered.halted l e c) = Onward.still refl refl
 delivered-onward (Delivered.took l e) = Onward.next _ l refl
 
 move-onward : (receiver : ℕ → ℕ) (m : Move) (S : System) (q : ℕ) → Onward (S .party q) (move receiver m S .party q)
-unfolding move
-move-onward receiver (Move.own p) S q =
-    change-ind (S .party) p _ (Onward (S .party q)) q (λ e. subst (λ r. Onward (S .party r) (turn (S .party p) .party)) e (turned-onward (turn-cases (S .party p)))) (λ n. Onward.still refl refl)
-move-onward receiver (Move.delivery s) S q =
-    let p = receiver s in
-    let R = delivered s (S .sent s) (S .party p) in
-    change-ind (S .party) p R (Onward (S .party q)) q (λ e. subst (λ r. Onward (S .party r) R) e (delivered-onward (delivered-cases s (S .sent s) (S .party p)))) (λ n. Onward.still refl refl)
+move-onward = move-parties Onward (λ P. Onward.still refl refl) (λ P t h. turned-onward h) (λ s o P R h. delivered-onward h)
 
 onward-done : {P R : Party} → Onward P R → P .done ≤ R .done
 onward-done (Onward.still l d) = omega arith

@@ -13,8 +13,8 @@ use Rattle.terms.specs.Term.{Terms, count}
 use Rattle.translation.specs.Receive.{Event}
 use Rattle.translation.specs.Narration.{Narration}
 use Rattle.agreement.specs.View.{change}
-use Rattle.agreement.specs.Machine.{Shown, Party, Turn, turn, delivered, System, sentAfter, madeAfter, Move, move, Reach}
-use Rattle.agreement.specs.Machine.Laws.{change-ind, change-same, change-other, change-none, Showing, Turned, turn-cases, Delivered, delivered-cases}
+use Rattle.agreement.specs.Machine.{Shown, Party, Turn, System, sentAfter, madeAfter, Move, move, Reach}
+use Rattle.agreement.specs.Machine.Laws.{change-same, change-other, change-none, Showing, Turned, turn-cases, Delivered, delivered-cases, move-parties}
 use Rattle.agreement.specs.Agree.{meant, receiverOf, AtEnd, Does}
 use Rattle.agreement.specs.Safe.{Safe}
 use Rattle.agreement.specs.Going.{Going}
@@ -97,13 +97,7 @@ delivered-adds (Delivered.halted l e c) = refl
 delivered-adds (Delivered.took l e) = let a = ap toDo l in omega arith
 
 move-adds : (receiver : ℕ → ℕ) (m : Move) (S : System) (q : ℕ) → Adds (S .party q) (move receiver m S .party q)
-unfolding move
-move-adds receiver (Move.own p) S q =
-    change-ind (S .party) p _ (Adds (S .party q)) q (λ e. subst (λ r. Adds (S .party r) (turn (S .party p) .party)) e (turned-adds (turn-cases (S .party p)))) (λ n. refl)
-move-adds receiver (Move.delivery s) S q =
-    let p = receiver s in
-    let R = delivered s (S .sent s) (S .party p) in
-    change-ind (S .party) p R (Adds (S .party q)) q (λ e. subst (λ r. Adds (S .party r) R) e (delivered-adds (delivered-cases s (S .sent s) (S .party p)))) (λ n. refl)
+move-adds = move-parties Adds (λ P. refl) (λ P t h. turned-adds h) (λ s o P R h. delivered-adds h)
 
 pub reach-adds : {receiver : ℕ → ℕ} {B S : System} → Reach receiver B S → (p : ℕ) → Adds (B .party p) (S .party p)
 reach-adds Reach.start p = refl

@@ -2,7 +2,7 @@
 use Prim.Native.Nat.{ℕ}
 use mathlib.Core.List.{List, [], _∷_}
 use mathlib.Core.Option.{Option, none, some}
-use mathlib.Core.Path.{_≡_, refl, ap, _∙_, fun-ext}
+use mathlib.Core.Path.{_≡_, refl, ap, _∙_, subst, fun-ext}
 use lib.Dec.{eqb}
 use borrow.Author.Tests.{eqb-true, eqb-false, eq-eqb, ne-eqb}
 use Rattle.words.specs.Choice.Laws.{pick-ind, pick-true, pick-false, choose-ind}
@@ -10,7 +10,7 @@ use Rattle.terms.specs.Term.{Term, Terms, same, count}
 use Rattle.terms.specs.Image.{Image, Images}
 use Rattle.translation.specs.Receive.{Event}
 use Rattle.agreement.specs.View.{View, change, binds}
-use Rattle.agreement.specs.Machine.{Shown, Effect, sending, comparing, opening, effect, Party, halts, goes, Turn, stays, takes, next, turn, handed, delivered}
+use Rattle.agreement.specs.Machine.{Shown, Effect, sending, comparing, opening, effect, Party, halts, goes, Turn, stays, takes, next, turn, handed, delivered, System, Move, move}
 
 -- ---- change
 module _ {A : Type 0} (f : ℕ → A) (p : ℕ) (a : A) where
@@ -114,3 +114,14 @@ pub delivered-cases : (s : ℕ) (sent : Option Terms) (P : Party) → Delivered 
 unfolding delivered
 delivered-cases s none P = Delivered.dropped
 delivered-cases s (some ts) P = pick-ind (Delivered s (some ts) P) (P .halted) P (handed (P .left) s ts P) (λ e. Delivered.dropped) (λ e. handed-cases (P .left) s ts P refl)
+
+-- ---- what holds of each party before and after, where nothing happens and by each of these, holds of every move
+pub move-parties : (A : Party → Party → Type 0) → ((P : Party) → A P P) → ((P : Party) (t : Turn) → Turned P t → A P (t .party)) → ((s : ℕ) (o : Option Terms) (P R : Party) → Delivered s o P R → A P R)
+    → (receiver : ℕ → ℕ) (m : Move) (S : System) (q : ℕ) → A (S .party q) (move receiver m S .party q)
+unfolding move
+move-parties A stay turned taken receiver (Move.own p) S q =
+    change-ind (S .party) p _ (A (S .party q)) q (λ e. subst (λ r. A (S .party r) (turn (S .party p) .party)) e (turned _ _ (turn-cases (S .party p)))) (λ n. stay _)
+move-parties A stay turned taken receiver (Move.delivery s) S q =
+    let p = receiver s in
+    let R = delivered s (S .sent s) (S .party p) in
+    change-ind (S .party) p R (A (S .party q)) q (λ e. subst (λ r. A (S .party r) R) e (taken s _ _ _ (delivered-cases s (S .sent s) (S .party p)))) (λ n. stay _)

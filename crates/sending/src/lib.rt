@@ -90,7 +90,7 @@ fn make(
 }
 
 // The same for a list of rows below a bound.
-fn make_list(
+pub fn make_list(
     book: &[u32],
     since: &[u32; 1024],
     entries: &mut [u32; 1024],

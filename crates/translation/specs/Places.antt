@@ -7,6 +7,7 @@ use Rattle.words.specs.Choice.{pick}
 use Rattle.book.specs.Layout.{sender, receiver}
 use Rattle.translation.specs.Receive.{Event}
 use Rattle.translation.specs.Narration.{narration, programOf}
+pub mod Laws
 
 -- how many events come before the first that passes the test
 unfoldable pub placeOf : (Event → Bool) → List Event → ℕ

@@ -1,10 +1,13 @@
 -- Laws of receiving: everything goes by the cases of `rule`. Assumes nothing.
-use Prim.Native.Nat.{ℕ, _+_}
-use mathlib.Core.Bool.{true, false}
+use Prim.Native.Nat.{ℕ, suc, _+_}
+use native.Mathlib.Omega.{arith}
+use mathlib.Core.Bool.{true, false, false≢true}
 use mathlib.Core.Path.{_≡_, refl}
+use lib.ListN.{length, length-append}
 use Rattle.words.specs.Choice.{pick}
 use Rattle.words.specs.Choice.Laws.{pick-ind, pick-true, pick-false}
-use Rattle.terms.specs.Term.{Term, count}
+use Rattle.terms.specs.Term.{Term, Terms, count, listed}
+use Rattle.terms.specs.Term.Laws.{count-listed}
 use Rattle.translation.specs.Dictionary.{Dictionary, buildable}
 use Rattle.translation.specs.Receive.{Did, nothing, followed, Rule, canOpen, rule, byRule, compared, kept, opened, receive, receiveAll}
 
@@ -50,3 +53,43 @@ receive-rule (Term.operation g ts) p δ n = refl
 receive-rule (Term.cipher k ts) p δ n = refl
 receive-rule (Term.public t) p δ n = refl
 receive-rule (Term.private t) p δ n = refl
+
+-- ---- how many events receiving has: each of the c terms at hand, and each that gets a placeholder, is compared, opened or stored
+abbrev Settles : ℕ → Did → Type 0
+Settles c d = length (d .events) + length (d .stored) ≡ c + length (d .given)
+
+settles-rule : (t : Term) (p : ℕ) (δ : Dictionary) (o : Did) → (canOpen δ t ≡ true → Settles 1 o) → Settles 1 (byRule (rule δ t) (compared t p δ) o (kept t p δ))
+unfolding byRule
+settles-rule t p δ o h = rule-ind (λ r. Settles 1 (byRule r (compared t p δ) o (kept t p δ))) δ t (λ e. refl) h refl
+
+settles-then : (c : ℕ) (d e : Did) → Settles 1 d → Settles c e → Settles (suc c) (followed d e)
+settles-then c d e h k =
+    let x = length-append (d .events) (e .events) in
+    let y = length-append (d .stored) (e .stored) in
+    let z = length-append (d .given) (e .given) in
+    omega arith
+
+settles-opened : (k : Term) (ts : Terms) (p : ℕ) (δ : Dictionary) (n : ℕ) (d : Did) → Settles (count ts) d → Settles 1 (followed (opened k ts p δ n) d)
+settles-opened k ts p δ n d h =
+    let c = count-listed ts in
+    let z = length-append (listed ts) (d .given) in
+    omega arith
+
+mutual
+  unfolding receive count canOpen
+
+  receive-settles : (t : Term) (p : ℕ) (δ : Dictionary) (n : ℕ) → Settles 1 (receive t p δ n)
+  receive-settles (Term.atom r) p δ n = settles-rule (Term.atom r) p δ (nothing δ) (λ e. absurd (false≢true e))
+  receive-settles (Term.operation g ts) p δ n = settles-rule (Term.operation g ts) p δ (nothing δ) (λ e. absurd (false≢true e))
+  receive-settles (Term.cipher k ts) p δ n =
+      settles-rule (Term.cipher k ts) p δ (followed (opened k ts p δ n) (receiveAll ts n δ (n + count ts)))
+      (λ e. settles-opened k ts p δ n (receiveAll ts n δ (n + count ts)) (receiveAll-settles ts n δ (n + count ts)))
+  receive-settles (Term.public t) p δ n = settles-rule (Term.public t) p δ (nothing δ) (λ e. absurd (false≢true e))
+  receive-settles (Term.private t) p δ n = settles-rule (Term.private t) p δ (nothing δ) (λ e. absurd (false≢true e))
+
+  pub receiveAll-settles : (ts : Terms) (p : ℕ) (δ : Dictionary) (n : ℕ) → (let d = receiveAll ts p δ n in length (d .events) + length (d .stored) ≡ count ts + length (d .given))
+  receiveAll-settles Terms.nil p δ n = refl
+  receiveAll-settles (Terms.cons t ts) p δ n =
+      let d = receive t p δ n in
+      let m = n + length (d .given) in
+      settles-then (count ts) d (receiveAll ts (suc p) (d .dictionary) m) (receive-settles t p δ n) (receiveAll-settles ts (suc p) (d .dictionary) m)

@@ -177,7 +177,7 @@ mutual
       let h = buildAll-made ts (build t δ .dictionary) in
       omega (arith, length-append (build t δ .made) (buildAll ts (build t δ .dictionary) .made))
 
-news-words : (row : Term → ℕ) (rs : List ℕ) → length (programWords row (map Event.new rs)) ≡ 2 * length rs
+pub news-words : (row : Term → ℕ) (rs : List ℕ) → length (programWords row (map Event.new rs)) ≡ 2 * length rs
 unfolding programWords eventWords
 news-words row [] = refl
 news-words row (r ∷ rs) = let h = news-words row rs in omega arith

@@ -30,7 +30,7 @@ values-take f i zero (suc k) h = absurd (omega arith)
 values-take f i (suc n) (suc k) h = ap (λ l. f i ∷ l) (values-take f (suc i) n k (omega arith))
 
 -- ---- a Did with nothing behind it
-followed-nothing : (d : Did) → followed d (nothing (d .dictionary)) ≡ d
+pub followed-nothing : (d : Did) → followed d (nothing (d .dictionary)) ≡ d
 followed-nothing d =
     λ i. record { dictionary = d .dictionary; given = append-nil (d .given) i; events = append-nil (d .events) i; stored = append-nil (d .stored) i }
 

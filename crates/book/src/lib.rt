@@ -78,6 +78,8 @@ impl Limit {
     pub const KNOWN: usize = 256;
 
     pub const MESSAGES: usize = 8;
+
+    pub const MOVES: usize = 4096;
 }
 
 // The header's counts.

@@ -1,0 +1,48 @@
+-- `input::load` meets its contract: the words of the bytes that were passed stand in out (`loaded-more`). Assumes nothing.
+use Prim.Native.Nat.{ℕ, _-_, _≤_, _<_}
+use mathlib.Core.Path.{_≡_}
+use native.Mathlib.Omega.{arith}
+use lib.ListN.{length, getD}
+use borrow.Author.Needs.{needs}
+use Rattle.input.specs.Input.{wordAt}
+use Rattle.input.specs.Input.Laws.{loaded-more}
+use Rattle.input.proofs.load.Statement.{statement}
+use Rattle.input.proofs.load.Tie as tie
+
+abbrev Inv-loop : tie.InvT-loop
+Inv-loop bytes out₀ n i₀ out i = (i ≤ n) × (length out ≡ length out₀) × ((k : ℕ) → k < i → getD out k 0 ≡ wordAt bytes k)
+
+abbrev μ-loop : tie.MeasureT-loop
+μ-loop bytes out₀ n i₀ out i = n - i
+
+loop-again : tie.Need-loop-again Inv-loop μ-loop
+unfolding wordAt
+loop-again c =
+    (search needs, search needs, loaded-more (c .before .before .before .before .before .before .before .before .before .args .bytes .now) (c .before .before .before .before .before .before .loop .out) (c .before .before .before .before .before .before .loop .i) (c .word .result) (omega arith) (c .word .ensures) (c .before .before .before .before .before .before .loop .inv .2))
+
+pub load-spec : {M : Type 1} → statement M
+load-spec =
+    tie.close
+    (tie.spec
+    Inv-loop
+    μ-loop
+    (λ c. search needs)  -- loop-holds
+    (λ c. search needs)  -- mul-word
+    (λ c. search needs)  -- shared-slice-read-word
+    (λ c. search needs)  -- mul-word-2
+    (λ c. search needs)  -- add-word
+    (λ c. search needs)  -- shared-slice-read-word-2
+    (λ c. search needs)  -- mul-word-3
+    (λ c. search needs)  -- add-word-2
+    (λ c. search needs)  -- shared-slice-read-word-3
+    (λ c. search needs)  -- mul-word-4
+    (λ c. search needs)  -- add-word-3
+    (λ c. search needs)  -- shared-slice-read-word-4
+    (λ c κs. search needs)  -- word-requires
+    (λ c. search needs)  -- mul-out
+    (λ c. search needs)  -- slice-write-out
+    (λ c. search needs)  -- add-i
+    (λ c. search needs)  -- loop-less
+    loop-again
+    (λ c. search needs)  -- same-length
+    (λ c. λ i h. c .before .loop .inv .2 i (omega arith)))  -- returns

@@ -1,0 +1,54 @@
+-- `line::put_words` meets its contract: the words that were passed stand in the line, each up to eleven bytes long (`spelled-next`). Assumes nothing.
+use Prim.Native.Nat.{ℕ, _*_, _-_, _^_, _≤_, _<_}
+use mathlib.Core.Path.{_≡_, refl, _∙_, ap}
+use native.Mathlib.Omega.{arith}
+use lib.ListN.{length, getD, take}
+use borrow.Author.Needs.{needs}
+use lib.Seq.{take-length}
+use mathlib.Core.List.{List, _++_}
+use Rattle.line.specs.Line.{spelled, spaced}
+use Rattle.line.specs.Line.Laws.{spelled-next}
+use Rattle.line.proofs.put_words.Statement.{statement}
+use Rattle.line.proofs.put_words.Tie as tie
+
+abbrev Inv-loop : tie.InvT-loop
+Inv-loop line₀ words at₀ i₀ line at i = (i ≤ length words) × (at ≤ 11 * i) × (length line ≡ length line₀) × (take at line ≡ spelled (take i words))
+
+abbrev μ-loop : tie.MeasureT-loop
+μ-loop line₀ words at₀ i₀ line at i = length words - i
+
+loop-holds : tie.Need-loop-holds Inv-loop μ-loop
+unfolding spelled
+loop-holds c = (search needs, search needs, search needs, refl)
+
+loop-again : tie.Need-loop-again Inv-loop μ-loop
+loop-again c =
+    let words = c .before .before .before .before .before .before .before .before .before .args .words .now in
+    let i = c .before .before .before .before .before .before .loop .i in
+    let put = c .before .before .put-number .ensures in
+    let inv = c .before .before .before .before .before .before .loop .inv in
+    let word : getD words i 0 < 2 ^ 32 = omega (arith, c .before .before .before .shared-slice-known2 .given i) in
+    (search needs, omega (arith, put .2 word), search needs, put .0 .front ∙ ap (λ (l : List ℕ). l ++ spaced (getD words i 0)) (inv .3) ∙ spelled-next words i (omega arith))
+
+returns : tie.Need-returns Inv-loop μ-loop
+returns c =
+    let words = c .before .before .before .before .args .words .now in
+    let e : c .before .loop .i ≡ length words = omega arith in
+    (c .before .loop .inv .3 ∙ ap (λ (n : ℕ). spelled (take n words)) e ∙ ap spelled (take-length words), omega arith)
+
+pub put-words-spec : {M : Type 1} → statement M
+put-words-spec =
+    tie.close
+    (tie.spec
+    Inv-loop
+    μ-loop
+    loop-holds
+    (λ c. search needs)  -- mul-put-number
+    (λ c. search needs)  -- shared-slice-read-put-number
+    (λ c. omega (arith, c .shared-slice-known2 .given (c .before .before .before .loop .i)))  -- cast-put-number
+    (λ c κs. search needs)  -- put-number-requires
+    (λ c. search needs)  -- add-i
+    (λ c. search needs)  -- loop-less
+    loop-again
+    (λ c. search needs)  -- same-length
+    returns)

@@ -1,0 +1,23 @@
+-- `line::refusal_line` meets its contract: the text of what the refusal tells, and then the newline. Assumes nothing.
+use mathlib.Core.Path.{_∙_, ap}
+use borrow.Author.Needs.{needs}
+use mathlib.Core.List.{_∷_, _++_}
+use Rattle.book.specs.Said.{Said}
+use Rattle.line.specs.Line.{refused, spelled, ended, refusalLine}
+use Rattle.line.proofs.refusal_line.Statement.{statement}
+use Rattle.line.proofs.refusal_line.Tie as tie
+
+returns : tie.Need-returns
+unfolding refusalLine
+returns c =
+    (c .before .before .end .ensures .0, c .before .before .end .ensures .1 ∙ ap ended (c .before .before .before .before .before .before .put-told .ensures .0 ∙ ap (λ (s : Said). refused ++ spelled (s .number ∷ s .values)) (c .before .before .before .before .before .before .before .told-of .ensures)))
+
+pub refusal-line-spec : {M : Type 1} → statement M
+refusal-line-spec =
+    tie.close
+    (tie.spec
+    (λ c κs. search needs)  -- told-of-requires
+    (λ c κs. search needs)  -- put-told-requires
+    (λ c κs. search needs)  -- end-requires
+    (λ c. search needs)  -- same-length
+    returns)

@@ -1,0 +1,43 @@
+-- `line::told_of` meets its contract: by the refusal. Assumes nothing.
+use borrow.Author.Needs.{needs}
+use Rattle.line.proofs.told_of.Statement.{statement}
+use Rattle.line.proofs.told_of.Tie as tie
+
+pub told-of-spec : {M : Type 1} → statement M
+told-of-spec =
+    tie.close
+    (tie.spec
+    (λ c. search needs)  -- enum-told
+    (λ c. search needs)  -- enum-known-refusal
+    (λ c. search needs)  -- cast-t14
+    (λ c. search needs)  -- enum-known-refusal-2
+    (λ c. search needs)  -- cast-t15
+    (λ c. search needs)  -- enum-known-refusal-3
+    (λ c. search needs)  -- cast-t16
+    (λ c. search needs)  -- enum-known-refusal-4
+    (λ c. search needs)  -- cast-t17
+    (λ c. search needs)  -- enum-known-refusal-5
+    (λ c. search needs)  -- cast-t18
+    (λ c. search needs)  -- enum-known-refusal-6
+    (λ c. search needs)  -- cast-t19
+    (λ c. search needs)  -- enum-known-refusal-7
+    (λ c. search needs)  -- cast-t20
+    (λ c. search needs)  -- enum-told-2
+    (λ c. search needs)  -- enum-known-refusal-8
+    (λ c. search needs)  -- cast-t21
+    (λ c. search needs)  -- cast-t22
+    (λ c. search needs)  -- enum-known-refusal-9
+    (λ c. search needs)  -- cast-t23
+    (λ c. search needs)  -- enum-known-refusal-10
+    (λ c. search needs)  -- returns
+    (λ c. cc)  -- returns-2
+    (λ c. cc)  -- returns-3
+    (λ c. cc)  -- returns-4
+    (λ c. cc)  -- returns-5
+    (λ c. cc)  -- returns-6
+    (λ c. cc)  -- returns-7
+    (λ c. cc)  -- returns-8
+    (λ c. cc)  -- returns-9
+    (λ c. cc)  -- returns-10
+    (λ c. cc)  -- returns-11
+    (λ c. cc))  -- returns-12

@@ -1,0 +1,52 @@
+-- The line that the program prints, as bytes. Document 01: "A listing is printed as its words, a refusal as the word "refused", its
+-- number and its place, all in decimal on one line with single spaces."
+use Prim.Native.Nat.{ℕ, _+_, _-_, _^_}
+use mathlib.Core.Path.{_≡_}
+use mathlib.Core.List.{List, [], _∷_, _++_}
+use lib.ListN.{length, take}
+use lib.Dec.{ltb}
+use Rattle.io.specs.Digits.{digits}
+use Rattle.words.specs.First.{first}
+use Rattle.book.specs.Said.{Said, said}
+use Rattle.line.specs.declared.Told.{Told}
+use Rattle.line.specs.declared.Told.the-variants.{One, Two}
+pub mod Laws
+
+-- how many digits a number below 10^20 takes
+unfoldable pub places : ℕ → ℕ
+places x = first (λ k. ltb x (10 ^ (k + 1))) 19 + 1
+
+unfoldable pub decimal : ℕ → List ℕ
+decimal x = digits 10 (places x) x
+
+-- a space behind it
+unfoldable pub spaced : ℕ → List ℕ
+spaced x = decimal x ++ 32 ∷ []
+
+unfoldable pub spelled : List ℕ → List ℕ
+spelled [] = []
+spelled (x ∷ xs) = spaced x ++ spelled xs
+
+-- a newline in the last space's place
+unfoldable pub ended : List ℕ → List ℕ
+ended t = take (length t - 1) t ++ 10 ∷ []
+
+unfoldable pub listingLine : List ℕ → List ℕ
+listingLine words = ended (spelled words)
+
+-- the word "refused" and a space
+abbrev pub refused : List ℕ
+refused = 114 ∷ 101 ∷ 102 ∷ 117 ∷ 115 ∷ 101 ∷ 100 ∷ 32 ∷ []
+
+unfoldable pub refusalLine : Said → List ℕ
+refusalLine s = ended (refused ++ spelled (s .number ∷ s .values))
+
+-- a refusal as the program prints it
+abbrev pub toldSays : Told → Said
+toldSays (One n x) = said n (x ∷ [])
+toldSays (Two n x y) = said n (x ∷ y ∷ [])
+
+-- a text was put at a place of a line: what stands before the next place is what stood before the first, and then the text
+pub record Put (text old : List ℕ) (at : ℕ) (new : List ℕ) (r : ℕ) : Type 0 where
+  pub front : take r new ≡ take at old ++ text
+  pub next : r ≡ at + length text

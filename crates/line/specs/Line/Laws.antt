@@ -1,0 +1,134 @@
+-- Laws of the line: texts put one behind another, the digits that a number takes, the newline. Assumes nothing.
+use Prim.Native.Nat.{ℕ, zero, suc, _+_, _-_, _/_, _%_, _^_, _≤_, _<_}
+use mathlib.Core.Path.{_≡_, refl, sym, _∙_, ap}
+use mathlib.Core.List.{List, [], _∷_, _++_, append-assoc, append-nil}
+use native.Mathlib.Omega.{arith}
+use native.Mathlib.Numerals.{add-one}
+use native.Mathlib.Decide.{decLt}
+use native.Mathlib.Nat.{pow-le-pow-right}
+use lib.ListN.{length, take, set, getD, length-append}
+use lib.Seq.{take-suc, take-suc-set, take-take, length-take-le, take-length, paste, take-paste}
+use lib.Dec.{ltb}
+use borrow.Author.Tests.{lt-ltb, le-ltb}
+use Rattle.io.specs.Digits.{glyph, digits, Fewest}
+use Rattle.words.specs.First.{first, firstFrom}
+use Rattle.words.specs.First.Laws.{first-is}
+use Rattle.book.specs.Said.{said}
+use Rattle.line.specs.Line.{places, decimal, spaced, spelled, ended, listingLine, refused, refusalLine, Put}
+
+-- a text that was copied, one byte, and one text behind another
+pub put-paste : (o text n : List ℕ) (at i : ℕ) → i ≡ length text → at + length text ≤ length o → n ≡ paste o at text i → Put text o at n (at + length text)
+put-paste o text n at i e h p =
+    let q : n ≡ paste o at text (length text) = rw e at p in
+    record {
+      front = ap (take (at + length text)) q ∙ take-paste o at text (length text) (omega arith) (omega arith) ∙ ap (λ (l : List ℕ). take at o ++ l) (take-length text);
+      next = refl;
+    }
+
+pub put-one : (l : List ℕ) (at x : ℕ) → at < length l → Put (x ∷ []) l at (set l at x) (at + 1)
+put-one l at x h = record { front = rw add-one (take-suc-set l at x h); next = refl }
+
+pub put-then : {t u o m n : List ℕ} {a p r : ℕ} → Put t o a m p → Put u m p n r → Put (t ++ u) o a n r
+put-then {t} {u} {o} {a = a} x y =
+    record {
+      front = y .front ∙ ap (λ (l : List ℕ). l ++ u) (x .front) ∙ append-assoc (take a o) t u;
+      next = omega (arith, x .next, y .next, length-append t u);
+    }
+
+pub put-as : {t u o n : List ℕ} {a r : ℕ} → Put t o a n r → t ≡ u → Put u o a n r
+put-as x e = rw e at x
+
+pub digits-length : (b k n : ℕ) → length (digits b k n) ≡ k
+digits-length b zero n = refl
+digits-length b (suc k) n =
+    omega (arith, length-append (digits b k (n / b)) (glyph (n % b) ∷ []), digits-length b k (n / b))
+
+-- the fewest digits that hold a number
+module _ (x k : ℕ) (f : Fewest 10 1 x k) where
+  -- are no more than hold a larger one
+  pub fewest-most : (n : ℕ) → 1 ≤ n → x < 10 ^ n → k ≤ n
+  fewest-most n s h = elim (decLt n k) [
+    | no p ↦ omega arith
+    | yes p ↦
+        let q : 10 ^ n ≤ 10 ^ (k - 1) = pow-le-pow-right {n = 10} (omega arith) {i = n} {j = k - 1} (omega arith) in
+        let r : 10 ^ (k - 1) ≤ x = f .2 (omega arith) in
+        absurd (omega arith)
+  ]
+
+  power-below : (j : ℕ) → j < k - 1 → 10 ^ (j + 1) ≤ x
+  power-below j l =
+      let p : 10 ^ (k - 1) ≤ x = f .2 (omega arith) in
+      let q : 10 ^ (j + 1) ≤ 10 ^ (k - 1) = pow-le-pow-right {n = 10} (omega arith) {i = j + 1} {j = k - 1} (omega arith) in
+      omega arith
+
+  power-above : x < 10 ^ (k - 1 + 1)
+  power-above =
+      let e : k ≡ k - 1 + 1 = omega (arith, f .0) in
+      rw e at (f .1)
+
+  -- and are as many as it takes
+  pub places-fewest : k ≤ 20 → k ≡ places x
+  unfolding places
+  places-fewest most =
+      let e : k - 1 ≡ first (λ j. ltb x (10 ^ (j + 1))) 19 =
+      first-is (λ j. ltb x (10 ^ (j + 1))) 19 (k - 1) (omega arith) (λ j l. le-ltb _ _ (power-below j l)) (λ l. lt-ltb _ _ power-above)
+      in omega (arith, f .0)
+
+  pub decimal-fewest : k ≤ 20 → digits 10 k x ≡ decimal x
+  unfolding decimal
+  decimal-fewest most = ap (λ (n : ℕ). digits 10 n x) (places-fewest most)
+
+  -- ten for a word, twenty for any number that is printed
+  pub word-digits : {t : List ℕ} → t ≡ digits 10 k x → x < 2 ^ 32 → length t ≤ 10
+  word-digits e h = omega (arith, ap length e ∙ digits-length 10 k x, fewest-most 10 (omega arith) (omega arith))
+
+  pub all-digits : {t : List ℕ} → t ≡ digits 10 k x → x < 2 ^ 64 → length t ≤ 20
+  all-digits e h = omega (arith, ap length e ∙ digits-length 10 k x, fewest-most 20 (omega arith) (omega arith))
+
+  -- its digits and a space, put one behind the other
+  pub put-spaced : {t o m : List ℕ} {a p : ℕ} → x < 2 ^ 64 → t ≡ digits 10 k x → Put t o a m p → p < length m → Put (spaced x) o a (set m p 32) (p + 1)
+  unfolding spaced
+  put-spaced {m = m} {p = p} fits e put h =
+      put-as (put-then put (put-one m p 32 h)) (ap (λ (l : List ℕ). l ++ 32 ∷ []) (e ∙ decimal-fewest (fewest-most 20 (omega arith) (omega arith))))
+
+-- one number more, at the end and in a list that is walked
+pub spelled-more : (xs : List ℕ) (x : ℕ) → spelled (xs ++ x ∷ []) ≡ spelled xs ++ spaced x
+unfolding spelled
+spelled-more [] x = append-nil _
+spelled-more (y ∷ xs) x =
+    ap (λ (l : List ℕ). spaced y ++ l) (spelled-more xs x) ∙ sym (append-assoc (spaced y) (spelled xs) (spaced x))
+
+pub spelled-next : (xs : List ℕ) (i : ℕ) → i < length xs → spelled (take i xs) ++ spaced (getD xs i 0) ≡ spelled (take (i + 1) xs)
+spelled-next xs i h =
+    let e : take (i + 1) xs ≡ take i xs ++ getD xs i 0 ∷ [] = rw add-one (take-suc xs i 0 h) in
+    sym (ap spelled e ∙ spelled-more (take i xs) (getD xs i 0))
+
+-- two numbers and three behind a text
+pub spelled-two : (t : List ℕ) (x y : ℕ) → (t ++ spaced x) ++ spaced y ≡ t ++ spelled (x ∷ y ∷ [])
+unfolding spelled
+spelled-two t x y = simp (append-assoc, append-nil)
+
+pub spelled-three : (t : List ℕ) (x y z : ℕ) → ((t ++ spaced x) ++ spaced y) ++ spaced z ≡ t ++ spelled (x ∷ y ∷ z ∷ [])
+unfolding spelled
+spelled-three t x y z = simp (append-assoc, append-nil)
+
+-- the newline, behind a text and in an empty line
+pub ended-some : (l : List ℕ) (end : ℕ) → 0 < end → end ≤ length l → take end (set l (end - 1) 10) ≡ ended (take end l)
+unfolding ended
+ended-some l end h k =
+    let e : suc (end - 1) ≡ end = omega arith in
+    let p : take end (set l (end - 1) 10) ≡ take (end - 1) l ++ 10 ∷ [] = rw e at (take-suc-set l (end - 1) 10 (omega arith)) in
+    p ∙ sym (rw (length-take-le end l k, take-take (end - 1) end l (omega arith)))
+
+pub ended-none : (l : List ℕ) (end : ℕ) → end ≡ 0 → 0 < length l → take 1 (set l 0 10) ≡ ended (take end l)
+unfolding ended
+ended-none l end e h = rw e (take-suc-set l 0 10 h)
+
+-- two lines, computed: "10 0" and "refused 10 1 3"
+pub listing-shown : listingLine (10 ∷ 0 ∷ []) ≡ 49 ∷ 48 ∷ 32 ∷ 48 ∷ 10 ∷ []
+unfolding listingLine ended spelled spaced decimal places first firstFrom
+listing-shown = refl
+
+pub refusal-shown : refusalLine (said 10 (1 ∷ 3 ∷ [])) ≡ refused ++ 49 ∷ 48 ∷ 32 ∷ 49 ∷ 32 ∷ 51 ∷ 10 ∷ []
+unfolding refusalLine ended spelled spaced decimal places first firstFrom
+refusal-shown = refl

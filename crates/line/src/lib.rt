@@ -1,0 +1,176 @@
+// The line that is printed of a listing, and of a refusal.
+use book::Refusal;
+use libc::STDOUT_FILENO;
+use translation::Answer;
+ghost use mathlib.Core.Path.{_≡_};
+ghost use mathlib.Core.List.{_∷_, _++_};
+ghost use Prim.Native.Nat.{_+_, _*_, _^_, _<_, _≤_};
+ghost use lib.ListN.{length, take};
+ghost use Rattle.io.specs.Counts.{Counts};
+ghost use Rattle.book.specs.Said.{refusalSays};
+ghost use Rattle.line.specs.Line.{spaced, spelled, ended, refused, toldSays, listingLine, refusalLine, Put};
+
+// What a line takes at most: of a listing of 16,384 words, and of a refusal.
+struct Most {}
+
+impl Most {
+    // A word takes up to eleven bytes of the line, with the space behind it. Another number can take
+    // twenty-one, and wherever a number is put, there is room for that.
+    const LISTING: usize = 180234;
+
+    const REFUSAL: usize = 71;
+}
+
+// A refusal as it is printed: its number with one value, or with two.
+enum Told {
+    One(u64, u64),
+    Two(u64, u64, u64),
+}
+
+fn told_of(refusal: Refusal) -> Told
+    ensures { λ r. ⌜ toldSays r ≡ refusalSays refusal ⌝ }
+{
+    match refusal {
+        Refusal::Short => Told::One(1, 0),
+        Refusal::Count(word) => Told::One(2, word as u64),
+        Refusal::Offset(word) => Told::One(3, word as u64),
+        Refusal::Row(row) => Told::One(4, row as u64),
+        Refusal::Size(row) => Told::One(5, row as u64),
+        Refusal::Repeat(row) => Told::One(6, row as u64),
+        Refusal::Party(party) => Told::One(7, party as u64),
+        Refusal::Step(step) => Told::One(8, step as u64),
+        Refusal::Sum => Told::One(9, 0),
+        Refusal::Taken(step, row) => Told::Two(10, step as u64, row as u64),
+        Refusal::Move(place) => Told::One(11, place as u64),
+        Refusal::Room(needed) => Told::One(12, needed as u64),
+    }
+}
+
+// Puts a text at a place of the line; answers the place behind it.
+fn put_text(line: &mut [u8], at: usize, text: &[u8]) -> usize
+    requires { ⌜ at + length (now text) ≤ length (now line) ⌝ }
+    ensures { λ r. ⌜ Put (now (text .entry)) (now (line .entry)) at (now (line .exit)) r ⌝ }
+{
+    let mut i = 0;
+    while i < text.len() {
+        line[at + i] = text[i];
+        i += 1;
+    }
+    at + text.len()
+}
+
+// The same for a number in decimal with a space behind it.
+fn put_number(line: &mut [u8], at: usize, x: u64) -> usize
+    requires { ⌜ at + 21 ≤ length (now line) ⌝ }
+    ensures { λ r. ⌜ Put (spaced x) (now (line .entry)) at (now (line .exit)) r × (r ≤ at + 21) × (x < 2 ^ 32 → r ≤ at + 11) ⌝ }
+{
+    let mut digits = [0u8; 20];
+    let n = io::decimal(x, &mut digits);
+    let end = put_text(line, at, &digits[..n]);
+    line[end] = b' ';
+    end + 1
+}
+
+// The same for words, from the line's start.
+fn put_words(line: &mut [u8], words: &[u32]) -> usize
+    requires { ⌜ 11 * length (now words) + 10 ≤ length (now line) ⌝ }
+    ensures { λ r. ⌜ (take r (now (line .exit)) ≡ spelled (now (words .entry))) × (r ≤ 11 * length (now (words .entry))) ⌝ }
+{
+    let mut at = 0;
+    let mut i = 0;
+    while i < words.len() {
+        at = put_number(line, at, words[i] as u64);
+        i += 1;
+    }
+    at
+}
+
+// The same for a refusal.
+fn put_told(line: &mut [u8], told: Told) -> usize
+    requires { ⌜ 71 ≤ length (now line) ⌝ }
+    ensures { λ r. ⌜ (take r (now (line .exit)) ≡ refused ++ spelled (toldSays told .number ∷ toldSays told .values)) × (r ≤ 71) ⌝ }
+{
+    let start = put_text(line, 0, b"refused ");
+    match told {
+        Told::One(number, place) => {
+            let first = put_number(line, start, number);
+            put_number(line, first, place)
+        }
+        Told::Two(number, place, row) => {
+            let first = put_number(line, start, number);
+            let second = put_number(line, first, place);
+            put_number(line, second, row)
+        }
+    }
+}
+
+// Puts a newline in the last space's place; answers the line's length.
+fn end(line: &mut [u8], at: usize) -> usize
+    requires { ⌜ (at ≤ length (now line)) × (0 < length (now line)) ⌝ }
+    ensures { λ r. ⌜ Counts r (now (line .exit)) ⌝ }
+    ensures { λ r. ⌜ take r (now (line .exit)) ≡ ended (take at (now (line .entry))) ⌝ }
+{
+    if at == 0 {
+        line[0] = b'\n';
+        return 1;
+    }
+    line[at - 1] = b'\n';
+    at
+}
+
+// The line of a listing, and of a refusal.
+pub fn listing_line(line: &mut [u8], words: &[u32]) -> usize
+    requires { ⌜ 11 * length (now words) + 10 ≤ length (now line) ⌝ }
+    ensures { λ r. ⌜ Counts r (now (line .exit)) ⌝ }
+    ensures { λ r. ⌜ take r (now (line .exit)) ≡ listingLine (now (words .entry)) ⌝ }
+{
+    let at = put_words(line, words);
+    end(line, at)
+}
+
+pub fn refusal_line(line: &mut [u8], refusal: Refusal) -> usize
+    requires { ⌜ 71 ≤ length (now line) ⌝ }
+    ensures { λ r. ⌜ Counts r (now (line .exit)) ⌝ }
+    ensures { λ r. ⌜ take r (now (line .exit)) ≡ refusalLine (refusalSays refusal) ⌝ }
+{
+    let at = put_told(line, told_of(refusal));
+    end(line, at)
+}
+
+// Writes a line out. All of it is handed over at once and the newline comes last, so that where a
+// write fails, what went out before has no newline.
+fn print(line: &[u8]) {
+    if !io::write_all(STDOUT_FILENO, line) {
+        os::fail(b"standard output");
+    }
+}
+
+fn print_listing(words: &[u32])
+    requires { ⌜ length (now words) ≤ 16384 ⌝ }
+{
+    let mut line = [0u8; Most::LISTING];
+    let n = listing_line(&mut line, words);
+    print(&line[..n]);
+}
+
+pub fn print_refusal(refusal: Refusal) {
+    let mut line = [0u8; Most::REFUSAL];
+    let n = refusal_line(&mut line, refusal);
+    print(&line[..n]);
+}
+
+// Prints what a translation or a rehearsal came to: its words, in front of what was lent, or its
+// refusal.
+pub fn print_answer(answer: Answer, lent: &[u32])
+    requires { ⌜ length (now lent) ≤ 16384 ⌝ }
+{
+    match answer {
+        Answer::Written(n) => {
+            // It always is. With the test nothing has to be known of the words here.
+            if n <= lent.len() {
+                print_listing(&lent[..n]);
+            }
+        }
+        Answer::Refused(refusal) => print_refusal(refusal),
+    }
+}

@@ -56,7 +56,7 @@ pub fn random(program: &str, seed: u64, count: usize, out: &mut dyn Write) -> Re
 }
 
 /// The books of a folder, sorted by name.
-fn folder(path: &Path) -> Result<Vec<PathBuf>, String> {
+pub fn folder(path: &Path) -> Result<Vec<PathBuf>, String> {
     let told = |error: std::io::Error| format!("{}: {error}", path.display());
     let mut books = Vec::new();
     for entry in fs::read_dir(path).map_err(told)? {

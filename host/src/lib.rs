@@ -11,3 +11,4 @@ pub mod rehearse;
 pub mod show;
 pub mod term;
 pub mod translate;
+pub mod trials;

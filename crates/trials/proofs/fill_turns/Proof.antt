@@ -1,0 +1,32 @@
+-- `trials::fill_turns` meets its contract: the moves that were passed are those of the turns (`filled-more`, `filled-all`). Assumes nothing.
+use Prim.Native.Nat.{ℕ, _-_, _≤_, _<_}
+use mathlib.Core.Path.{_≡_}
+use native.Mathlib.Omega.{arith}
+use lib.ListN.{length, getD}
+use borrow.Author.Needs.{needs}
+use Rattle.trials.specs.Turns.Laws.{filled-more, filled-all}
+use Rattle.trials.specs.Turns.{turn}
+use Rattle.trials.proofs.fill_turns.Statement.{statement}
+use Rattle.trials.proofs.fill_turns.Tie as tie
+
+abbrev Inv-loop : tie.InvT-loop
+Inv-loop out₀ parties times back i₀ out i = (i ≤ length out₀) × (length out ≡ length out₀) × ((k : ℕ) → k < i → getD out k 0 ≡ turn parties times back k)
+
+abbrev μ-loop : tie.MeasureT-loop
+μ-loop out₀ parties times back i₀ out i = length out₀ - i
+
+pub fill-turns-spec : {M : Type 1} → statement M
+fill-turns-spec =
+    tie.close
+    (tie.spec
+    Inv-loop
+    μ-loop
+    (λ c. (search needs, search needs, λ k l. absurd (omega arith)))  -- loop-holds
+    (λ c κs. search needs)  -- turn-of-requires
+    (λ c. search needs)  -- mul-out
+    (λ c. search needs)  -- slice-write-out
+    (λ c. search needs)  -- add-i
+    (λ c. search needs)  -- loop-less
+    (λ c. (search needs, search needs, filled-more (turn (c .before .before .before .before .args .parties) (c .before .before .before .before .args .times) (c .before .before .before .before .args .back)) (c .before .before .loop .out) (c .before .before .loop .i) (c .turn-of .result) (omega arith) (c .turn-of .ensures) (c .before .before .loop .inv .2)))  -- loop-again
+    (λ c. search needs)  -- same-length
+    (λ c. filled-all (turn (c .before .before .before .args .parties) (c .before .before .before .args .times) (c .before .before .before .args .back)) (c .before .loop .out) (length (c .before .before .before .args .out .now)) (c .before .loop .inv .1) (λ k l. c .before .loop .inv .2 k (omega arith))))  -- returns

@@ -1,0 +1,15 @@
+-- `trials::seats_of` meets its contract: by what the book says in word 2, and where it has no such word, it says 0. Assumes nothing.
+use native.Mathlib.Omega.{arith}
+use borrow.Author.Needs.{needs}
+use Rattle.trials.specs.Turns.Laws.{no-word, seats-below, seats-above, seats-own}
+use Rattle.trials.proofs.seats_of.Statement.{statement}
+use Rattle.trials.proofs.seats_of.Tie as tie
+
+pub seats-of-spec : {M : Type 1} → statement M
+seats-of-spec =
+    tie.close (tie.spec
+    (λ c. (seats-below (c .before .args .book .now) (omega (arith, no-word (c .before .args .book .now) 2 (omega arith))), search needs))  -- returns
+    (λ c. search needs)  -- shared-slice-read-parties
+    (λ c. (seats-below (c .before .before .before .args .book .now) (omega arith), search needs))  -- returns-2
+    (λ c. (seats-above (c .before .before .before .before .args .book .now) (omega arith) (omega arith), search needs))  -- returns-3
+    (λ c. (seats-own (c .before .before .before .before .args .book .now) (omega arith) (omega arith), (omega arith, omega arith))))  -- returns-4

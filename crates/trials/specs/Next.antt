@@ -1,0 +1,9 @@
+-- What reading the next book promises. Assumes nothing.
+use Prim.Native.Nat.{ℕ, _≤_}
+use Rattle.trials.specs.declared.Next.{Next}
+use Rattle.trials.specs.declared.Next.the-variants.{Book, Nothing}
+
+-- no more words came than there is room for
+abbrev pub Fits : Next → Type 0
+Fits (Book n) = n ≤ 12601
+Fits Nothing = Unit {0}

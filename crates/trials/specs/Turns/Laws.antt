@@ -1,0 +1,64 @@
+-- Laws of turns: who moves, one move more, and how many parties there are. Assumes nothing.
+use Prim.Native.Nat.{ℕ, zero, suc, _+_, _-_, _/_, _%_, _≤_, _<_}
+use mathlib.Core.Bool.{Bool, true, false}
+use mathlib.Core.Path.{_≡_, refl, sym, _∙_, ap}
+use mathlib.Core.List.{List, [], _∷_}
+use native.Mathlib.Omega.{arith}
+use native.Mathlib.Nat.{mod-lt, zero-add}
+use native.Mathlib.Decide.{ℕ-discrete}
+use lib.ListN.{length, getD, set}
+use lib.Seq.{ext-getD, getD-set-same, getD-set-other}
+use borrow.Author.Tests.{lt-ltb, le-ltb}
+use Rattle.words.specs.Choice.{pick}
+use Rattle.words.specs.Choice.Laws.{pick-true, pick-false}
+use Rattle.words.specs.Run.{values}
+use Rattle.words.specs.Run.Laws.{values-length, values-getD}
+use Rattle.book.specs.Layout.{parties}
+use Rattle.book.specs.Rules.{outside, countBreaks}
+use Rattle.book.specs.Rules.Laws.{outside-in}
+use Rattle.trials.specs.Turns.{turn, seats}
+
+-- ---- turn, where the code has the number of the parties as w, and who would move from the first on as p
+module _ (q times i : ℕ) (back : Bool) (w p : ℕ) (same : w ≡ q) (e : p ≡ i / times % w) where
+  asked : p ≡ i / times % q
+  asked = e ∙ ap (λ (k : ℕ). i / times % k) same
+
+  pub turn-below : 0 < q → p < q
+  turn-below h = let l : i / times % q < q = mod-lt (i / times) h in omega (arith, asked)
+
+  pub turn-on : back ≡ false → p ≡ turn q times back i
+  unfolding turn
+  turn-on n = asked ∙ sym (pick-false back (q - 1 - i / times % q) (i / times % q) n)
+
+  pub turn-back : back ≡ true → q - 1 - p ≡ turn q times back i
+  unfolding turn
+  turn-back y = ap (λ (k : ℕ). q - 1 - k) asked ∙ sym (pick-true back (q - 1 - i / times % q) (i / times % q) y)
+
+-- ---- values, one more and all
+pub filled-more : (f : ℕ → ℕ) (out : List ℕ) (i w : ℕ) → i < length out → w ≡ f i → ((k : ℕ) → k < i → getD out k 0 ≡ f k) → (k : ℕ) → k < i + 1 → getD (set out i w) k 0 ≡ f k
+filled-more f out i w h e inv k l = elim (ℕ-discrete k i) [
+  | yes p ↦ rw p (getD-set-same out i w 0 h ∙ e)
+  | no q ↦ getD-set-other out i k w 0 q ∙ inv k (omega arith)
+]
+
+pub filled-all : (f : ℕ → ℕ) (out : List ℕ) (n : ℕ) → length out ≡ n → ((k : ℕ) → k < n → getD out k 0 ≡ f k) → out ≡ values f 0 n
+filled-all f out n e h =
+    ext-getD 0 out (values f 0 n) (e ∙ sym (values-length f 0 n)) (λ k l. h k (omega arith) ∙ sym (values-getD f 0 n k 0 (omega arith) ∙ ap f (zero-add k)))
+
+-- ---- seats
+pub no-word : (l : List ℕ) (k : ℕ) → length l ≤ k → getD l k 0 ≡ 0
+no-word [] k h = refl
+no-word (x ∷ l) zero h = absurd (omega arith)
+no-word (x ∷ l) (suc k) h = no-word l k (omega arith)
+
+pub seats-below : (b : List ℕ) → parties b < 1 → 1 ≡ seats b
+unfolding seats countBreaks outside
+seats-below b h = sym (pick-true _ _ _ (rw (lt-ltb (parties b) 1 h)))
+
+pub seats-above : (b : List ℕ) → 1 ≤ parties b → 16 < parties b → 1 ≡ seats b
+unfolding seats countBreaks outside
+seats-above b h k = sym (pick-true _ _ _ (rw (le-ltb (parties b) 1 h, lt-ltb 16 (parties b) k)))
+
+pub seats-own : (b : List ℕ) → 1 ≤ parties b → parties b ≤ 16 → parties b ≡ seats b
+unfolding seats countBreaks
+seats-own b h k = sym (pick-false _ _ _ (outside-in 1 16 (parties b) h k))

@@ -1,0 +1,128 @@
+//! The program `trials`: what it is run on, all books of a folder in one stream, and what it must print:
+//! of each book its translation and its rehearsals under six schedules, a line for each.
+
+use crate::book;
+use crate::compare;
+use crate::random;
+use crate::rehearse;
+use crate::translate;
+use std::fs;
+use std::path::Path;
+
+/// The two files of the program's crate, and the books that are in them.
+pub struct Trials {
+    /// Each book's count of words, then its words.
+    pub stdin: Vec<u8>,
+    pub stdout: Vec<u8>,
+    pub books: usize,
+    /// Files that are no words, so that the stream has no place for them.
+    pub left_out: Vec<String>,
+}
+
+impl Trials {
+    /// Of the books of a folder, in the order of their names.
+    pub fn of(folder: &Path) -> Result<Trials, String> {
+        let mut trials = Trials {
+            stdin: Vec::new(),
+            stdout: Vec::new(),
+            books: 0,
+            left_out: Vec::new(),
+        };
+        for file in compare::folder(folder)? {
+            let bytes = fs::read(&file).map_err(|error| format!("{}: {error}", file.display()))?;
+            if bytes.len() % 4 != 0 {
+                trials.left_out.push(file.display().to_string());
+                continue;
+            }
+            // One word more than the longest book is read, and no further.
+            trials.add(&bytes[..bytes.len().min(translate::READ_BYTES)]);
+        }
+        Ok(trials)
+    }
+
+    fn add(&mut self, book: &[u8]) {
+        let words = book.len() as u32 / 4;
+        self.stdin.extend(words.to_le_bytes());
+        self.stdin.extend(book);
+        let mut lines = vec![translate::print(book)];
+        for schedule in schedules(book) {
+            lines.push(rehearse::print(book, &random::bytes_of(&schedule)));
+        }
+        self.stdout.extend((lines.join("\n") + "\n").into_bytes());
+        self.books += 1;
+    }
+
+    fn files(&self) -> [(&str, &Vec<u8>); 2] {
+        [("stdin", &self.stdin), ("stdout", &self.stdout)]
+    }
+
+    /// Writes the files into the crate's folder.
+    pub fn write(&self, folder: &Path) -> Result<(), String> {
+        for (name, content) in self.files() {
+            let file = folder.join(name);
+            fs::write(&file, content).map_err(|error| format!("{}: {error}", file.display()))?;
+        }
+        Ok(())
+    }
+
+    /// Whether the crate's folder has these files; a line for each that it hasn't.
+    pub fn check(&self, folder: &Path) -> Result<(), String> {
+        let mut faults = Vec::new();
+        for (name, content) in self.files() {
+            let file = folder.join(name);
+            match fs::read(&file) {
+                Ok(found) if found == *content => (),
+                Ok(_) => faults.push(format!(
+                    "{}: stale, not what the books give",
+                    file.display()
+                )),
+                Err(error) => faults.push(format!("{}: {error}", file.display())),
+            }
+        }
+        if faults.is_empty() {
+            Ok(())
+        } else {
+            Err(faults.join("\n"))
+        }
+    }
+
+    /// How many books there are, and which were left out.
+    pub fn told(&self) -> String {
+        let mut told = format!("{} books in the trials", self.books);
+        if !self.left_out.is_empty() {
+            told += &format!(", left out: {}", self.left_out.join(", "));
+        }
+        told
+    }
+}
+
+/// The schedules of a book: long ones, a short one, one that names a party too many in each round, one
+/// with a move too many. A book that can't have so many parties as it says has schedules for one.
+fn schedules(book: &[u8]) -> [Vec<u32>; 6] {
+    let said = book.get(8..12).map_or(0, |word| {
+        word.iter()
+            .rev()
+            .fold(0, |n, byte| 256 * n + u32::from(*byte))
+    });
+    let parties = match said {
+        1..=book::MOST_PARTIES => said,
+        _ => 1,
+    };
+    let on: Vec<u32> = (0..parties).collect();
+    let back: Vec<u32> = on.iter().rev().copied().collect();
+    let over: Vec<u32> = (0..=parties).collect();
+    [
+        turns(&on, 1, rehearse::MOST_MOVES),
+        turns(&back, 1, rehearse::MOST_MOVES),
+        turns(&on, 32, rehearse::MOST_MOVES),
+        turns(&on, 1, 48),
+        turns(&over, 1, 48),
+        turns(&on, 1, rehearse::MOST_MOVES + 1),
+    ]
+}
+
+/// Each party of a round moves so many times in a row, round and round.
+fn turns(round: &[u32], times: usize, moves: usize) -> Vec<u32> {
+    let round = round.iter().flat_map(|party| vec![*party; times]);
+    round.cycle().take(moves).collect()
+}

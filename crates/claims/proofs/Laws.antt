@@ -1,10 +1,11 @@
 -- What the functions of this room know, as their contracts name it. Assumes nothing.
-use Prim.Native.Nat.{ℕ, zero, suc, _+_, _-_, _≤_, _<_}
+use Prim.Native.Nat.{ℕ, _+_, _-_, _≤_, _<_}
 use mathlib.Core.List.{List, [], _∷_, map}
 use mathlib.Core.Path.{_≡_, refl, sym, ap, _∙_}
 use native.Mathlib.Omega.{arith}
 use lib.ListN.{length, getD, set, replicate, length-set, length-replicate}
 use Rattle.words.specs.Run.{values}
+use Rattle.words.specs.Run.Laws.{zeros}
 use Rattle.terms.specs.Term.{Term}
 use Rattle.terms.specs.Table.{term}
 use Rattle.book.specs.Layout.{rows, parties, pool, kind, table, rowFirst, rowCount, name, partyFirst, partyCount, stepFirst, stepCount, pooled, listAt, known}
@@ -108,11 +109,6 @@ step-claimed b s f n l m d e c x = claims-step b s l m c (rw (← d, ← e) x)
 -- ---- the table at first
 pub all-zero : (q : ℕ) → getD (replicate {A = ℕ} 1024 0) q 0 ≡ 0
 all-zero = zeros 1024
-  where
-    zeros : (n q : ℕ) → getD (replicate {A = ℕ} n 0) q 0 ≡ 0
-    zeros zero q = refl
-    zeros (suc n) zero = refl
-    zeros (suc n) (suc q) = zeros n q
 
 -- ---- rows gone through
 pub ready-start : (b : List ℕ) → Ready b (replicate 1024 0) (replicate 1024 0)

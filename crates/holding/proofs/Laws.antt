@@ -1,5 +1,5 @@
 -- What the functions of this room know, as their contracts name it. Assumes nothing.
-use Prim.Native.Nat.{ℕ, zero, suc, _+_, _-_, _≤_, _<_}
+use Prim.Native.Nat.{ℕ, _+_, _-_, _≤_, _<_}
 use mathlib.Core.Bool.{Bool, true, false}
 use mathlib.Core.List.{List, [], _∷_, _++_, map}
 use mathlib.Core.Path.{_≡_, refl, sym, ap, _∙_, fun-ext}
@@ -7,6 +7,7 @@ use native.Mathlib.Omega.{arith}
 use lib.ListN.{length, getD, set, replicate, length-set, length-replicate}
 use lib.Dec.{ltb}
 use Rattle.words.specs.Choice.{pick}
+use Rattle.words.specs.Run.Laws.{zeros}
 use Rattle.words.specs.Overlay.{Wrote}
 use Rattle.words.specs.Overlay.Laws.{wrote-then, wrote-as, wrote-none}
 use Rattle.book.specs.Layout.{table, rows, parties, pool, kind, rowFirst, rowCount, partyFirst, partyCount, known, pooled, listAt}
@@ -78,11 +79,6 @@ pub record Starting (b e : List ℕ) (p f left : ℕ) : Type 0 where
   pub few : left ≤ partyCount b p
   pub long : length e ≡ 1024
   pub holds : view b e ≡ start (map (term (table b)) (listAt b (f + left) (partyCount b p - left)))
-
-zeros : (n i : ℕ) → getD {A = ℕ} (replicate n 0) i 0 ≡ 0
-zeros zero i = refl
-zeros (suc n) zero = refl
-zeros (suc n) (suc i) = zeros n i
 
 none-held : (b : List ℕ) → view b (replicate 1024 0) ≡ start []
 unfolding view start heldOf pick

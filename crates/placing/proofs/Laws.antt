@@ -15,6 +15,7 @@ use Rattle.book.specs.Valid.{Valid}
 use Rattle.book.specs.Headed.Laws.{valid-headed}
 use Rattle.translation.specs.Dictionary.{Dictionary as Holds, start}
 use Rattle.translation.specs.Build.{buildAll}
+use Rattle.translation.specs.Build.Laws.{buildAll-made}
 use Rattle.translation.specs.Receive.{Did, Event, nothing, followed, receiveAll}
 use Rattle.translation.specs.Receive.Laws.{receiveAll-settles}
 use Rattle.translation.specs.Program.{sent, arrived}
@@ -30,7 +31,7 @@ use Rattle.receiving.specs.Walk.{Walked}
 use Rattle.walking.specs.Walk.{before}
 use Rattle.walking.specs.Walk.Laws.{followed-nothing, step-sends, step-receives, step-idle, before-none, before-more}
 use Rattle.walking.specs.Long.{stepSize, mostEvents}
-use Rattle.walking.specs.Long.Laws.{step-sizes, buildAll-made, news-words, receiveAll-given, receiveAll-stored, pairs-length, given-room, stored-room}
+use Rattle.walking.specs.Long.Laws.{step-sizes, news-words, receiveAll-given, receiveAll-stored, pairs-length, given-room, stored-room}
 use Rattle.placing.specs.declared.Counted.{Counted}
 use Rattle.placing.specs.Placed.{Placed}
 use Rattle.placing.specs.Placed.Laws.{send-place, receive-place, end-place, few-events}

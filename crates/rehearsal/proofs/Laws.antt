@@ -6,7 +6,7 @@ use native.Mathlib.Omega.{arith}
 use mathlib.Core.Bool.{Bool, true, false}
 use mathlib.Core.List.{List, [], _∷_, _++_}
 use mathlib.Core.Path.{_≡_, refl, sym, ap, _∙_, fun-ext}
-use lib.Dec.{eqb, leb, ltb}
+use lib.Dec.{leb, ltb}
 use lib.ListN.{length, getD, set, take, replicate}
 use lib.Seq.{take-all, getD-set-same, getD-set-other}
 use borrow.Author.Tests.{eq-eqb, ne-eqb, leb-true, leb-false, lt-ltb, le-ltb}
@@ -16,7 +16,7 @@ use Rattle.words.specs.First.Laws.{first-holds, first-fails, first-same, any-at
 use Rattle.words.specs.Overlay.{Wrote}
 use Rattle.words.specs.Overlay.Laws.{wrote-none, wrote-then, wrote-as}
 use Rattle.words.specs.Run.{All, values}
-use Rattle.words.specs.Run.Laws.{getD-all, values-last}
+use Rattle.words.specs.Run.Laws.{getD-all, values-last, zeros}
 use Rattle.book.specs.Layout.{parties, steps, sender, receiver}
 use Rattle.book.specs.Headed.Laws.{valid-headed}
 use Rattle.book.specs.declared.Refusal.{Refusal}
@@ -152,11 +152,6 @@ module _ (b x y z : List ℕ) (g : Placed b x y z) where
   unfolding counted
   counted-same [] a d = refl
   counted-same (p ∷ ms) a d = ap (counted b (places x y z) ms) (ticked-same p (a .0) d) ∙ counted-same ms (a .1) (ticked b (placesOf b) p d)
-
-  zeros : (n q : ℕ) → getD (replicate {A = ℕ} n 0) q 0 ≡ 0
-  zeros zero q = refl
-  zeros (suc n) zero = refl
-  zeros (suc n) (suc q) = zeros n q
 
   pub performed : Plays b → (ms : List ℕ) → All (λ q. q < parties b) ms → (c : ℕ → ℕ) {old new : List ℕ} {q a : ℕ} → c ≡ counted b (places x y z) ms (counts (replicate {A = ℕ} 16 0)) → q ≡ parties b
       → Wrote (values c 0 q) old 0 new a → Wrote (eventsDone b ms) old 0 new a

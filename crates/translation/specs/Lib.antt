@@ -1,5 +1,6 @@
 pub mod Dictionary
 pub mod Build
+pub mod Along
 pub mod Receive
 pub mod Program
 pub mod Narration

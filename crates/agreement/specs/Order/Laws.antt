@@ -10,7 +10,8 @@ use Rattle.terms.specs.Term.{Term, Terms}
 use Rattle.terms.specs.Image.{Image, Images}
 use Rattle.translation.specs.Dictionary.{Dictionary, start}
 use Rattle.translation.specs.Build.{buildAll}
-use Rattle.translation.specs.Receive.{Event, Did, Rule, byRule, receive, receiveAll}
+use Rattle.translation.specs.Receive.{Event, receive, receiveAll}
+use Rattle.translation.specs.Receive.Laws.{by-rule}
 use Rattle.translation.specs.Program.{Act, act, walk, walked, program}
 use Rattle.translation.specs.Narration.{Narration, knownTo, programOf}
 use Rattle.translation.specs.Taken.{stepOf}
@@ -32,21 +33,15 @@ quiet-append Quiet.nil k = k
 quiet-append (Quiet.checks h) k = Quiet.checks (quiet-append h k)
 quiet-append (Quiet.opens h) k = Quiet.opens (quiet-append h k)
 
-quiet-by : (r : Rule) (c o s : Did) → Quiet (c .events) → Quiet (o .events) → Quiet (s .events) → Quiet (byRule r c o s .events)
-unfolding byRule
-quiet-by Rule.compare c o s x y z = x
-quiet-by Rule.unlock c o s x y z = y
-quiet-by Rule.store c o s x y z = z
-
 mutual
   unfolding receive
 
   receive-quiet : (t : Term) (x : ℕ) (δ : Dictionary) (n : ℕ) → Quiet (receive t x δ n .events)
-  receive-quiet (Term.atom r) x δ n = quiet-by _ _ _ _ (Quiet.checks Quiet.nil) Quiet.nil Quiet.nil
-  receive-quiet (Term.operation g ts) x δ n = quiet-by _ _ _ _ (Quiet.checks Quiet.nil) Quiet.nil Quiet.nil
-  receive-quiet (Term.cipher k ts) x δ n = quiet-by _ _ _ _ (Quiet.checks Quiet.nil) (Quiet.opens (receiveAll-quiet ts n δ _)) Quiet.nil
-  receive-quiet (Term.public t) x δ n = quiet-by _ _ _ _ (Quiet.checks Quiet.nil) Quiet.nil Quiet.nil
-  receive-quiet (Term.private t) x δ n = quiet-by _ _ _ _ (Quiet.checks Quiet.nil) Quiet.nil Quiet.nil
+  receive-quiet (Term.atom r) x δ n = by-rule (λ d. Quiet (d .events)) _ _ _ _ (Quiet.checks Quiet.nil) Quiet.nil Quiet.nil
+  receive-quiet (Term.operation g ts) x δ n = by-rule (λ d. Quiet (d .events)) _ _ _ _ (Quiet.checks Quiet.nil) Quiet.nil Quiet.nil
+  receive-quiet (Term.cipher k ts) x δ n = by-rule (λ d. Quiet (d .events)) _ _ _ _ (Quiet.checks Quiet.nil) (Quiet.opens (receiveAll-quiet ts n δ _)) Quiet.nil
+  receive-quiet (Term.public t) x δ n = by-rule (λ d. Quiet (d .events)) _ _ _ _ (Quiet.checks Quiet.nil) Quiet.nil Quiet.nil
+  receive-quiet (Term.private t) x δ n = by-rule (λ d. Quiet (d .events)) _ _ _ _ (Quiet.checks Quiet.nil) Quiet.nil Quiet.nil
 
   pub receiveAll-quiet : (ts : Terms) (x : ℕ) (δ : Dictionary) (n : ℕ) → Quiet (receiveAll ts x δ n .events)
   receiveAll-quiet Terms.nil x δ n = Quiet.nil

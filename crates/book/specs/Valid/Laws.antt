@@ -1,7 +1,7 @@
 -- The verdict accepts exactly the valid books; each refusal 1 to 9 is given exactly when document 01 says so, at that place; and a
 -- valid book's rows form a table. Assumes nothing.
 use Prim.Native.Nat.{ℕ, zero, suc, _+_, _*_, _≤_, _<_, min}
-use mathlib.Core.List.{List, [], _∷_, _++_}
+use mathlib.Core.List.{List, [], _∷_, _++_, map}
 use mathlib.Core.Logic.{_↔_}
 use mathlib.Core.Path.{_≡_, refl, sym, ap, _∙_}
 use native.Mathlib.Omega.{arith}
@@ -11,8 +11,9 @@ use lib.Dec.{ltb}
 use borrow.Author.Tests.{ltb-false, le-ltb}
 use Rattle.words.specs.Run.{All}
 use Rattle.words.specs.Run.Laws.{all-run, run-length}
-use Rattle.terms.specs.Table.{Formed, Shape, Tagged, term}
-use Rattle.terms.specs.Table.Laws.{term-injective}
+use Rattle.terms.specs.Term.{Term, gathered}
+use Rattle.terms.specs.Table.{Formed, Shape, Tagged, form, term, terms}
+use Rattle.terms.specs.Table.Laws.{kindOf, term-row, shape-row, kind-row, atom-row, term-injective}
 use Rattle.book.specs.Layout.{header, begins, rows, parties, steps, kind, tag, rowFirst, rowCount, parts, table}
 use Rattle.book.specs.Rules.{CountRule, countBreaks, OffsetRule, offsetBreaks, fewest, largest, largestTag, RowRule, rowBreaks, SizeRule, sizeBreaks, SingleRule, repeats, PartyRule, partyBreaks, StepRule, stepBreaks, TotalRule, totalBreaks}
 use Rattle.book.specs.Rules.Laws.{count-exact, offset-exact, row-exact, size-exact, single-exact, party-exact, step-exact, total-exact}
@@ -159,3 +160,21 @@ module _ (b : List ℕ) (v : Valid b) where
   -- "so equal terms have equal row numbers, which is to be proved"
   pub equal-terms : (r s : ℕ) → r < rows b → s < rows b → term (table b) r ≡ term (table b) s → r ≡ s
   equal-terms = term-injective (rows b) (table b) formed
+
+  -- a row's term, and what the row says of it
+  module _ (r : ℕ) (l : r < rows b) where
+    pub row-form : term (table b) r ≡ form r (kind b r) (tag b r) (gathered (map (term (table b)) (parts b r)))
+    unfolding terms table
+    row-form = term-row (rows b) (table b) formed r l
+
+    pub row-shape : Shape (kind b r) (length (map (term (table b)) (parts b r)))
+    unfolding table
+    row-shape = shape-row (rows b) (table b) formed r l
+
+    pub row-kind : kindOf (term (table b) r) ≡ kind b r
+    unfolding table
+    row-kind = kind-row (rows b) (table b) formed r l
+
+    pub row-atom : kind b r ≡ 0 → term (table b) r ≡ Term.atom r
+    unfolding table
+    row-atom e = atom-row (rows b) (table b) formed r l e

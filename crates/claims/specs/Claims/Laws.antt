@@ -1,16 +1,18 @@
 -- Laws of claims: names and starting knowledge are claimed from step 0 on, a step's messages from the next step on. Assumes nothing.
 use Prim.Native.Nat.{ℕ, zero, suc, _+_, _-_, _≤_, _<_}
-use mathlib.Core.Bool.{Bool, true, false, _||_}
+use mathlib.Core.Bool.{Bool, true, false, _||_, or-assoc}
 use mathlib.Core.List.{List, [], _∷_, _++_, map, append-nil}
 use mathlib.Core.Path.{_≡_, refl, sym, ap, ap₂, _∙_}
 use native.Mathlib.Omega.{arith}
 use native.Mathlib.Decide.{decLt}
 use lib.ListN.{getD, take}
+use lib.Seq.{take-all}
 use lib.Dec.{eqb, leb}
 use borrow.Author.Tests.{eq-eqb, ne-eqb, le-leb, lt-leb}
 use Rattle.words.specs.Choice.{pick}
 use Rattle.words.specs.Choice.Laws.{pick-true, pick-false}
 use Rattle.words.specs.Run.{values}
+use Rattle.words.specs.Run.Laws.{values-length, values-last, values-take}
 use Rattle.terms.specs.Term.{listed}
 use Rattle.terms.specs.Term.Laws.{listed-gathered}
 use Rattle.terms.specs.Table.{term, terms}
@@ -20,8 +22,7 @@ use Rattle.translation.specs.Narration.{narration, stepAt}
 use Rattle.translation.specs.Taken.{joined, said, claimed, occursInOne, taken}
 use Rattle.holding.specs.Since.{takenIn}
 use Rattle.claims.specs.Marked.{marked, Marked}
-use Rattle.words.specs.Run.Laws.{values-last}
-use Rattle.claims.specs.Marked.Laws.{or-assoc, one-append, marked-then}
+use Rattle.claims.specs.Marked.Laws.{one-append, marked-then}
 use Rattle.claims.specs.Claims.{Claims, cut, ClaimsBefore}
 
 -- ---- an entry, at a step
@@ -64,24 +65,14 @@ marked-low zero k x true h l = l
 marked-low zero k x false h l = h
 
 -- ---- the steps up to a place
-take-fewer : {X : Type 0} (f : ℕ → X) (i s n : ℕ) → s ≤ n → take s (values f i n) ≡ values f i s
-unfolding values
-take-fewer f i zero n h = refl
-take-fewer f i (suc s) zero h = absurd (omega arith)
-take-fewer {X} f i (suc s) (suc n) h = ap (λ (l : List X). f i ∷ l) (take-fewer f (suc i) s n (omega arith))
-
 take-more : {X : Type 0} (f : ℕ → X) (i s n : ℕ) → n ≤ s → take s (values f i n) ≡ values f i n
-unfolding values
-take-more f i zero zero h = refl
-take-more f i (suc s) zero h = refl
-take-more f i zero (suc n) h = absurd (omega arith)
-take-more {X} f i (suc s) (suc n) h = ap (λ (l : List X). f i ∷ l) (take-more f (suc i) s n (omega arith))
+take-more f i s n h = let l = values-length f i n in take-all s (values f i n) (omega arith)
 
 said-last : (q : ℕ) (ss : List Step) (a : Step) → occursInOne q (said (ss ++ (a ∷ []))) ≡ (occursInOne q (said ss) || occursInOne q (listed (a .messages)))
 unfolding said occursInOne
 said-last q [] a = ap (occursInOne q) (append-nil (listed (a .messages)))
 said-last q (s ∷ ss) a =
-    one-append q (listed (s .messages)) (said (ss ++ (a ∷ []))) ∙ ap (λ x. occursInOne q (listed (s .messages)) || x) (said-last q ss a) ∙ or-assoc (occursInOne q (listed (s .messages))) (occursInOne q (said ss)) (occursInOne q (listed (a .messages)))
+    one-append q (listed (s .messages)) (said (ss ++ (a ∷ []))) ∙ ap (λ x. occursInOne q (listed (s .messages)) || x) (said-last q ss a) ∙ sym (or-assoc (occursInOne q (listed (s .messages))) (occursInOne q (said ss)) (occursInOne q (listed (a .messages))))
     ∙ ap (λ x. x || occursInOne q (listed (a .messages))) (sym (one-append q (listed (s .messages)) (said ss)))
 
 -- ---- taken, with the first k steps only
@@ -105,7 +96,7 @@ module _ (b : List ℕ) (q : ℕ) where
 
       four : (x y z w : Bool) → (x || (y || (z || w))) ≡ ((x || (y || z)) || w)
       four true y z w = refl
-      four false y z w = or-assoc y z w
+      four false y z w = sym (or-assoc y z w)
 
   taken-start : (s : ℕ) → taken (cut b 0) s q ≡ occursInOne q (narration b .names ++ joined (narration b .knows))
   unfolding taken claimed cut values said
@@ -113,7 +104,7 @@ module _ (b : List ℕ) (q : ℕ) where
 
   taken-before : (k s : ℕ) → s ≤ k → taken (cut b (suc k)) s q ≡ taken (cut b k) s q
   unfolding taken claimed cut
-  taken-before k s h = ap upTo (take-fewer (stepAt b) 0 s (suc k) (omega arith) ∙ sym (take-fewer (stepAt b) 0 s k h))
+  taken-before k s h = ap upTo (values-take (stepAt b) 0 (suc k) s (omega arith) ∙ sym (values-take (stepAt b) 0 k s h))
 
   taken-after : (k s : ℕ) → k < s → taken (cut b (suc k)) s q ≡ (taken (cut b k) s q || occursInOne q (map (term (table b)) (messages b k)))
   unfolding taken claimed cut stepAt terms

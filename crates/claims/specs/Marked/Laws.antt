@@ -1,6 +1,6 @@
 -- Laws of marking: one atom, a row by its parts, terms one after another. Assumes nothing.
 use Prim.Native.Nat.{ℕ, zero, suc, _+_, _-_, _≤_, _<_}
-use mathlib.Core.Bool.{Bool, true, false, _||_}
+use mathlib.Core.Bool.{Bool, true, false, _||_, or-false, or-assoc}
 use mathlib.Core.List.{List, [], _∷_, _++_, map, append-nil, append-assoc}
 use mathlib.Core.Path.{_≡_, refl, sym, ap, _∙_}
 use native.Mathlib.Omega.{arith}
@@ -13,29 +13,20 @@ use Rattle.words.specs.Choice.{pick}
 use Rattle.words.specs.Run.{run, values}
 use Rattle.words.specs.Run.Laws.{values-last, run-append}
 use Rattle.terms.specs.Term.{Term, gathered, occurs, occursIn}
-use Rattle.terms.specs.Table.{form, term, terms, Shape}
-use Rattle.terms.specs.Table.Laws.{term-row, shape-row, atom-row}
+use Rattle.terms.specs.Table.{form, term, Shape}
 use Rattle.book.specs.Layout.{table, begins, rows, kind, tag, pooled, parts, listAt}
 use Rattle.book.specs.Valid.{Valid}
-use Rattle.book.specs.Valid.Laws.{formed}
+use Rattle.book.specs.Valid.Laws.{row-form, row-shape, row-atom}
 use Rattle.translation.specs.Taken.{joined, occursInOne}
 use Rattle.holding.specs.Span.{entry}
 use Rattle.holding.specs.Span.Laws.{list-none, list-more}
 use Rattle.claims.specs.Marked.{marked, Marked, Seen}
 
 -- ---- occursInOne
-or-false : (x : Bool) → (x || false) ≡ x
-or-false true = refl
-or-false false = refl
-
-pub or-assoc : (x y z : Bool) → (x || (y || z)) ≡ ((x || y) || z)
-or-assoc true y z = refl
-or-assoc false y z = refl
-
 pub one-append : (q : ℕ) (ts us : List Term) → occursInOne q (ts ++ us) ≡ (occursInOne q ts || occursInOne q us)
 unfolding occursInOne
 one-append q [] us = refl
-one-append q (t ∷ ts) us = ap (λ x. occurs q t || x) (one-append q ts us) ∙ or-assoc (occurs q t) (occursInOne q ts) (occursInOne q us)
+one-append q (t ∷ ts) us = ap (λ x. occurs q t || x) (one-append q ts us) ∙ sym (or-assoc (occurs q t) (occursInOne q ts) (occursInOne q us))
 
 -- ---- a row by its parts
 in-gathered : (q : ℕ) (ts : List Term) → occursIn q (gathered ts) ≡ occursInOne q ts
@@ -58,15 +49,10 @@ occurs-form q r (suc (suc (suc (suc zero)))) g (t ∷ u ∷ ts) n l s = absurd (
 occurs-form q r (suc (suc (suc (suc (suc k))))) g ts n l s = absurd (omega arith)
 
 module _ (b : List ℕ) (v : Valid b) (r : ℕ) (h : r < rows b) where
-  row-atom : kind b r ≡ 0 → term (table b) r ≡ Term.atom r
-  unfolding table
-  row-atom e = atom-row (rows b) (table b) (formed b v) r h e
-
   row-parts : (kind b r ≡ 0 → ⊥) → (q : ℕ) → occurs q (term (table b) r) ≡ occursInOne q (map (term (table b)) (parts b r))
-  unfolding terms table
   row-parts n q =
-      ap (occurs q) (term-row (rows b) (table b) (formed b v) r h)
-      ∙ occurs-form q r (kind b r) (tag b r) (map (term (table b)) (parts b r)) n (v .rowsKeep r h .kinded) (shape-row (rows b) (table b) (formed b v) r h)
+      ap (occurs q) (row-form b v r h)
+      ∙ occurs-form q r (kind b r) (tag b r) (map (term (table b)) (parts b r)) n (v .rowsKeep r h .kinded) (row-shape b v r h)
 
 -- ---- marked
 marked-never : (e x : ℕ) → marked e false x ≡ e
@@ -81,6 +67,11 @@ marked-twice zero false p x = refl
 marked-twice zero true p (suc x) = refl
 marked-twice zero true true zero = refl
 marked-twice zero true false zero = refl
+
+kept : (e x : ℕ) (o : Bool) → (e ≡ 0 → ⊥) → marked e o x ≡ e
+unfolding marked
+kept zero x o n = absurd (n refl)
+kept (suc e) x o n = refl
 
 -- ---- Marked
 pub marked-none : (x : ℕ) (l : List ℕ) → length l ≡ 1024 → Marked [] x l l
@@ -109,15 +100,11 @@ marked-new r x l h k z = record { sized = length-set l r x ∙ h; each = λ q. g
 
 -- and one that has an entry keeps it
 pub marked-old : (r x : ℕ) (l : List ℕ) → length l ≡ 1024 → (getD l r 0 ≡ 0 → ⊥) → Marked (Term.atom r ∷ []) x l l
-unfolding marked occursInOne occurs
+unfolding occursInOne occurs
 marked-old r x l h n = record { sized = h; each = λ q. go q (ℕ-discrete q r) }
   where
-    keeps : (e : ℕ) (o : Bool) → (e ≡ 0 → ⊥) → e ≡ marked e o x
-    keeps zero o k = absurd (k refl)
-    keeps (suc e) o k = refl
-
     go : (q : ℕ) → Dec (q ≡ r) → getD l q 0 ≡ marked (getD l q 0) (eqb r q || false) x
-    go q (yes e) = keeps (getD l q 0) _ (λ z. n (ap (λ i. getD l i 0) (sym e) ∙ z))
+    go q (yes e) = sym (kept (getD l q 0) x _ (λ z. n (ap (λ i. getD l i 0) (sym e) ∙ z)))
     go q (no k) = sym (ap (λ o. marked (getD l q 0) (o || false) x) (ne-eqb r q (λ e. k (sym e))) ∙ marked-never (getD l q 0) x)
 
 -- ---- a row
@@ -167,11 +154,6 @@ module _ {x : ℕ} {l m k : List ℕ} where
   marked-pooled b f n d e = rw (run-append b (begins b 3 + f) n 1, map-last (term (table b)) (listAt b f n) (pooled b f n)) (marked-then d e)
 
 -- ---- Seen
-kept : (e x : ℕ) (o : Bool) → (e ≡ 0 → ⊥) → marked e o x ≡ e
-unfolding marked
-kept zero x o n = absurd (n refl)
-kept (suc e) x o n = refl
-
 filled : (e x : ℕ) → 0 < x → marked e true x ≡ 0 → ⊥
 unfolding marked pick
 filled zero x h z = omega arith

@@ -1,7 +1,7 @@
 -- Laws of rows: buildable and the image's words, by the row's kind. Assumes nothing.
 use Prim.Native.Nat.{ℕ, zero, suc, _+_, _-_, _≤_, _<_}
 use mathlib.Core.Bool.{Bool, true, false}
-use mathlib.Core.List.{List, [], _∷_, _++_, map, append-nil}
+use mathlib.Core.List.{List, [], _∷_, _++_, map, map-map, append-nil}
 use mathlib.Core.Path.{_≡_, refl, ap, _∙_}
 use native.Mathlib.Omega.{arith}
 use lib.ListN.{length, getD, length-map}
@@ -12,11 +12,10 @@ use Rattle.words.specs.Run.Laws.{run-length}
 use Rattle.terms.specs.Term.{Term, gathered}
 use Rattle.terms.specs.Image.{Image, words, wordsOf}
 use Rattle.terms.specs.Image as Image'
-use Rattle.terms.specs.Table.{form, term, terms, Shape}
-use Rattle.terms.specs.Table.Laws.{term-row, shape-row, map-map}
+use Rattle.terms.specs.Table.{form, term, Shape}
 use Rattle.book.specs.Layout.{table, rows, begins, kind, tag, rowFirst, rowCount, parts, listAt}
 use Rattle.book.specs.Valid.{Valid}
-use Rattle.book.specs.Valid.Laws.{formed}
+use Rattle.book.specs.Valid.Laws.{row-form, row-shape}
 use Rattle.translation.specs.Dictionary.{Held, Dictionary, isHeld, buildable, allBuildable, imageOr, image, images}
 use Rattle.holding.specs.Span.{entry}
 use Rattle.holding.specs.Span.Laws.{list-none, list-more}
@@ -57,6 +56,11 @@ held-zero (suc zero) = refl
 held-zero (suc (suc x)) = rw (ne-eqb (suc (suc x)) 0 (omega arith))
 
 -- ---- images, of a form
+pub count-all : (δ : Dictionary) (ts : List Term) → Image'.count (images δ (gathered ts)) ≡ length ts
+unfolding gathered image Image'.count
+count-all δ [] = refl
+count-all δ (t ∷ ts) = ap suc (count-all δ ts)
+
 module _ (row : Term → ℕ) (δ : Dictionary) where
   abbrev shown : Held → ℕ → List ℕ → List ℕ
   shown Held.free n ws = ws
@@ -69,24 +73,19 @@ module _ (row : Term → ℕ) (δ : Dictionary) where
   words-held Held.itself t i ws e = refl
   words-held (Held.placeholder x) t i ws e = refl
 
-  words-all : (ts : List Term) → wordsOf row (images δ (gathered ts)) ≡ concat (map (λ t. words row (image δ t)) ts)
+  pub words-all : (ts : List Term) → wordsOf row (images δ (gathered ts)) ≡ concat (map (λ t. words row (image δ t)) ts)
   unfolding gathered image words concat
   words-all [] = refl
   words-all (t ∷ ts) = ap (λ l. words row (image δ t) ++ l) (words-all ts)
-
-  count-all : (ts : List Term) → Image'.count (images δ (gathered ts)) ≡ length ts
-  unfolding gathered image Image'.count
-  count-all [] = refl
-  count-all (t ∷ ts) = ap suc (count-all ts)
 
   image-form : (r k g : ℕ) (ts : List Term) → k ≤ 4 → Shape k (length ts)
       → words row (image δ (form r k g (gathered ts))) ≡ shown (δ (form r k g (gathered ts))) (row (form r k g (gathered ts))) (headOf (row (form r k g (gathered ts))) k g (length ts) ++ concat (map (λ t. words row (image δ t)) ts))
   unfolding form image words headOf concat gathered
   image-form r zero g [] l s = words-held (δ (Term.atom r)) _ _ _ refl
   image-form r zero g (t ∷ ts) l s = absurd (omega arith)
-  image-form r (suc zero) g ts l s = words-held (δ (Term.operation g (gathered ts))) _ _ _ (rw (count-all ts, words-all ts))
+  image-form r (suc zero) g ts l s = words-held (δ (Term.operation g (gathered ts))) _ _ _ (rw (count-all δ ts, words-all ts))
   image-form r (suc (suc zero)) g [] l s = absurd (omega arith)
-  image-form r (suc (suc zero)) g (t ∷ ts) l s = let z : suc (length ts) - 1 ≡ length ts = omega arith in words-held (δ (Term.cipher t (gathered ts))) _ _ _ (rw (count-all ts, words-all ts, z))
+  image-form r (suc (suc zero)) g (t ∷ ts) l s = let z : suc (length ts) - 1 ≡ length ts = omega arith in words-held (δ (Term.cipher t (gathered ts))) _ _ _ (rw (count-all δ ts, words-all ts, z))
   image-form r (suc (suc (suc zero))) g [] l s = absurd (omega arith)
   image-form r (suc (suc (suc zero))) g (t ∷ []) l s = words-held (δ (Term.public t)) _ _ _ (rw append-nil)
   image-form r (suc (suc (suc zero))) g (t ∷ u ∷ ts) l s = absurd (omega arith)
@@ -97,18 +96,10 @@ module _ (row : Term → ℕ) (δ : Dictionary) where
 
 -- ---- a row of a valid book
 module _ (b e : List ℕ) (v : Valid b) (r : ℕ) (h : r < rows b) where
-  row-form : term (table b) r ≡ form r (kind b r) (tag b r) (gathered (map (term (table b)) (parts b r)))
-  unfolding terms table
-  row-form = term-row (rows b) (table b) (formed b v) r h
-
-  row-shape : Shape (kind b r) (length (map (term (table b)) (parts b r)))
-  unfolding table
-  row-shape = shape-row (rows b) (table b) (formed b v) r h
-
   can-row : canAt b e r ≡ pick (pick (eqb (getD e r 0) 0) false true) true (pick (eqb (kind b r) 0) false (allTrue (map (canAt b e) (parts b r))))
   can-row =
-      ap (buildable (view b e)) row-form ∙ can-form (view b e) r _ _ _ (v .rowsKeep r h .kinded) row-shape
-      ∙ rw (← row-form, view-row b v e r h, held-zero (getD e r 0), map-map (buildable (view b e)) (term (table b)) (parts b r))
+      ap (buildable (view b e)) (row-form b v r h) ∙ can-form (view b e) r _ _ _ (v .rowsKeep r h .kinded) (row-shape b v r h)
+      ∙ rw (← row-form b v r h, view-row b v e r h, held-zero (getD e r 0), map-map (buildable (view b e)) (term (table b)) (parts b r))
 
   pub can-held : (getD e r 0 ≡ 0 → ⊥) → canAt b e r ≡ true
   unfolding pick
@@ -124,9 +115,9 @@ module _ (b e : List ℕ) (v : Valid b) (r : ℕ) (h : r < rows b) where
 
   image-row : imageAt b e r ≡ shown (rowOf b) (view b e) (heldOf (getD e r 0)) r (headWords b r ++ concat (map (imageAt b e) (parts b r)))
   image-row =
-      ap (λ t. words (rowOf b) (image (view b e) t)) row-form ∙ image-form (rowOf b) (view b e) r _ _ _ (v .rowsKeep r h .kinded) row-shape
+      ap (λ t. words (rowOf b) (image (view b e) t)) (row-form b v r h) ∙ image-form (rowOf b) (view b e) r _ _ _ (v .rowsKeep r h .kinded) (row-shape b v r h)
       ∙ rw (
-        ← row-form,
+        ← row-form b v r h,
         view-row b v e r h,
         row-of b v r (term (table b) r) h refl,
         length-map (parts b r) (term (table b)),

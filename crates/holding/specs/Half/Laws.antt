@@ -13,11 +13,11 @@ use Rattle.words.specs.First.{first}
 use Rattle.terms.specs.Term.{Term, partner, same, gathered}
 use Rattle.terms.specs.Image.{words}
 use Rattle.terms.specs.Table.{form, term, terms, number}
-use Rattle.terms.specs.Table.Laws.{term-row, term-injective, kind-row, kindOf}
+use Rattle.terms.specs.Table.Laws.{term-row, kindOf}
 use Rattle.book.specs.Layout.{table, rows, kind, rowFirst, rowCount}
 use Rattle.book.specs.Rules.{fewest}
 use Rattle.book.specs.Valid.{Valid}
-use Rattle.book.specs.Valid.Laws.{formed}
+use Rattle.book.specs.Valid.Laws.{formed, equal-terms, row-kind}
 use Rattle.translation.specs.Dictionary.{free, Dictionary, buildable, imageOr, image}
 use Rattle.holding.specs.View.{rowOf, view}
 use Rattle.holding.specs.View.Laws.{row-stands, view-none}
@@ -59,15 +59,11 @@ module _ (b : List ℕ) (v : Valid b) where
       let t = term-row (rows b) (table b) (formed b v) r h in
       elim (ℕ-discrete (kind b r) 3) [ yes e ↦ rw (t, e, s) | no e ↦ (let z : kind b r ≡ 4 = omega arith in rw (t, z, s)) ]
 
-  kind-at : (r : ℕ) → r < rows b → kindOf (term (table b) r) ≡ kind b r
-  unfolding table
-  kind-at r h = kind-row (rows b) (table b) (formed b v) r h
-
   -- ---- isHalf, as code finds it
   module _ (r k p : ℕ) (h : r < rows b) (j : p < rows b) (l : 3 ≤ k) (m : k ≤ 4) where
     pub half-kind : (x : ℕ) → x ≡ kind b r → (x ≡ k → ⊥) → false ≡ isHalf b r k p
     unfolding isHalf
-    half-kind x e n = sym (choose-no (same (term (table b) r) (half k (term (table b) p))) true false (λ u. n (e ∙ sym (kind-at r h) ∙ ap kindOf u ∙ kind-half k (term (table b) p) l m)))
+    half-kind x e n = sym (choose-no (same (term (table b) r) (half k (term (table b) p))) true false (λ u. n (e ∙ sym (row-kind b v r h) ∙ ap kindOf u ∙ kind-half k (term (table b) p) l m)))
 
     pub half-same : (x y : ℕ) → x ≡ kind b r → x ≡ k → y ≡ entry b (rowFirst b r) → eqb y p ≡ isHalf b r k p
     unfolding isHalf
@@ -81,7 +77,7 @@ module _ (b : List ℕ) (v : Valid b) where
         go false z =
             let low = part-low r h (omega arith) in
             sym (choose-no (same (term (table b) r) (half k (term (table b) p))) true false
-            (λ u. eqb-false y p z (term-injective (rows b) (table b) (formed b v) y p (omega arith) j (half-part k _ _ (sym is ∙ u)))))
+            (λ u. eqb-false y p z (equal-terms b v y p (omega arith) j (half-part k _ _ (sym is ∙ u)))))
 
   -- the first such row is the half's row
   pub half-first : (k p i : ℕ) → i ≡ first (λ r. isHalf b r k p) (rows b) → i ≡ rowOf b (half k (term (table b) p))
@@ -98,7 +94,7 @@ module _ (b : List ℕ) (v : Valid b) where
   partner-plain (Term.private t) h = absurd (omega arith)
 
   pub partner-itself : (r k : ℕ) → r < rows b → k ≡ kind b r → k < 3 → partner (term (table b) r) ≡ term (table b) r
-  partner-itself r k h e l = partner-plain (term (table b) r) (rw (kind-at r h) (omega arith))
+  partner-itself r k h e l = partner-plain (term (table b) r) (rw (row-kind b v r h) (omega arith))
 
   partner-half : (k : ℕ) (t : Term) → 3 ≤ k → k ≤ 4 → partner (half k t) ≡ half (7 - k) t
   unfolding partner half pick

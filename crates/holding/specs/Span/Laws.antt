@@ -8,6 +8,7 @@ use Rattle.words.specs.Run.Laws.{run-none, run-more, all-run}
 use Rattle.book.specs.Layout.{at, begins, rows, steps, pool, kind, rowFirst, rowCount, stepFirst, stepCount, listAt}
 use Rattle.book.specs.Rules.{largest}
 use Rattle.book.specs.Valid.{Valid}
+use Rattle.book.specs.Valid.Laws.{row-before}
 use Rattle.holding.specs.Span.{entry, Span}
 
 pub list-none : (b : List ℕ) (f n : ℕ) → n ≤ 0 → listAt b f n ≡ []
@@ -31,7 +32,7 @@ module _ (b : List ℕ) (v : Valid b) (f n : ℕ) where
   pub span-row : (r : ℕ) → r < rows b → f ≡ rowFirst b r → n ≡ rowCount b r → Span b r f n
   span-row r h p q =
       let o = v .rowsKeep r h .listed in
-      rw (p, q) (record { inside = o .inside; below = all-run (λ x. x < r) b (begins b 3 + rowFirst b r) (rowCount b r) (o .each); few = few-parts (kind b r) (rowCount b r) (o .high) })
+      rw (p, q) (record { inside = o .inside; below = row-before b v r h; few = few-parts (kind b r) (rowCount b r) (o .high) })
 
   -- a step's messages
   pub span-step : (s : ℕ) → s < steps b → f ≡ stepFirst b s → n ≡ stepCount b s → Span b (rows b) f n

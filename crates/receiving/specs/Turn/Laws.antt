@@ -9,10 +9,10 @@ use Rattle.words.specs.Run.Laws.{run-length}
 use Rattle.terms.specs.Term.{Term, Terms, count, listed, gathered}
 use Rattle.terms.specs.Term.Laws.{count-gathered}
 use Rattle.terms.specs.Table.{form, term, terms}
-use Rattle.terms.specs.Table.Laws.{term-row, kind-row, kindOf}
+use Rattle.terms.specs.Table.Laws.{term-row, kindOf}
 use Rattle.book.specs.Layout.{begins, table, rows, kind, rowFirst, rowCount, listAt}
 use Rattle.book.specs.Valid.{Valid}
-use Rattle.book.specs.Valid.Laws.{formed}
+use Rattle.book.specs.Valid.Laws.{formed, row-kind}
 use Rattle.translation.specs.Dictionary.{Dictionary, buildable}
 use Rattle.translation.specs.Receive.{nothing, followed, Rule, canOpen, rule, byRule, compared, kept, receive, receiveAll}
 use Rattle.translation.specs.Receive.Laws.{rule-compare, rule-unlock, rule-store, opening, receive-rule}
@@ -82,15 +82,11 @@ only-cipher δ (Term.public t) e = absurd (false≢true e)
 only-cipher δ (Term.private t) e = absurd (false≢true e)
 
 module _ (b : List ℕ) (v : Valid b) (r : ℕ) (h : r < rows b) where
-  kind-at : kindOf (term (table b) r) ≡ kind b r
-  unfolding table
-  kind-at = kind-row (rows b) (table b) (formed b v) r h
-
   pub opens-not : (δ : Dictionary) → (kind b r ≡ 2 → ⊥) → canOpen δ (term (table b) r) ≡ false
-  opens-not δ n = not-opened δ (term (table b) r) (λ e. n (sym kind-at ∙ e))
+  opens-not δ n = not-opened δ (term (table b) r) (λ e. n (sym (row-kind b v r h) ∙ e))
 
   pub opens-cipher : (δ : Dictionary) → canOpen δ (term (table b) r) ≡ true → kind b r ≡ 2
-  opens-cipher δ e = sym kind-at ∙ only-cipher δ (term (table b) r) e
+  opens-cipher δ e = sym (row-kind b v r h) ∙ only-cipher δ (term (table b) r) e
 
   pub cipher-row : kind b r ≡ 2 → term (table b) r ≡ Term.cipher (term (table b) (entry b (rowFirst b r))) (terms (table b) (listAt b (rowFirst b r + 1) (rowCount b r - 1)))
   unfolding form terms gathered table

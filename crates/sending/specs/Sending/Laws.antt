@@ -1,7 +1,7 @@
 -- Laws of sending: what building a row makes, by the row's kind; the first taken atom; a SEND's words. Assumes nothing.
 use Prim.Native.Nat.{ℕ, zero, suc, _+_, _-_, _≤_, _<_}
 use mathlib.Core.Bool.{Bool, true, false}
-use mathlib.Core.List.{List, [], _∷_, _++_, map, append-nil}
+use mathlib.Core.List.{List, [], _∷_, _++_, map, map-map, append-nil}
 use mathlib.Core.Logic.{_↔_, _⊎_, inl, inr, ⊎-elim}
 use mathlib.Core.Path.{_≡_, refl, sym, ap, ap₂, _∙_}
 use native.Mathlib.Omega.{arith}
@@ -14,15 +14,14 @@ use Rattle.words.specs.First.{first, any}
 use Rattle.words.specs.First.Laws.{clash, first-at, any-at, any-none}
 use Rattle.words.specs.Run.Laws.{run-length}
 use Rattle.terms.specs.Term.{Term, gathered}
-use Rattle.terms.specs.Image.{words, wordsOf}
-use Rattle.terms.specs.Image as Image'
+use Rattle.terms.specs.Image.{words}
 use Rattle.terms.specs.Table.{form, term, terms, Shape}
-use Rattle.terms.specs.Table.Laws.{term-row, shape-row, atom-row, map-map}
-use Rattle.book.specs.Layout.{table, rows, begins, kind, tag, parts, listAt}
+use Rattle.book.specs.Layout.{table, rows, begins, kind, parts, listAt}
 use Rattle.book.specs.Valid.{Valid}
-use Rattle.book.specs.Valid.Laws.{formed}
+use Rattle.book.specs.Valid.Laws.{row-form, row-shape, row-atom}
 use Rattle.translation.specs.Dictionary.{Held, Dictionary, isHeld, enter, image, images}
 use Rattle.translation.specs.Build.{Built, builtOr, build, buildAll}
+use Rattle.translation.specs.Along.Laws.{buildAll-images}
 use Rattle.translation.specs.Receive.{Event}
 use Rattle.translation.specs.Program.{sent}
 use Rattle.translation.specs.Listing.{eventWords, programWords}
@@ -32,8 +31,7 @@ use Rattle.holding.specs.Span.Laws.{list-none, list-more}
 use Rattle.holding.specs.View.{heldOf, rowOf, view}
 use Rattle.holding.specs.View.Laws.{view-row, view-set}
 use Rattle.holding.specs.AtRow.{concat, imagesAt}
-use Rattle.holding.specs.AtRow.Laws.{held-zero}
-use Rattle.sending.specs.Along.Laws.{buildAll-images}
+use Rattle.holding.specs.AtRow.Laws.{held-zero, count-all, words-all}
 use Rattle.sending.specs.Sending.{Making, making, allMaking, orTaken, firstTaken}
 
 -- ---- making: nothing, one atom, one after another
@@ -73,19 +71,11 @@ making-form r (suc (suc (suc (suc (suc k))))) g ts δ l s = absurd (omega arith)
 
 -- ---- a row of a valid book
 module _ (b e : List ℕ) (v : Valid b) (r : ℕ) (h : r < rows b) where
-  row-form : term (table b) r ≡ form r (kind b r) (tag b r) (gathered (map (term (table b)) (parts b r)))
-  unfolding terms table
-  row-form = term-row (rows b) (table b) (formed b v) r h
-
-  row-shape : Shape (kind b r) (length (map (term (table b)) (parts b r)))
-  unfolding table
-  row-shape = shape-row (rows b) (table b) (formed b v) r h
-
   making-row : making (build (term (table b) r) (view b e)) ≡ pick (pick (eqb (getD e r 0) 0) false true) (nothing (view b e)) (pick (eqb (kind b r) 0) (one r (view b e)) (allMaking (buildAll (terms (table b) (parts b r)) (view b e))))
   unfolding terms
   making-row =
-      ap (λ t. making (build t (view b e))) row-form ∙ making-form r _ _ _ (view b e) (v .rowsKeep r h .kinded) row-shape
-      ∙ rw (← row-form, view-row b v e r h, held-zero (getD e r 0))
+      ap (λ t. making (build t (view b e))) (row-form b v r h) ∙ making-form r _ _ _ (view b e) (v .rowsKeep r h .kinded) (row-shape b v r h)
+      ∙ rw (← row-form b v r h, view-row b v e r h, held-zero (getD e r 0))
 
   pub making-held : (getD e r 0 ≡ 0 → ⊥) → making (build (term (table b) r) (view b e)) ≡ nothing (view b e)
   unfolding pick
@@ -101,8 +91,8 @@ module _ (b e : List ℕ) (v : Valid b) (r : ℕ) (h : r < rows b) where
 
   -- the made atom's entry
   pub one-set : kind b r ≡ 0 → r < length e → view b (set e r 1) ≡ one r (view b e) .dictionary
-  unfolding heldOf table
-  one-set k l = view-set b v e r 1 h l ∙ ap (λ t. enter (view b e) t Held.itself) (atom-row (rows b) (table b) (formed b v) r h k)
+  unfolding heldOf
+  one-set k l = view-set b v e r 1 h l ∙ ap (λ t. enter (view b e) t Held.itself) (row-atom b v r h k)
 
 -- ---- lists of rows, one after another
 pub making-none : (b : List ℕ) (f n : ℕ) (δ : Dictionary) → n ≡ 0 → allMaking (buildAll (terms (table b) (listAt b f n)) δ) ≡ nothing δ
@@ -195,22 +185,12 @@ module _ (row : Term → ℕ) where
   news-append [] m = refl
   news-append (r ∷ l) m = ap (λ k. 1 ∷ r ∷ k) (news-append l m)
 
-  words-all : (δ : Dictionary) (ts : List Term) → wordsOf row (images δ (gathered ts)) ≡ concat (map (λ t. words row (image δ t)) ts)
-  unfolding gathered image words concat
-  words-all δ [] = refl
-  words-all δ (t ∷ ts) = ap (λ l. words row (image δ t) ++ l) (words-all δ ts)
-
-  count-all : (δ : Dictionary) (ts : List Term) → Image'.count (images δ (gathered ts)) ≡ length ts
-  unfolding gathered image Image'.count
-  count-all δ [] = refl
-  count-all δ (t ∷ ts) = ap suc (count-all δ ts)
-
 -- of a SEND in the dictionary that the entries hold
 send-words : (b e : List ℕ) (s f n : ℕ) → programWords (rowOf b) (Event.sends s (images (view b e) (terms (table b) (listAt b f n))) ∷ []) ≡ 2 ∷ s ∷ n ∷ imagesAt b e f n
 unfolding programWords eventWords terms imagesAt
 send-words b e s f n =
     append-nil _
-    ∙ ap₂ (λ c l. 2 ∷ s ∷ c ∷ l) (count-all (rowOf b) (view b e) (map (term (table b)) (listAt b f n)) ∙ length-map (listAt b f n) (term (table b)) ∙ run-length b (begins b 3 + f) n)
+    ∙ ap₂ (λ c l. 2 ∷ s ∷ c ∷ l) (count-all (view b e) (map (term (table b)) (listAt b f n)) ∙ length-map (listAt b f n) (term (table b)) ∙ run-length b (begins b 3 + f) n)
     (words-all (rowOf b) (view b e) (map (term (table b)) (listAt b f n)) ∙ ap concat (map-map (λ t. words (rowOf b) (image (view b e) t)) (term (table b)) (listAt b f n)))
 
 -- a step's events: the NEWs, then the SEND with the images in the dictionary afterwards

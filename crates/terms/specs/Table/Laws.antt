@@ -1,7 +1,7 @@
 -- Laws of tables: unfolding's equation; equal terms have equal row numbers; a row's size is its term's. Assumes nothing.
 use Prim.Native.Nat.{ℕ, zero, suc, _+_, _≤_, _<_}
 use mathlib.Core.Bool.{true, false}
-use mathlib.Core.List.{List, [], _∷_, map}
+use mathlib.Core.List.{List, [], _∷_, map, map-map}
 use mathlib.Core.Path.{_≡_, refl, sym, ap, ap₂, _∙_, subst}
 use native.Mathlib.Omega.{arith}
 use native.Mathlib.Decide.{ℕ-discrete}
@@ -140,10 +140,6 @@ form-size r (suc (suc (suc (suc zero)))) g (t ∷ []) h s = omega arith
 form-size r (suc (suc (suc (suc zero)))) g (t ∷ u ∷ ts) h s = absurd (omega arith)
 form-size r (suc (suc (suc (suc (suc k))))) g ts h s = absurd (omega arith)
 
-pub map-map : {A B C : Type 0} (f : B → C) (g : A → B) (l : List A) → map f (map g l) ≡ map (λ x. f (g x)) l
-map-map f g [] = refl
-map-map f g (x ∷ l) = ap (λ m. f (g x) ∷ m) (map-map f g l)
-
 map-injective : (f : ℕ → Term) (n m : ℕ) (us vs : List ℕ) → All (λ p. p < n) us → All (λ p. p < m) vs
     → ((x y : ℕ) → x < n → y < m → f x ≡ f y → x ≡ y) → map f us ≡ map f vs → us ≡ vs
 map-injective f n m [] [] p q i e = refl
@@ -226,9 +222,6 @@ module _ (n : ℕ) (tab : Table) (ok : Formed n tab) where
   -- the row of such a term stands for it
   pub number-back : (t : Term) → IsRow tab n t → term tab (number tab n t) ≡ t
   number-back t i = ap (λ u. term tab (number tab n u)) (sym (i .stands)) ∙ ap (term tab) (number-row (i .row) (i .within)) ∙ i .stands
-
-  pub number-within : (t : Term) → IsRow tab n t → number tab n t < n
-  number-within t i = let e = ap (number tab n) (sym (i .stands)) ∙ number-row (i .row) (i .within) in let l = i .within in omega arith
 
   pub rows-listed : (rs : List ℕ) → All (λ r. r < n) rs → AllRows tab n (terms tab rs)
   unfolding terms gathered

@@ -43,6 +43,14 @@ size-two (Term.cipher k ts) = omega arith
 size-two (Term.public t) = let h = size-two t in omega arith
 size-two (Term.private t) = let h = size-two t in omega arith
 
+pub size-partner : (t : Term) → size (partner t) ≡ size t
+unfolding size partner
+size-partner (Term.atom r) = refl
+size-partner (Term.operation g ts) = refl
+size-partner (Term.cipher k ts) = refl
+size-partner (Term.public t) = refl
+size-partner (Term.private t) = refl
+
 -- ---- occurs: the test and the path to the atom agree
 mutual
   unfolding occurs

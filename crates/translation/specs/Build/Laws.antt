@@ -1,5 +1,5 @@
 -- Laws of building: what it makes, and that it makes only free atoms exactly where there is a derivation. Assumes nothing.
-use Prim.Native.Nat.{ℕ, _≤_}
+use Prim.Native.Nat.{ℕ, _*_, _≤_}
 use mathlib.Core.Bool.{true, false, true≢false}
 use mathlib.Core.List.{List, [], _∷_, _++_, List·Memᴰ, List·Memᴰ·head, List·Memᴰ·tail, List·Memᴰ·append-cases, List·Memᴰ·not-nil, List·Memᴰ·eq-of-singleton, Memᴰ·append-left, Memᴰ·append-right}
 use mathlib.Core.Logic.{_⊎_, inl, inr, ⊎-elim}
@@ -8,8 +8,8 @@ use native.Mathlib.Omega.{arith}
 use lib.ListN.{length, length-append}
 use Rattle.terms.specs.Term.{Term, Terms, size, sizes, Occurs, OccursIn}
 use Rattle.terms.specs.Term.Laws.{size-two}
-use Rattle.terms.specs.Image.{words, wordsOf}
-use Rattle.translation.specs.Dictionary.{Held, Dictionary, isHeld, enter, Derives, DerivesAll}
+use Rattle.terms.specs.Image.{Image, words, wordsOf}
+use Rattle.translation.specs.Dictionary.{Held, Dictionary, isHeld, enter, Derives, DerivesAll, imageOr}
 use Rattle.translation.specs.Dictionary.Laws.{enter-same, enter-ind, Grows, enter-grows, derivesAll-from}
 use Rattle.translation.specs.Build.{Built, builtOr, build, buildAll}
 
@@ -64,20 +64,20 @@ making-one r δ e =
       back = λ u. enter-ind (λ x. isHeld x ≡ true → Holds δ u ⊎ ((q : ℕ) × (u ≡ Term.atom q) × List·Memᴰ q (r ∷ []))) δ (Term.atom r) Held.itself u (λ p h. inr (r, sym p, List·Memᴰ·head refl)) (λ p h. inl h);
     }
 
--- a term that is held makes nothing; of one that is not, what is said of the rest
-built-or : (P : Built → Type 0) (h : Held) (t : Term) (δ : Dictionary) (b : Built) → ((c : Built) → c .dictionary ≡ δ → c .made ≡ [] → isHeld h ≡ true → P c) → (isHeld h ≡ false → P b) → P (builtOr h t δ b)
-unfolding builtOr
+-- a term that is held makes nothing and gives its entry; of one that is not, what is said of the rest
+pub built-or : (P : Built → Type 0) (h : Held) (t : Term) (δ : Dictionary) (b : Built) → ((i : Image) → isHeld h ≡ true → ((j : Image) → imageOr h t j ≡ i) → P (record { dictionary = δ; made = []; image = i })) → (h ≡ Held.free → P b)
+    → P (builtOr h t δ b)
+unfolding builtOr imageOr
 built-or P Held.free t δ b f g = g refl
-built-or P Held.itself t δ b f g = f _ refl refl refl
-built-or P (Held.placeholder x) t δ b f g = f _ refl refl refl
+built-or P Held.itself t δ b f g = f _ refl (λ j. refl)
+built-or P (Held.placeholder x) t δ b f g = f _ refl (λ j. refl)
 
 abbrev Makes : Term → Dictionary → Built → Type 0
 Makes t δ b = Making δ (b .dictionary) (b .made) (λ r. Occurs r t)
 
 or-makes : (t : Term) (δ : Dictionary) (b : Built) → (isHeld (δ t) ≡ false → Makes t δ b) → Makes t δ (builtOr (δ t) t δ b)
 or-makes t δ b g =
-    built-or (Makes t δ) (δ t) t δ b
-    (λ c d m h. subst (λ ε. Making δ ε (c .made) (λ r. Occurs r t)) (sym d) (subst (λ l. Making δ δ l (λ r. Occurs r t)) (sym m) (making-none δ _))) g
+    built-or (Makes t δ) (δ t) t δ b (λ i h j. making-none δ _) (λ e. g (ap isHeld e))
 
 mutual
   unfolding build
@@ -109,7 +109,7 @@ module _ (free : ℕ → Type 0) where
   free-right a b p r m = p r (Memᴰ·append-right a m)
 
   or-free : (t : Term) (δ : Dictionary) (b : Built) → (isHeld (δ t) ≡ false → AllFree (b .made)) → AllFree ((builtOr (δ t) t δ b) .made)
-  or-free t δ b g = built-or (λ c. AllFree (c .made)) (δ t) t δ b (λ c d m h. subst AllFree (sym m) (λ r x. absurd (List·Memᴰ·not-nil x))) g
+  or-free t δ b g = built-or (λ c. AllFree (c .made)) (δ t) t δ b (λ i h j r x. absurd (List·Memᴰ·not-nil x)) (λ e. g (ap isHeld e))
 
   -- what the dictionary held before is still derivable afterwards
   kept : (t : Term) (δ : Dictionary) → (u : Term) → isHeld (δ u) ≡ true → Derives free ((build t δ) .dictionary) u
@@ -141,7 +141,7 @@ module _ (free : ℕ → Type 0) where
   gave t δ a u h = ⊎-elim (λ x. Derives.held x) (λ x. subst (λ v. Derives free δ v) (sym (x .1)) (Derives.make (a (x .0) (x .2)))) (build-makes t δ .back u h)
 
   or-derives : (t : Term) (δ : Dictionary) (b : Built) → (AllFree (b .made) → Derives free δ t) → AllFree ((builtOr (δ t) t δ b) .made) → Derives free δ t
-  or-derives t δ b g = built-or (λ c. AllFree (c .made) → Derives free δ t) (δ t) t δ b (λ c d m h a. Derives.held h) (λ e. g)
+  or-derives t δ b g = built-or (λ c. AllFree (c .made) → Derives free δ t) (δ t) t δ b (λ i h j a. Derives.held h) (λ e. g)
 
   mutual
     unfolding build
@@ -162,6 +162,31 @@ module _ (free : ℕ → Type 0) where
     freeAll-derives (Terms.cons t ts) δ a =
         let x = free-left ((build t δ) .made) _ a in
         DerivesAll.cons (free-derives t δ x) (derivesAll-from free (gave t δ x) (freeAll-derives ts ((build t δ) .dictionary) (free-right ((build t δ) .made) _ a)))
+
+-- ---- every atom made is in the term, and an atom's size is 2
+made-or : (h : Held) (t : Term) (δ : Dictionary) (b : Built) (z : ℕ) → 2 * length (b .made) ≤ z → 2 * length (builtOr h t δ b .made) ≤ z
+made-or h t δ b z l = built-or (λ c. 2 * length (c .made) ≤ z) h t δ b (λ i k j. omega arith) (λ e. l)
+
+mutual
+  unfolding build size
+
+  pub build-made : (t : Term) (δ : Dictionary) → 2 * length (build t δ .made) ≤ size t
+  build-made (Term.atom r) δ = made-or (δ (Term.atom r)) (Term.atom r) δ _ _ (omega arith)
+  build-made (Term.operation g ts) δ = made-or (δ (Term.operation g ts)) (Term.operation g ts) δ _ _ (let h = buildAll-made ts δ in omega arith)
+  build-made (Term.cipher k ts) δ =
+      made-or (δ (Term.cipher k ts)) (Term.cipher k ts) δ _ _
+      (let g = build-made k δ in
+      let h = buildAll-made ts (build k δ .dictionary) in
+      omega (arith, length-append (build k δ .made) (buildAll ts (build k δ .dictionary) .made)))
+  build-made (Term.public t) δ = made-or (δ (Term.public t)) (Term.public t) δ _ _ (let h = build-made t δ in omega arith)
+  build-made (Term.private t) δ = made-or (δ (Term.private t)) (Term.private t) δ _ _ (let h = build-made t δ in omega arith)
+
+  pub buildAll-made : (ts : Terms) (δ : Dictionary) → 2 * length (buildAll ts δ .made) ≤ sizes ts
+  buildAll-made Terms.nil δ = omega arith
+  buildAll-made (Terms.cons t ts) δ =
+      let g = build-made t δ in
+      let h = buildAll-made ts (build t δ .dictionary) in
+      omega (arith, length-append (build t δ .made) (buildAll ts (build t δ .dictionary) .made))
 
 -- ---- the image that building gives is never longer than its row's size
 module _ (row : Term → ℕ) where

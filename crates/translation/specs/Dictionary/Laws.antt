@@ -34,7 +34,7 @@ or-either false b e f g = g (sym (pick-false false true b refl) ∙ e)
 or-first : (a b : Bool) → a ≡ true → pick a true b ≡ true
 or-first a b e = pick-true a true b e
 
-or-second : (a b : Bool) → b ≡ true → pick a true b ≡ true
+pub or-second : (a b : Bool) → b ≡ true → pick a true b ≡ true
 or-second true b e = pick-true true true b refl
 or-second false b e = pick-false false true b refl ∙ e
 

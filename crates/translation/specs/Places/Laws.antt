@@ -11,6 +11,7 @@ use Rattle.terms.specs.Term.{Term, Terms, count}
 use Rattle.terms.specs.Image.{Image}
 use Rattle.translation.specs.Dictionary.{Dictionary}
 use Rattle.translation.specs.Receive.{Event, Did, nothing, followed, Rule, rule, byRule, compared, kept, opened, receive, receiveAll}
+use Rattle.translation.specs.Receive.Laws.{by-rule}
 use Rattle.translation.specs.Places.{placeOf}
 
 -- none of the events passes the test
@@ -44,10 +45,7 @@ module _ (t : Event → Bool) where
 
   module _ (checks : (x : ℕ) (i : Image) → t (Event.checks x i) ≡ false) (opens : (x f n : ℕ) (i : Image) → t (Event.opens x f n i) ≡ false) where
     none-rule : (r : Rule) (u : Term) (p : ℕ) (δ : Dictionary) (o : Did) → None t (o .events) → None t (byRule r (compared u p δ) o (kept u p δ) .events)
-    unfolding byRule
-    none-rule Rule.compare u p δ o h = (checks _ _, tt)
-    none-rule Rule.unlock u p δ o h = h
-    none-rule Rule.store u p δ o h = tt
+    none-rule r u p δ o h = by-rule (λ d. None t (d .events)) r _ _ _ (checks _ _, tt) h tt
 
     mutual
       unfolding receive

@@ -8,17 +8,17 @@ use lib.ListN.{length, length-append}
 use Rattle.words.specs.Run.{All, values}
 use Rattle.words.specs.Run.Laws.{run-length, all-run, values-length}
 use Rattle.terms.specs.Term.{Term, Terms, count, listed, gathered, partner, size, sizes}
-use Rattle.terms.specs.Term.Laws.{size-two, count-listed}
+use Rattle.terms.specs.Term.Laws.{size-two, size-partner, count-listed}
 use Rattle.terms.specs.Table.{Table, Formed, terms, rowSize, number}
 use Rattle.terms.specs.Table.Laws.{size-term}
 use Rattle.book.specs.Layout.{table, rows, parties, steps, begins, sender, receiver, messages, stepFirst, stepCount}
 use Rattle.book.specs.Valid.{Valid}
 use Rattle.book.specs.Valid.Laws.{formed}
 use Rattle.book.specs.Headed.Laws.{valid-headed}
-use Rattle.translation.specs.Dictionary.{Held, Dictionary, image}
+use Rattle.translation.specs.Dictionary.{Dictionary, image}
 use Rattle.translation.specs.Dictionary.Laws.{image-short}
-use Rattle.translation.specs.Build.{Built, builtOr, build, buildAll}
-use Rattle.translation.specs.Build.Laws.{buildAll-short}
+use Rattle.translation.specs.Build.{buildAll}
+use Rattle.translation.specs.Build.Laws.{buildAll-short, buildAll-made}
 use Rattle.translation.specs.Receive.{Event, Did, nothing, followed, rule, byRule, compared, kept, opened, receive, receiveAll}
 use Rattle.translation.specs.Receive.Laws.{by-rule}
 use Rattle.translation.specs.Program.{sent, arrived}
@@ -29,14 +29,6 @@ use Rattle.walking.specs.Walk.{stepDid, before}
 use Rattle.walking.specs.Walk.Laws.{step-sends, step-receives, step-idle, before-none, before-more, before-all}
 use Rattle.translation.specs.Listing.Laws.{program-append}
 use Rattle.walking.specs.Long.{stepSize, stepWords, mostPlaceholders, mostEvents, mostPart, mostListing, Small, Within}
-
-size-partner : (t : Term) → size (partner t) ≡ size t
-unfolding size partner
-size-partner (Term.atom r) = refl
-size-partner (Term.operation g ts) = refl
-size-partner (Term.cipher k ts) = refl
-size-partner (Term.public t) = refl
-size-partner (Term.private t) = refl
 
 module _ (row : Term → ℕ) where
   program-then : (es fs : List Event) → length (programWords row (es ++ fs)) ≡ length (programWords row es) + length (programWords row fs)
@@ -150,33 +142,6 @@ pub receiveAll-words : (row : Term → ℕ) (ts : Terms) (p : ℕ) (δ : Diction
 receiveAll-words row ts p δ n = receiveAll-small row ts p δ n .words
 
 -- ---- sending
-made-or : (h : Held) (t : Term) (δ : Dictionary) (b : Built) (z : ℕ) → 2 * length (b .made) ≤ z → 2 * length (builtOr h t δ b .made) ≤ z
-unfolding builtOr
-made-or Held.free t δ b z h = h
-made-or Held.itself t δ b z h = omega arith
-made-or (Held.placeholder x) t δ b z h = omega arith
-
-mutual
-  unfolding build size
-
-  pub build-made : (t : Term) (δ : Dictionary) → 2 * length (build t δ .made) ≤ size t
-  build-made (Term.atom r) δ = made-or (δ (Term.atom r)) (Term.atom r) δ _ _ (omega arith)
-  build-made (Term.operation g ts) δ = made-or (δ (Term.operation g ts)) (Term.operation g ts) δ _ _ (let h = buildAll-made ts δ in omega arith)
-  build-made (Term.cipher k ts) δ =
-      made-or (δ (Term.cipher k ts)) (Term.cipher k ts) δ _ _
-      (let g = build-made k δ in
-      let h = buildAll-made ts (build k δ .dictionary) in
-      omega (arith, length-append (build k δ .made) (buildAll ts (build k δ .dictionary) .made)))
-  build-made (Term.public t) δ = made-or (δ (Term.public t)) (Term.public t) δ _ _ (let h = build-made t δ in omega arith)
-  build-made (Term.private t) δ = made-or (δ (Term.private t)) (Term.private t) δ _ _ (let h = build-made t δ in omega arith)
-
-  pub buildAll-made : (ts : Terms) (δ : Dictionary) → 2 * length (buildAll ts δ .made) ≤ sizes ts
-  buildAll-made Terms.nil δ = omega arith
-  buildAll-made (Terms.cons t ts) δ =
-      let g = build-made t δ in
-      let h = buildAll-made ts (build t δ .dictionary) in
-      omega (arith, length-append (build t δ .made) (buildAll ts (build t δ .dictionary) .made))
-
 pub news-words : (row : Term → ℕ) (rs : List ℕ) → length (programWords row (map Event.new rs)) ≡ 2 * length rs
 unfolding programWords eventWords
 news-words row [] = refl

@@ -5,11 +5,11 @@ use native.Mathlib.Omega.{arith}
 use mathlib.Core.List.{List, [], _∷_, _++_, map, append-nil}
 use mathlib.Core.Bool.{false}
 use mathlib.Core.Path.{_≡_, refl, sym, ap, ap₂, _∙_}
-use lib.ListN.{length, take}
+use lib.ListN.{length}
 use borrow.Author.Tests.{eq-eqb, ne-eqb}
 use Rattle.words.specs.Choice.Laws.{pick-false}
 use Rattle.words.specs.Run.{values}
-use Rattle.words.specs.Run.Laws.{values-last, values-length, values-getD}
+use Rattle.words.specs.Run.Laws.{values-last, values-length, values-getD, values-take}
 use Rattle.terms.specs.Term.{count}
 use Rattle.terms.specs.Table.{term, terms}
 use Rattle.book.specs.Layout.{table, parties, steps, known, sender, receiver, messages}
@@ -21,13 +21,6 @@ use Rattle.translation.specs.Program.Laws.{own-sends, own-receives, own-idle, o
 use Rattle.translation.specs.Narration.{stepAt, narration, knownTo, programOf}
 use Rattle.translation.specs.Taken.{holdsBefore}
 use Rattle.walking.specs.Walk.{stepDid, before, refusedFor, NextOwn}
-
--- ---- values: the first of them
-values-take : {X : Type 0} (f : ℕ → X) (i n k : ℕ) → k ≤ n → take k (values f i n) ≡ values f i k
-unfolding values
-values-take f i n zero h = refl
-values-take f i zero (suc k) h = absurd (omega arith)
-values-take f i (suc n) (suc k) h = ap (λ l. f i ∷ l) (values-take f (suc i) n k (omega arith))
 
 -- ---- a Did with nothing behind it
 pub followed-nothing : (d : Did) → followed d (nothing (d .dictionary)) ≡ d

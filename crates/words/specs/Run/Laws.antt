@@ -7,7 +7,7 @@ use mathlib.Core.Path.{_≡_, refl, sym, _∙_, ap, ap₂}
 use native.Mathlib.Omega.{arith}
 use native.Mathlib.Nat.{zero-add, suc-add, add-zero}
 use native.Mathlib.Numerals.{add-one, sub-one}
-use lib.ListN.{length, getD, take, drop}
+use lib.ListN.{length, getD, take, drop, replicate}
 use lib.Dec.{eqb}
 use borrow.Author.Tests.{eqb-true, eq-eqb}
 use Rattle.words.specs.Choice.Laws.{pick-true, pick-false}
@@ -89,6 +89,19 @@ pub values-last : {X : Type 0} (f : ℕ → X) (i n : ℕ) → values f i (suc n
 unfolding values
 values-last {X} f i zero = let z : i ≡ i + 0 = omega arith in ap (λ k. f k ∷ []) z
 values-last {X} f i (suc n) = let z : suc i + n ≡ i + suc n = omega arith in ap (λ (l : List X). f i ∷ l) (values-last f (suc i) n ∙ ap (λ k. values f (suc i) n ++ (f k ∷ [])) z)
+
+-- the first of them
+pub values-take : {X : Type 0} (f : ℕ → X) (i n k : ℕ) → k ≤ n → take k (values f i n) ≡ values f i k
+unfolding values
+values-take f i n zero h = refl
+values-take f i zero (suc k) h = absurd (omega arith)
+values-take {X} f i (suc n) (suc k) h = ap (λ (l : List X). f i ∷ l) (values-take f (suc i) n k (omega arith))
+
+-- ---- a list of zeros, at every place
+pub zeros : (n i : ℕ) → getD (replicate {A = ℕ} n 0) i 0 ≡ 0
+zeros zero i = refl
+zeros (suc n) zero = refl
+zeros (suc n) (suc i) = zeros n i
 
 -- ---- sameWords
 same-equal : (xs ys : List ℕ) → sameWords xs ys ≡ true → xs ≡ ys

@@ -1,16 +1,16 @@
 -- Images on the way are images in the dictionary afterwards. Assumes nothing.
 use Prim.Native.Nat.{ℕ}
 use mathlib.Core.Bool.{Bool, true, false, true≢false}
-use mathlib.Core.List.{[]}
 use mathlib.Core.Path.{_≡_, refl, sym, ap, ap₂, _∙_, subst}
 use Rattle.words.specs.Choice.{pick}
 use Rattle.words.specs.Choice.Laws.{pick-true, pick-false}
 use Rattle.terms.specs.Term.{Term, Terms}
 use Rattle.terms.specs.Image.{Image, Images}
 use Rattle.translation.specs.Dictionary.{Held, Dictionary, isHeld, enter, buildable, allBuildable, imageOr, image, images}
-use Rattle.translation.specs.Dictionary.Laws.{enter-same, enter-ind, and-both, both-and}
+use Rattle.translation.specs.Dictionary.Laws.{enter-same, enter-ind, or-second, and-both, both-and}
 use Rattle.translation.specs.Build.{Built, builtOr, build, buildAll}
-use Rattle.sending.specs.Along.{NoAtom, Gains}
+use Rattle.translation.specs.Build.Laws.{built-or}
+use Rattle.translation.specs.Along.{NoAtom, Gains}
 
 -- ---- Gains
 gains-none : (δ : Dictionary) → Gains δ δ
@@ -25,14 +25,6 @@ gains-one r δ e =
       others = λ u p. enter-ind (λ x. x ≡ δ u) δ (Term.atom r) Held.itself u (λ q. absurd (subst NoAtom (sym q) p)) (λ q. refl);
       atoms = λ s h. enter-ind (λ x. x ≡ δ (Term.atom s)) δ (Term.atom r) Held.itself (Term.atom s) (λ q. absurd (true≢false (sym h ∙ ap (λ t. isHeld (δ t)) (sym q) ∙ e))) (λ q. refl);
     }
-
--- of a term that is held, and of one that is not
-built-or : (P : Built → Type 0) (h : Held) (t : Term) (δ : Dictionary) (b : Built) → ((i : Image) → isHeld h ≡ true → ((j : Image) → imageOr h t j ≡ i) → P (record { dictionary = δ; made = []; image = i })) → (h ≡ Held.free → P b)
-    → P (builtOr h t δ b)
-unfolding builtOr imageOr
-built-or P Held.free t δ b f g = g refl
-built-or P Held.itself t δ b f g = f _ refl (λ j. refl)
-built-or P (Held.placeholder x) t δ b f g = f _ refl (λ j. refl)
 
 or-gains : (t : Term) (δ : Dictionary) (b : Built) → (δ t ≡ Held.free → Gains δ (b .dictionary)) → Gains δ ((builtOr (δ t) t δ b) .dictionary)
 or-gains t δ b g = built-or (λ c. Gains δ (c .dictionary)) (δ t) t δ b (λ i h j. gains-none δ) g
@@ -106,11 +98,6 @@ module _ (δ ε : Dictionary) (g : Gains δ ε) where
     images-gains (Terms.cons t ts) h = let z = and-both (buildable δ t) (allBuildable δ ts) h in ap₂ Images.cons (image-gains t (z .0)) (images-gains ts (z .1))
 
 -- ---- what was built is buildable
-or-last : (a x : Bool) → x ≡ true → pick a true x ≡ true
-unfolding pick
-or-last true x h = refl
-or-last false x h = h
-
 abbrev Can : Term → Built → Type 0
 Can t c = buildable (c .dictionary) t ≡ true
 
@@ -120,12 +107,12 @@ mutual
   build-buildable : (t : Term) (δ : Dictionary) → Can t (build t δ)
   build-buildable (Term.atom r) δ = built-or (Can (Term.atom r)) (δ (Term.atom r)) (Term.atom r) δ _ (λ i h j. h) (λ e. ap isHeld (enter-same δ (Term.atom r) Held.itself))
   build-buildable (Term.operation g ts) δ =
-      built-or (Can (Term.operation g ts)) (δ (Term.operation g ts)) (Term.operation g ts) δ _ (λ i h j. pick-true _ _ _ h) (λ e. or-last _ _ (buildAll-buildable ts δ))
+      built-or (Can (Term.operation g ts)) (δ (Term.operation g ts)) (Term.operation g ts) δ _ (λ i h j. pick-true _ _ _ h) (λ e. or-second _ _ (buildAll-buildable ts δ))
   build-buildable (Term.cipher k ts) δ =
       built-or (Can (Term.cipher k ts)) (δ (Term.cipher k ts)) (Term.cipher k ts) δ _ (λ i h j. pick-true _ _ _ h)
-      (λ e. or-last _ _ (both-and _ _ (buildable-gains _ _ (buildAll-gains ts ((build k δ) .dictionary)) k (build-buildable k δ)) (buildAll-buildable ts ((build k δ) .dictionary))))
-  build-buildable (Term.public t) δ = built-or (Can (Term.public t)) (δ (Term.public t)) (Term.public t) δ _ (λ i h j. pick-true _ _ _ h) (λ e. or-last _ _ (build-buildable t δ))
-  build-buildable (Term.private t) δ = built-or (Can (Term.private t)) (δ (Term.private t)) (Term.private t) δ _ (λ i h j. pick-true _ _ _ h) (λ e. or-last _ _ (build-buildable t δ))
+      (λ e. or-second _ _ (both-and _ _ (buildable-gains _ _ (buildAll-gains ts ((build k δ) .dictionary)) k (build-buildable k δ)) (buildAll-buildable ts ((build k δ) .dictionary))))
+  build-buildable (Term.public t) δ = built-or (Can (Term.public t)) (δ (Term.public t)) (Term.public t) δ _ (λ i h j. pick-true _ _ _ h) (λ e. or-second _ _ (build-buildable t δ))
+  build-buildable (Term.private t) δ = built-or (Can (Term.private t)) (δ (Term.private t)) (Term.private t) δ _ (λ i h j. pick-true _ _ _ h) (λ e. or-second _ _ (build-buildable t δ))
 
   buildAll-buildable : (ts : Terms) (δ : Dictionary) → allBuildable ((buildAll ts δ) .dictionary) ts ≡ true
   buildAll-buildable Terms.nil δ = refl

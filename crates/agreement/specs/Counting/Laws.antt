@@ -9,7 +9,7 @@ use mathlib.Core.Path.{_≡_, refl, sym, ap, _∙_, subst, fun-ext}
 use lib.ListN.{length}
 use lib.Dec.{eqb, ltb}
 use borrow.Author.Tests.{eqb-true, eq-eqb, le-leb, lt-leb, lt-ltb, le-ltb}
-use Rattle.words.specs.Choice.Laws.{pick-ind, pick-true, pick-false, pick-ap}
+use Rattle.words.specs.Choice.Laws.{pick-ind, pick-true, pick-false}
 use Rattle.words.specs.First.Laws.{any-at, any-none}
 use Rattle.words.specs.Run.{All, values}
 use Rattle.terms.specs.Term.{Terms}
@@ -18,12 +18,13 @@ use Rattle.translation.specs.Receive.{Event}
 use Rattle.translation.specs.Program.{Step}
 use Rattle.translation.specs.Narration.{Narration, stepAt, narration, knownTo, programOf}
 use Rattle.translation.specs.Taken.{stepOf}
+use Rattle.translation.specs.Taken.Laws.{steps-length, step-is}
 use Rattle.translation.specs.Listing.{listing}
 use Rattle.translation.specs.Places.{Places, placesOf, placeOf, isSend, isReceive}
 use Rattle.translation.specs.Outcome.Laws.{Plays}
 use Rattle.agreement.specs.View.{change}
 use Rattle.agreement.specs.Machine.{Party, stays, takes, next, effect, turn, delivered, System, Move, move, begin, Reach}
-use Rattle.agreement.specs.Machine.Laws.{change-none}
+use Rattle.agreement.specs.Machine.Laws.{change-ap, change-none}
 use Rattle.agreement.specs.Agree.{receiverOf, AtEnd}
 use Rattle.agreement.specs.Order.{Sends, Of, Holds}
 use Rattle.agreement.specs.Order.Laws.{program-rising, sends-holds}
@@ -32,7 +33,7 @@ use Rattle.agreement.specs.Flow.{Posted, Flow}
 use Rattle.agreement.specs.Progress.{Own, Next, rising-next, turn-own, delivered-takes}
 use Rattle.agreement.specs.Start.{reached-going, reached-flow}
 use Rattle.agreement.specs.Spelled.{spelled, started}
-use Rattle.agreement.specs.Spelled.Laws.{steps-length, step-is, plays-programs, plays-played}
+use Rattle.agreement.specs.Spelled.Laws.{plays-programs, plays-played}
 use Rattle.agreement.specs.Finish.{toDo}
 use Rattle.agreement.specs.Finish.Counts.{end-toDo, reach-adds}
 use Rattle.agreement.specs.Rehearsal.{moveOf, played, eventsDone}
@@ -70,8 +71,7 @@ abbrev doneBy : (ℕ → Party) → ℕ → ℕ
 doneBy f q = f q .done
 
 changed-done : (f : ℕ → Party) (p : ℕ) (R : Party) → doneBy (change f p R) ≡ change (doneBy f) p (R .done)
-unfolding change
-changed-done f p R = fun-ext (λ q. pick-ap (λ (P : Party). P .done) (eqb p q) R (f q))
+changed-done f p R = fun-ext (change-ap (λ (P : Party). P .done) f p R)
 
 -- ---- one move
 -- an event of a party's own: the party moves by itself, it is no RECEIVE, and it is one to do

@@ -4,14 +4,12 @@ use mathlib.Core.List.{List, _∷_, List·Memᴰ, List·Memᴰ·head, List·Mem�
 use mathlib.Core.Logic.{⊎-elim}
 use mathlib.Core.Option.{Option}
 use mathlib.Core.Path.{_≡_, refl, sym, ap, _∙_, subst, fun-ext}
-use lib.Dec.{eqb}
-use Rattle.words.specs.Choice.Laws.{pick-ap}
 use Rattle.terms.specs.Term.{Terms}
 use Rattle.translation.specs.Build.Laws.{NoRepeat}
 use Rattle.translation.specs.Receive.{Event}
 use Rattle.agreement.specs.View.{change}
 use Rattle.agreement.specs.Machine.{Shown, Party, Turn, turn, delivered, System, madeAfter, Move, move, Reach}
-use Rattle.agreement.specs.Machine.Laws.{change-ind, change-none, Showing, Turned, turn-cases, Delivered, delivered-cases}
+use Rattle.agreement.specs.Machine.Laws.{change-ind, change-ap, change-none, Showing, Turned, turn-cases, Delivered, delivered-cases}
 use Rattle.agreement.specs.Making.{news}
 use Rattle.agreement.specs.Log.{Log, Logged}
 
@@ -36,8 +34,7 @@ delivered-news (Delivered.halted l e c) = refl
 delivered-news (Delivered.took l e) = ap news l
 
 change-news : (f : ℕ → Party) (p : ℕ) (R : Party) (q : ℕ) → news (change f p R q .left) ≡ change (λ x. news (f x .left)) p (news (R .left)) q
-unfolding change
-change-news f p R q = pick-ap (λ (P : Party). news (P .left)) (eqb p q) R (f q)
+change-news = change-ap (λ (P : Party). news (P .left))
 
 -- ---- the log goes on
 module _ (Fresh : ℕ → Type 0) where

@@ -5,7 +5,7 @@ use mathlib.Core.Option.{Option, none, some}
 use mathlib.Core.Path.{_≡_, refl, ap, _∙_, subst, fun-ext}
 use lib.Dec.{eqb}
 use borrow.Author.Tests.{eqb-true, eqb-false, eq-eqb, ne-eqb}
-use Rattle.words.specs.Choice.Laws.{pick-ind, pick-true, pick-false, choose-ind}
+use Rattle.words.specs.Choice.Laws.{pick-ind, pick-true, pick-false, pick-ap, choose-ind}
 use Rattle.terms.specs.Term.{Term, Terms, same, count}
 use Rattle.terms.specs.Image.{Image, Images}
 use Rattle.translation.specs.Receive.{Event}
@@ -25,6 +25,11 @@ module _ {A : Type 0} (f : ℕ → A) (p : ℕ) (a : A) where
   pub change-other : (q : ℕ) → (p ≡ q → ⊥) → change f p a q ≡ f q
   unfolding change
   change-other q n = pick-false (eqb p q) a (f q) (ne-eqb p q n)
+
+-- a function goes inside
+pub change-ap : {A B : Type 0} (g : A → B) (f : ℕ → A) (p : ℕ) (a : A) (q : ℕ) → g (change f p a q) ≡ change (λ x. g (f x)) p (g a) q
+unfolding change
+change-ap g f p a q = pick-ap g (eqb p q) a (f q)
 
 -- what is there already changes nothing
 pub change-none : {A : Type 0} (f : ℕ → A) (p : ℕ) → change f p (f p) ≡ f

@@ -17,12 +17,12 @@ use Rattle.translation.specs.Dictionary.{Dictionary, start}
 use Rattle.translation.specs.Build.{buildAll}
 use Rattle.translation.specs.Build.Laws.{NoRepeat, no-repeat-append, buildAll-makes, derivesAll-free}
 use Rattle.translation.specs.Receive.{Event, Did, followed, receiveAll}
+use Rattle.translation.specs.Receive.Laws.{Quiet, receiveAll-quiet}
 use Rattle.translation.specs.Program.{Step, Act, own, act, walk, walked, program}
 use Rattle.translation.specs.Program.Laws.{own-append, walk-append}
 use Rattle.translation.specs.Narration.{Narration, knownTo, programOf}
 use Rattle.translation.specs.Taken.{Taken, Nobodys, stepOf, holdsBefore, madeAt, Playable}
 use Rattle.agreement.specs.Parts.Laws.{step-seam, split-on, length-on}
-use Rattle.agreement.specs.Order.Laws.{Quiet, receiveAll-quiet}
 use Rattle.agreement.specs.Making.{news, MadeFrom}
 
 -- ---- news

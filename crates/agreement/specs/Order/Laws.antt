@@ -1,17 +1,17 @@
 -- A program's events rise, and hold the SEND of each step that the party sends. Assumes nothing.
-use Prim.Native.Nat.{ℕ, suc, _+_, _≤_, _<_, zero-le}
+use Prim.Native.Nat.{ℕ, _+_, _≤_, _<_, zero-le}
 use native.Mathlib.Nat.{le-trans, le-suc}
 use native.Mathlib.Omega.{arith}
 use mathlib.Core.List.{List, [], _∷_, _++_, map, append-assoc, List·Memᴰ, List·Memᴰ·cases-cons, List·Memᴰ·not-nil}
 use mathlib.Core.Logic.{_⊎_, inl, inr, ⊎-elim}
 use mathlib.Core.Path.{_≡_, refl, sym, subst}
 use lib.ListN.{length}
-use Rattle.terms.specs.Term.{Term, Terms}
-use Rattle.terms.specs.Image.{Image, Images}
+use Rattle.terms.specs.Term.{Terms}
+use Rattle.terms.specs.Image.{Images}
 use Rattle.translation.specs.Dictionary.{Dictionary, start}
 use Rattle.translation.specs.Build.{buildAll}
-use Rattle.translation.specs.Receive.{Event, receive, receiveAll}
-use Rattle.translation.specs.Receive.Laws.{by-rule}
+use Rattle.translation.specs.Receive.{Event}
+use Rattle.translation.specs.Receive.Laws.{Quiet, receiveAll-quiet}
 use Rattle.translation.specs.Program.{Act, act, walk, walked, program}
 use Rattle.translation.specs.Narration.{Narration, knownTo, programOf}
 use Rattle.translation.specs.Taken.{stepOf}
@@ -21,31 +21,6 @@ use Rattle.agreement.specs.Agree.{receiverOf}
 use Rattle.agreement.specs.Parts.{Parts}
 use Rattle.agreement.specs.Parts.Laws.{own-parts, own-sends-in}
 use Rattle.agreement.specs.Order.{Rising, Sends, Of, Holds}
-
--- ---- receiving: comparisons and openings only
-pub data Quiet : List Event → Type 0 where
-  nil : Quiet []
-  checks : {x : ℕ} {i : Image} {es : List Event} → Quiet es → Quiet (Event.checks x i ∷ es)
-  opens : {x f n : ℕ} {i : Image} {es : List Event} → Quiet es → Quiet (Event.opens x f n i ∷ es)
-
-quiet-append : {es fs : List Event} → Quiet es → Quiet fs → Quiet (es ++ fs)
-quiet-append Quiet.nil k = k
-quiet-append (Quiet.checks h) k = Quiet.checks (quiet-append h k)
-quiet-append (Quiet.opens h) k = Quiet.opens (quiet-append h k)
-
-mutual
-  unfolding receive
-
-  receive-quiet : (t : Term) (x : ℕ) (δ : Dictionary) (n : ℕ) → Quiet (receive t x δ n .events)
-  receive-quiet (Term.atom r) x δ n = by-rule (λ d. Quiet (d .events)) _ _ _ _ (Quiet.checks Quiet.nil) Quiet.nil Quiet.nil
-  receive-quiet (Term.operation g ts) x δ n = by-rule (λ d. Quiet (d .events)) _ _ _ _ (Quiet.checks Quiet.nil) Quiet.nil Quiet.nil
-  receive-quiet (Term.cipher k ts) x δ n = by-rule (λ d. Quiet (d .events)) _ _ _ _ (Quiet.checks Quiet.nil) (Quiet.opens (receiveAll-quiet ts n δ _)) Quiet.nil
-  receive-quiet (Term.public t) x δ n = by-rule (λ d. Quiet (d .events)) _ _ _ _ (Quiet.checks Quiet.nil) Quiet.nil Quiet.nil
-  receive-quiet (Term.private t) x δ n = by-rule (λ d. Quiet (d .events)) _ _ _ _ (Quiet.checks Quiet.nil) Quiet.nil Quiet.nil
-
-  pub receiveAll-quiet : (ts : Terms) (x : ℕ) (δ : Dictionary) (n : ℕ) → Quiet (receiveAll ts x δ n .events)
-  receiveAll-quiet Terms.nil x δ n = Quiet.nil
-  receiveAll-quiet (Terms.cons t ts) x δ n = quiet-append (receive-quiet t x δ n) (receiveAll-quiet ts (suc x) _ _)
 
 module _ (N : Narration) (p : ℕ) where
   -- ---- Rising

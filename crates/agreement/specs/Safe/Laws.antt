@@ -126,7 +126,7 @@ module _ (N : Narration) (all : List Term) where
       let b = buildAll ts δ in
       let g = buildAll-sound ns ts δ hs s in
       let v = buildAll-value ns ts δ (plus (b .made) hs) g in
-      (plus (b .made) hs, good-still (sent i b) refl g (λ es k. news-safe (b .made) (Event.sends i (b .images) ∷ []) es hs ns (ts, w, v .1, k)))
+      (plus (b .made) hs, good-still (sent i b) refl g (λ es k. news-safe (b .made) (Event.sends i (b .images) ∷ []) es hs ns (ts, w, v, k)))
   good-act (Act.receives i ts) δ n {hs} {ns} w l s = (
     hs,
     good-followed (arrived i ts δ n) _ (record { sound = sound-append (listed ts) s; safe = λ es k. (ts, w, l, refl, k) })

@@ -8,9 +8,11 @@ use lib.ListN.{length, getElem?}
 use Rattle.words.specs.Choice.Laws.{pick-true, choose-ind, choose-yes}
 use Rattle.terms.specs.Term.{Term, Terms, same}
 use Rattle.terms.specs.Image.{Image}
-use Rattle.translation.specs.Dictionary.{Held, Dictionary, isHeld, enter, start, buildable, Derives, DerivesAll, nobody, Buildable, imageOr, image, images}
-use Rattle.translation.specs.Dictionary.Laws.{enter-same, enter-other, enter-ind, buildable-exact}
+use Rattle.translation.specs.Dictionary.{Held, Dictionary, isHeld, enter, start, buildable, allBuildable, Derives, DerivesAll, nobody, Buildable, imageOr, image, images}
+use Rattle.translation.specs.Dictionary.Laws.{enter-ind, buildable-exact, allBuildable-exact}
 use Rattle.translation.specs.Build.{Built, builtOr, build, buildAll}
+use Rattle.translation.specs.Build.Laws.{built-or}
+use Rattle.translation.specs.Along.Laws.{buildAll-buildable, buildAll-images}
 use Rattle.translation.specs.Spelling.{then}
 use Rattle.agreement.specs.View.{holds, value, valueAll}
 use Rattle.agreement.specs.Sound.{seen, Right, Sound}
@@ -53,17 +55,6 @@ sound-more u s t = right-more u (s t)
 
 pub sound-enter : (δ : Dictionary) (t : Term) (h : Held) {hs ns : List Term} → Right hs ns t h → Sound δ hs ns → Sound (enter δ t h) hs ns
 sound-enter δ t h {hs} {ns} r s u = enter-ind (Right hs ns u) δ t h u (λ e. subst (λ v. Right hs ns v h) e r) (λ n. s u)
-
--- what was entered is right; and what was there is, if the entry was free
-sound-here : (δ : Dictionary) (t : Term) (h : Held) {hs ns : List Term} → Sound (enter δ t h) hs ns → Right hs ns t h
-sound-here δ t h {hs} {ns} s = subst (Right hs ns t) (enter-same δ t h) (s t)
-
-sound-back : (δ : Dictionary) (t : Term) (h : Held) {hs ns : List Term} → δ t ≡ Held.free → Sound (enter δ t h) hs ns → Sound δ hs ns
-sound-back δ t h {hs} {ns} e s u = go (same t u)
-  where
-    go : Dec (t ≡ u) → Right hs ns u (δ u)
-    go (yes p) = subst (Right hs ns u) (sym (ap δ (sym p) ∙ e)) Right.free
-    go (no n) = subst (Right hs ns u) (enter-other δ t h u n) (s u)
 
 pub start-sound : (known : List Term) → Sound (start known) known []
 unfolding start
@@ -112,6 +103,9 @@ module _ (hs ns : List Term) where
     pub image-value : (t : Term) → buildable δ t ≡ true → value (seen hs ns) (image δ t) ≡ some t
     image-value t e = derives-value (buildable-exact δ t .0 e)
 
+    images-value : (ts : Terms) → allBuildable δ ts ≡ true → valueAll (seen hs ns) (images δ ts) ≡ some ts
+    images-value ts e = derivesAll-value (allBuildable-exact δ ts .0 e)
+
 -- ---- build
 -- the atoms made, added to what is held
 unfoldable pub plus : List ℕ → List Term → List Term
@@ -124,51 +118,17 @@ plus-append [] b hs = refl
 plus-append (r ∷ a) b hs = plus-append a b (Term.atom r ∷ hs)
 
 module _ (ns : List Term) where
-  -- whoever holds what the dictionary says afterwards finds the term behind the image
-  abbrev BuiltRight : Term → Dictionary → Built → Type 0
-  BuiltRight t δ b = (hs : List Term) → Sound (b .dictionary) hs ns → Sound δ hs ns × (value (seen hs ns) (b .image) ≡ some t)
-
-  or-built : {h : Held} (t : Term) (δ : Dictionary) (b : Built) → ((hs : List Term) → Sound δ hs ns → Right hs ns t h) → (h ≡ Held.free → BuiltRight t δ b) → BuiltRight t δ (builtOr h t δ b)
-  unfolding builtOr value seen
-  or-built {h = Held.free} t δ b r f = f refl
-  or-built {h = Held.itself} t δ b r f = λ hs s. (s, itself (r hs s))
-    where
-      itself : {hs : List Term} → Right hs ns t Held.itself → value (seen hs ns) (Image.itself t) ≡ some t
-      itself {hs} (Right.itself e) = holds-value hs ns t e
-  or-built {h = Held.placeholder x} t δ b r f = λ hs s. (s, there (r hs s))
-    where
-      there : {hs : List Term} → Right hs ns t (Held.placeholder x) → getElem? ns x ≡ some t
-      there (Right.placeholder e) = e
-
-  mutual
-    unfolding build value then
-
-    build-value : (t : Term) (δ : Dictionary) → BuiltRight t δ (build t δ)
-    build-value (Term.atom r) δ = or-built (Term.atom r) δ _ (λ hs s. s _) (λ e hs s. (sound-back δ (Term.atom r) Held.itself e s, made (sound-here δ (Term.atom r) Held.itself s)))
-      where
-        made : {hs : List Term} → Right hs ns (Term.atom r) Held.itself → value (seen hs ns) (Image.itself (Term.atom r)) ≡ some (Term.atom r)
-        made {hs} (Right.itself e) = holds-value hs ns (Term.atom r) e
-    build-value (Term.operation g ts) δ = or-built (Term.operation g ts) δ _ (λ hs s. s _) (λ e hs s. let m = buildAll-value ts δ hs s in (m .0, rw (m .1)))
-    build-value (Term.cipher k ts) δ =
-        or-built (Term.cipher k ts) δ _ (λ hs s. s _)
-        (λ e hs s. let m = buildAll-value ts ((build k δ) .dictionary) hs s in let n = build-value k δ hs (m .0) in (n .0, rw (n .1, m .1)))
-    build-value (Term.public t) δ = or-built (Term.public t) δ _ (λ hs s. s _) (λ e hs s. let m = build-value t δ hs s in (m .0, rw (m .1)))
-    build-value (Term.private t) δ = or-built (Term.private t) δ _ (λ hs s. s _) (λ e hs s. let m = build-value t δ hs s in (m .0, rw (m .1)))
-
-    pub buildAll-value : (ts : Terms) (δ : Dictionary) (hs : List Term) → Sound ((buildAll ts δ) .dictionary) hs ns → Sound δ hs ns × (valueAll (seen hs ns) ((buildAll ts δ) .images) ≡ some ts)
-    buildAll-value Terms.nil δ = λ hs s. (s, refl)
-    buildAll-value (Terms.cons t ts) δ =
-        λ hs s. let m = buildAll-value ts ((build t δ) .dictionary) hs s in let n = build-value t δ hs (m .0) in (n .0, rw (n .1, m .1))
+  -- whoever holds what the dictionary says afterwards finds the terms behind the images
+  pub buildAll-value : (ts : Terms) (δ : Dictionary) (hs : List Term) → Sound ((buildAll ts δ) .dictionary) hs ns → valueAll (seen hs ns) ((buildAll ts δ) .images) ≡ some ts
+  buildAll-value ts δ hs s = rw (buildAll-images ts δ) (images-value hs ns ((buildAll ts δ) .dictionary) s ts (buildAll-buildable ts δ))
 
   -- and with the atoms made the party holds what the dictionary says afterwards
   abbrev BuiltSound : Dictionary → Built → Type 0
   BuiltSound δ b = (hs : List Term) → Sound δ hs ns → Sound (b .dictionary) (plus (b .made) hs) ns
 
   or-sound : (h : Held) (t : Term) (δ : Dictionary) (b : Built) → BuiltSound δ b → BuiltSound δ (builtOr h t δ b)
-  unfolding builtOr plus
-  or-sound Held.free t δ b f = f
-  or-sound Held.itself t δ b f = λ hs s. s
-  or-sound (Held.placeholder x) t δ b f = λ hs s. s
+  unfolding plus
+  or-sound h t δ b f = built-or (BuiltSound δ) h t δ b (λ i k j hs s. s) (λ e. f)
 
   mutual
     unfolding build plus

@@ -8,12 +8,12 @@ use lib.ListN.{length, getD, drop, length-append, List·getD-append}
 use borrow.Author.Tests.{lt-ltb, le-ltb}
 use Rattle.words.specs.Choice.Laws.{pick-true, pick-false}
 use Rattle.words.specs.Run.{run, values}
-use Rattle.words.specs.Run.Laws.{values-length, values-getD}
+use Rattle.words.specs.Run.Laws.{values-length}
 use Rattle.terms.specs.Table.{term}
 use Rattle.book.specs.Layout.{table, parties, steps}
 use Rattle.translation.specs.Program.{Step}
 use Rattle.translation.specs.Narration.{stepAt, narration, programOf}
-use Rattle.translation.specs.Taken.{stepOf}
+use Rattle.translation.specs.Taken.Laws.{steps-length, step-is}
 use Rattle.translation.specs.Listing.{heads, bodies, framed, partWords, listing}
 use Rattle.translation.specs.Spelling.{readProgram, partOf}
 use Rattle.translation.specs.Spelling.Laws.{heads-length, listing-spells}
@@ -64,14 +64,6 @@ module _ (b : List ℕ) where
         nobody = λ p l. pick-false _ _ _ (le-ltb p (parties b) l);
       }
 
-  pub steps-length : length (narration b .says) ≡ steps b
-  unfolding narration
-  steps-length = values-length (stepAt b) 0 (steps b)
-
-  pub step-is : (s : ℕ) → s < steps b → stepOf (narration b) s ≡ stepAt b s
-  unfolding stepOf narration
-  step-is s l = let z : 0 + s ≡ s = omega arith in values-getD (stepAt b) 0 (steps b) s _ l ∙ ap (stepAt b) z
-
   module _ (plays : Plays b) where
     pub plays-programs : Programs (narration b) (parties b) (spelled b (listing b))
     plays-programs = spelled-programs (listing b) (listing-spells b (plays .valid))
@@ -79,9 +71,9 @@ module _ (b : List ℕ) where
     pub plays-played : Played (narration b) (parties b)
     unfolding stepAt
     plays-played =
-        let e = steps-length in
+        let e = steps-length b in
         record {
-          senders = λ s l. (let k : s < steps b = omega arith in subst (λ (a : Step). a .sender < parties b) (sym (step-is s k)) (plays .valid .stepsKeep s k .sends));
+          senders = λ s l. (let k : s < steps b = omega arith in subst (λ (a : Step). a .sender < parties b) (sym (step-is b s k)) (plays .valid .stepsKeep s k .sends));
           playable = λ s l. plays .playable s (omega arith);
         }
 

@@ -3,9 +3,9 @@ use Rattle.rehearsal.specs.Kept.{places, counts}
 use Rattle.agreement.specs.Counting.{counted}
 use Rattle.book.specs.Layout.{parties}
 use Rattle.words.specs.Run.Laws.{all-getD}
-use mathlib.Core.Path.{_≡_, refl, sym, _∙_}
-use lib.ListN.{length, getD, take}
-use Prim.Native.Nat.{ℕ, _-_, _≤_, _<_}
+use mathlib.Core.Path.{_≡_}
+use lib.ListN.{length, take}
+use Prim.Native.Nat.{_-_, _≤_, _<_}
 use Rattle.rehearsal.proofs.Laws.{played-none, played-on, played-all}
 use borrow.Author.Needs.{needs}
 use native.Mathlib.Omega.{arith}

@@ -3,7 +3,6 @@ use mathlib.Core.Path.{sym, ap, _∙_}
 use Rattle.book.specs.Said.{readingSays}
 use Rattle.translation.specs.Outcome.Laws.{accepted-plays}
 use Rattle.rehearsal.proofs.Laws.{refused}
-use native.Mathlib.Omega.{arith}
 use borrow.Author.Needs.{needs}
 use Rattle.rehearsal.proofs.rehearse.Statement.{statement}
 use Rattle.rehearsal.proofs.rehearse.Tie as tie

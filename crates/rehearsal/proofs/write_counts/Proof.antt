@@ -4,7 +4,7 @@ use Prim.Native.Nat.{_-_, _≤_}
 use Rattle.rehearsal.proofs.Laws.{counts-on, counts-none, counts-all}
 use Rattle.rehearsal.specs.Kept.{counts}
 use Rattle.words.specs.Run.{values}
-use Rattle.words.specs.Overlay.Laws.{wrote-none, wrote-length}
+use Rattle.words.specs.Overlay.Laws.{wrote-length}
 use Rattle.words.specs.Overlay.{Wrote}
 use borrow.Author.Needs.{needs}
 use native.Mathlib.Omega.{arith}

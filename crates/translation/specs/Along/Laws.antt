@@ -1,13 +1,14 @@
--- Images on the way are images in the dictionary afterwards. Assumes nothing.
-use Prim.Native.Nat.{ℕ}
+-- Images on the way are images in the dictionary afterwards, and as short. Assumes nothing.
+use Prim.Native.Nat.{ℕ, _≤_}
 use mathlib.Core.Bool.{Bool, true, false, true≢false}
 use mathlib.Core.Path.{_≡_, refl, sym, ap, ap₂, _∙_, subst}
+use lib.ListN.{length}
 use Rattle.words.specs.Choice.{pick}
 use Rattle.words.specs.Choice.Laws.{pick-true, pick-false}
-use Rattle.terms.specs.Term.{Term, Terms}
-use Rattle.terms.specs.Image.{Image, Images}
+use Rattle.terms.specs.Term.{Term, Terms, size, sizes}
+use Rattle.terms.specs.Image.{Image, Images, words, wordsOf}
 use Rattle.translation.specs.Dictionary.{Held, Dictionary, isHeld, enter, buildable, allBuildable, imageOr, image, images}
-use Rattle.translation.specs.Dictionary.Laws.{enter-same, enter-ind, or-second, and-both, both-and}
+use Rattle.translation.specs.Dictionary.Laws.{enter-same, enter-ind, or-second, and-both, both-and, image-short, images-short}
 use Rattle.translation.specs.Build.{Built, builtOr, build, buildAll}
 use Rattle.translation.specs.Build.Laws.{built-or}
 use Rattle.translation.specs.Along.{NoAtom, Gains}
@@ -114,7 +115,7 @@ mutual
   build-buildable (Term.public t) δ = built-or (Can (Term.public t)) (δ (Term.public t)) (Term.public t) δ _ (λ i h j. pick-true _ _ _ h) (λ e. or-second _ _ (build-buildable t δ))
   build-buildable (Term.private t) δ = built-or (Can (Term.private t)) (δ (Term.private t)) (Term.private t) δ _ (λ i h j. pick-true _ _ _ h) (λ e. or-second _ _ (build-buildable t δ))
 
-  buildAll-buildable : (ts : Terms) (δ : Dictionary) → allBuildable ((buildAll ts δ) .dictionary) ts ≡ true
+  pub buildAll-buildable : (ts : Terms) (δ : Dictionary) → allBuildable ((buildAll ts δ) .dictionary) ts ≡ true
   buildAll-buildable Terms.nil δ = refl
   buildAll-buildable (Terms.cons t ts) δ =
       both-and _ _ (buildable-gains _ _ (buildAll-gains ts ((build t δ) .dictionary)) t (build-buildable t δ)) (buildAll-buildable ts ((build t δ) .dictionary))
@@ -158,3 +159,11 @@ mutual
   buildAll-images (Terms.cons t ts) δ =
       let ε = (build t δ) .dictionary in
       ap₂ Images.cons (build-image t δ ∙ sym (image-gains ε _ (buildAll-gains ts ε) t (build-buildable t δ))) (buildAll-images ts ε)
+
+-- ---- so the image that building gives is never longer than its row's size
+module _ (row : Term → ℕ) where
+  pub build-short : (t : Term) (δ : Dictionary) → length (words row (build t δ .image)) ≤ size t
+  build-short t δ = rw (build-image t δ) (image-short row (build t δ .dictionary) t)
+
+  pub buildAll-short : (ts : Terms) (δ : Dictionary) → length (wordsOf row (buildAll ts δ .images)) ≤ sizes ts
+  buildAll-short ts δ = rw (buildAll-images ts δ) (images-short row (buildAll ts δ .dictionary) ts)

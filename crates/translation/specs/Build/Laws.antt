@@ -7,8 +7,7 @@ use mathlib.Core.Path.{_≡_, refl, sym, ap, _∙_, subst}
 use native.Mathlib.Omega.{arith}
 use lib.ListN.{length, length-append}
 use Rattle.terms.specs.Term.{Term, Terms, size, sizes, Occurs, OccursIn}
-use Rattle.terms.specs.Term.Laws.{size-two}
-use Rattle.terms.specs.Image.{Image, words, wordsOf}
+use Rattle.terms.specs.Image.{Image}
 use Rattle.translation.specs.Dictionary.{Held, Dictionary, isHeld, enter, Derives, DerivesAll, imageOr}
 use Rattle.translation.specs.Dictionary.Laws.{enter-same, enter-ind, Grows, enter-grows, derivesAll-from}
 use Rattle.translation.specs.Build.{Built, builtOr, build, buildAll}
@@ -187,32 +186,3 @@ mutual
       let g = build-made t δ in
       let h = buildAll-made ts (build t δ .dictionary) in
       omega (arith, length-append (build t δ .made) (buildAll ts (build t δ .dictionary) .made))
-
--- ---- the image that building gives is never longer than its row's size
-module _ (row : Term → ℕ) where
-  short-built : (h : Held) (t : Term) (δ : Dictionary) (b : Built) → length (words row (b .image)) ≤ size t → length (words row ((builtOr h t δ b) .image)) ≤ size t
-  unfolding builtOr words
-  short-built Held.free t δ b l = l
-  short-built Held.itself t δ b l = size-two t
-  short-built (Held.placeholder x) t δ b l = size-two t
-
-  mutual
-    unfolding build words size
-
-    pub build-short : (t : Term) (δ : Dictionary) → length (words row ((build t δ) .image)) ≤ size t
-    build-short (Term.atom r) δ = short-built (δ (Term.atom r)) (Term.atom r) δ _ (omega arith)
-    build-short (Term.operation g ts) δ = short-built (δ (Term.operation g ts)) (Term.operation g ts) δ _ (let h = buildAll-short ts δ in omega arith)
-    build-short (Term.cipher k ts) δ =
-        short-built (δ (Term.cipher k ts)) (Term.cipher k ts) δ _
-        (let g = build-short k δ in
-        let h = buildAll-short ts ((build k δ) .dictionary) in
-        omega (arith, length-append (words row ((build k δ) .image)) (wordsOf row ((buildAll ts ((build k δ) .dictionary)) .images))))
-    build-short (Term.public t) δ = short-built (δ (Term.public t)) (Term.public t) δ _ (let h = build-short t δ in omega arith)
-    build-short (Term.private t) δ = short-built (δ (Term.private t)) (Term.private t) δ _ (let h = build-short t δ in omega arith)
-
-    pub buildAll-short : (ts : Terms) (δ : Dictionary) → length (wordsOf row ((buildAll ts δ) .images)) ≤ sizes ts
-    buildAll-short Terms.nil δ = omega arith
-    buildAll-short (Terms.cons t ts) δ =
-        let g = build-short t δ in
-        let h = buildAll-short ts ((build t δ) .dictionary) in
-        omega (arith, length-append (words row ((build t δ) .image)) (wordsOf row ((buildAll ts ((build t δ) .dictionary)) .images)))

@@ -89,6 +89,9 @@ module _ (δ : Dictionary) where
   pub buildable-exact : (t : Term) → (buildable δ t ≡ true) ↔ Buildable δ t
   buildable-exact t = (buildable-derives t, derives-buildable)
 
+  pub allBuildable-exact : (ts : Terms) → (allBuildable δ ts ≡ true) ↔ DerivesAll nobody δ ts
+  allBuildable-exact ts = (allBuildable-derives ts, derives-allBuildable)
+
 -- ---- derivations grow with what is held
 abbrev pub Grows : Dictionary → Dictionary → Type 0
 Grows δ ε = (u : Term) → isHeld (δ u) ≡ true → isHeld (ε u) ≡ true

@@ -1,5 +1,5 @@
 -- Laws of where events stand: events that do not pass the test are counted. Assumes nothing.
-use Prim.Native.Nat.{ℕ, suc, _+_}
+use Prim.Native.Nat.{ℕ, _+_}
 use native.Mathlib.Nat.{zero-add}
 use native.Mathlib.Omega.{arith}
 use mathlib.Core.Bool.{Bool, true, false}
@@ -7,11 +7,11 @@ use mathlib.Core.List.{List, [], _∷_, _++_, map}
 use mathlib.Core.Path.{_≡_, sym, _∙_}
 use lib.ListN.{length}
 use Rattle.words.specs.Choice.Laws.{pick-true, pick-false}
-use Rattle.terms.specs.Term.{Term, Terms, count}
+use Rattle.terms.specs.Term.{Terms}
 use Rattle.terms.specs.Image.{Image}
 use Rattle.translation.specs.Dictionary.{Dictionary}
-use Rattle.translation.specs.Receive.{Event, Did, nothing, followed, Rule, rule, byRule, compared, kept, opened, receive, receiveAll}
-use Rattle.translation.specs.Receive.Laws.{by-rule}
+use Rattle.translation.specs.Receive.{Event, receiveAll}
+use Rattle.translation.specs.Receive.Laws.{Quiet, receiveAll-quiet}
 use Rattle.translation.specs.Places.{placeOf}
 
 -- none of the events passes the test
@@ -44,20 +44,10 @@ module _ (t : Event → Bool) where
   none-news h (r ∷ rs) = (h r, none-news h rs)
 
   module _ (checks : (x : ℕ) (i : Image) → t (Event.checks x i) ≡ false) (opens : (x f n : ℕ) (i : Image) → t (Event.opens x f n i) ≡ false) where
-    none-rule : (r : Rule) (u : Term) (p : ℕ) (δ : Dictionary) (o : Did) → None t (o .events) → None t (byRule r (compared u p δ) o (kept u p δ) .events)
-    none-rule r u p δ o h = by-rule (λ d. None t (d .events)) r _ _ _ (checks _ _, tt) h tt
+    none-quiet : {es : List Event} → Quiet es → None t es
+    none-quiet Quiet.nil = tt
+    none-quiet (Quiet.checks h) = (checks _ _, none-quiet h)
+    none-quiet (Quiet.opens h) = (opens _ _ _ _, none-quiet h)
 
-    mutual
-      unfolding receive
-
-      none-receive : (u : Term) (p : ℕ) (δ : Dictionary) (n : ℕ) → None t (receive u p δ n .events)
-      none-receive (Term.atom r) p δ n = none-rule (rule δ (Term.atom r)) (Term.atom r) p δ (nothing δ) tt
-      none-receive (Term.operation g us) p δ n = none-rule (rule δ (Term.operation g us)) (Term.operation g us) p δ (nothing δ) tt
-      none-receive (Term.cipher k us) p δ n =
-          none-rule (rule δ (Term.cipher k us)) (Term.cipher k us) p δ (followed (opened k us p δ n) (receiveAll us n δ (n + count us))) (opens _ _ _ _, none-receiveAll us n δ (n + count us))
-      none-receive (Term.public u) p δ n = none-rule (rule δ (Term.public u)) (Term.public u) p δ (nothing δ) tt
-      none-receive (Term.private u) p δ n = none-rule (rule δ (Term.private u)) (Term.private u) p δ (nothing δ) tt
-
-      pub none-receiveAll : (us : Terms) (p : ℕ) (δ : Dictionary) (n : ℕ) → None t (receiveAll us p δ n .events)
-      none-receiveAll Terms.nil p δ n = tt
-      none-receiveAll (Terms.cons u us) p δ n = none-append (receive u p δ n .events) _ (none-receive u p δ n) (none-receiveAll us (suc p) _ _)
+    pub none-receiveAll : (us : Terms) (p : ℕ) (δ : Dictionary) (n : ℕ) → None t (receiveAll us p δ n .events)
+    none-receiveAll us p δ n = none-quiet (receiveAll-quiet us p δ n)

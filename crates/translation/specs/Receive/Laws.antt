@@ -2,14 +2,16 @@
 use Prim.Native.Nat.{ℕ, suc, _+_}
 use native.Mathlib.Omega.{arith}
 use mathlib.Core.Bool.{true, false, false≢true}
+use mathlib.Core.List.{List, [], _∷_, _++_}
 use mathlib.Core.Path.{_≡_, refl}
 use lib.ListN.{length, length-append}
 use Rattle.words.specs.Choice.{pick}
 use Rattle.words.specs.Choice.Laws.{pick-ind, pick-true, pick-false}
 use Rattle.terms.specs.Term.{Term, Terms, count, listed}
 use Rattle.terms.specs.Term.Laws.{count-listed}
+use Rattle.terms.specs.Image.{Image}
 use Rattle.translation.specs.Dictionary.{Dictionary, buildable}
-use Rattle.translation.specs.Receive.{Did, nothing, followed, Rule, canOpen, rule, byRule, compared, kept, opened, receive, receiveAll}
+use Rattle.translation.specs.Receive.{Event, Did, nothing, followed, Rule, canOpen, rule, byRule, compared, kept, opened, receive, receiveAll}
 
 -- ---- rule
 pub rule-compare : (δ : Dictionary) (t : Term) → buildable δ t ≡ true → rule δ t ≡ Rule.compare
@@ -53,6 +55,31 @@ receive-rule (Term.operation g ts) p δ n = refl
 receive-rule (Term.cipher k ts) p δ n = refl
 receive-rule (Term.public t) p δ n = refl
 receive-rule (Term.private t) p δ n = refl
+
+-- ---- the events of receiving: comparisons and openings only
+pub data Quiet : List Event → Type 0 where
+  nil : Quiet []
+  checks : {x : ℕ} {i : Image} {es : List Event} → Quiet es → Quiet (Event.checks x i ∷ es)
+  opens : {x f n : ℕ} {i : Image} {es : List Event} → Quiet es → Quiet (Event.opens x f n i ∷ es)
+
+quiet-append : {es fs : List Event} → Quiet es → Quiet fs → Quiet (es ++ fs)
+quiet-append Quiet.nil k = k
+quiet-append (Quiet.checks h) k = Quiet.checks (quiet-append h k)
+quiet-append (Quiet.opens h) k = Quiet.opens (quiet-append h k)
+
+mutual
+  unfolding receive
+
+  receive-quiet : (t : Term) (x : ℕ) (δ : Dictionary) (n : ℕ) → Quiet (receive t x δ n .events)
+  receive-quiet (Term.atom r) x δ n = by-rule (λ d. Quiet (d .events)) _ _ _ _ (Quiet.checks Quiet.nil) Quiet.nil Quiet.nil
+  receive-quiet (Term.operation g ts) x δ n = by-rule (λ d. Quiet (d .events)) _ _ _ _ (Quiet.checks Quiet.nil) Quiet.nil Quiet.nil
+  receive-quiet (Term.cipher k ts) x δ n = by-rule (λ d. Quiet (d .events)) _ _ _ _ (Quiet.checks Quiet.nil) (Quiet.opens (receiveAll-quiet ts n δ _)) Quiet.nil
+  receive-quiet (Term.public t) x δ n = by-rule (λ d. Quiet (d .events)) _ _ _ _ (Quiet.checks Quiet.nil) Quiet.nil Quiet.nil
+  receive-quiet (Term.private t) x δ n = by-rule (λ d. Quiet (d .events)) _ _ _ _ (Quiet.checks Quiet.nil) Quiet.nil Quiet.nil
+
+  pub receiveAll-quiet : (ts : Terms) (x : ℕ) (δ : Dictionary) (n : ℕ) → Quiet (receiveAll ts x δ n .events)
+  receiveAll-quiet Terms.nil x δ n = Quiet.nil
+  receiveAll-quiet (Terms.cons t ts) x δ n = quiet-append (receive-quiet t x δ n) (receiveAll-quiet ts (suc x) _ _)
 
 -- ---- how many events receiving has: each of the c terms at hand, and each that gets a placeholder, is compared, opened or stored
 abbrev Settles : ℕ → Did → Type 0

@@ -2,6 +2,7 @@
 use Prim.Native.Nat.{ℕ, zero, suc, _+_, _≤_, _<_}
 use mathlib.Core.Bool.{true, true≢false}
 use mathlib.Core.List.{List, [], _∷_, _++_, map}
+use mathlib.Core.Logic.{⊎-elim}
 use mathlib.Core.Path.{_≡_, refl, sym, subst}
 use native.Mathlib.Omega.{arith}
 use lib.ListN.{getD}
@@ -16,7 +17,9 @@ use Rattle.book.specs.Valid.{Valid}
 use Rattle.book.specs.Valid.Laws.{formed}
 use Rattle.translation.specs.Dictionary.{Held, Dictionary, isHeld, enter, start, imageOr, image, images}
 use Rattle.translation.specs.Dictionary.Laws.{enter-ind}
-use Rattle.translation.specs.Build.{Built, builtOr, build, buildAll}
+use Rattle.translation.specs.Build.{buildAll}
+use Rattle.translation.specs.Build.Laws.{buildAll-makes}
+use Rattle.translation.specs.Along.Laws.{buildAll-images}
 use Rattle.translation.specs.Receive.{Event, Did, nothing, followed, compared, kept, opened, receive, receiveAll}
 use Rattle.translation.specs.Receive.Laws.{by-rule}
 use Rattle.translation.specs.Program.{Step, Act, own, arrived, act, walk, walked, program}
@@ -68,34 +71,11 @@ module _ (tab : Table) (n : ℕ) (ok : Formed n tab) where
     images-names δ d (Terms.cons t ts) a = NamesAll.cons (image-names δ d t (λ q o. a q (OccursIn.here o))) (images-names δ d ts (λ q o. a q (OccursIn.later o)))
 
   -- ---- build
-  abbrev BuiltRows : Built → Type 0
-  BuiltRows b = HeldRows (b .dictionary) × Names (IsRow tab n) (b .image)
-
-  rows-or : (h : Held) (t : Term) (δ : Dictionary) (b : Built) → HeldRows δ → (isHeld h ≡ true → IsRow tab n t) → BuiltRows b → BuiltRows (builtOr h t δ b)
-  unfolding builtOr
-  rows-or Held.free t δ b d i k = k
-  rows-or Held.itself t δ b d i k = (d, Names.itself (i refl))
-  rows-or (Held.placeholder x) t δ b d i k = (d, Names.placeholder)
-
-  mutual
-    unfolding build
-
-    build-rows : (t : Term) (δ : Dictionary) → HeldRows δ → AtomsRows t → BuiltRows (build t δ)
-    build-rows (Term.atom r) δ d a = rows-or _ _ δ _ d (d (Term.atom r)) (enter-rows δ (Term.atom r) Held.itself d (a r Occurs.atom), Names.itself (a r Occurs.atom))
-    build-rows (Term.operation g ts) δ d a = let m = buildAll-rows ts δ d (λ q o. a q (Occurs.operation o)) in rows-or _ _ δ _ d (d (Term.operation g ts)) (m .0, Names.operation (m .1))
-    build-rows (Term.cipher k ts) δ d a =
-        let x = build-rows k δ d (λ q o. a q (Occurs.key o)) in
-        let m = buildAll-rows ts ((build k δ) .dictionary) (x .0) (λ q o. a q (Occurs.contents o)) in
-        rows-or _ _ δ _ d (d (Term.cipher k ts)) (m .0, Names.cipher (x .1) (m .1))
-    build-rows (Term.public t) δ d a = let m = build-rows t δ d (λ q o. a q (Occurs.public o)) in rows-or _ _ δ _ d (d (Term.public t)) (m .0, Names.public (m .1))
-    build-rows (Term.private t) δ d a = let m = build-rows t δ d (λ q o. a q (Occurs.private o)) in rows-or _ _ δ _ d (d (Term.private t)) (m .0, Names.private (m .1))
-
-    pub buildAll-rows : (ts : Terms) (δ : Dictionary) → HeldRows δ → ((q : ℕ) → OccursIn q ts → IsRow tab n (Term.atom q)) → HeldRows ((buildAll ts δ) .dictionary) × NamesAll (IsRow tab n) ((buildAll ts δ) .images)
-    buildAll-rows Terms.nil δ d a = (d, NamesAll.nil)
-    buildAll-rows (Terms.cons t ts) δ d a =
-        let x = build-rows t δ d (λ q o. a q (OccursIn.here o)) in
-        let m = buildAll-rows ts ((build t δ) .dictionary) (x .0) (λ q o. a q (OccursIn.later o)) in
-        (m .0, NamesAll.cons (x .1) (m .1))
+  pub buildAll-rows : (ts : Terms) (δ : Dictionary) → HeldRows δ → ((q : ℕ) → OccursIn q ts → IsRow tab n (Term.atom q)) → HeldRows ((buildAll ts δ) .dictionary) × NamesAll (IsRow tab n) ((buildAll ts δ) .images)
+  buildAll-rows ts δ d a =
+      let m = buildAll-makes ts δ in
+      let h : HeldRows (buildAll ts δ .dictionary) = λ u k. ⊎-elim (λ x. d u x) (λ x. subst (IsRow tab n) (sym (x .1)) (a (x .0) (m .within (x .0) (x .2)))) (m .back u k) in
+      (h, rw (buildAll-images ts δ) (images-names (buildAll ts δ .dictionary) h ts a))
 
   -- ---- receive
   pub record DidRows (d : Did) : Type 0 where

@@ -1,6 +1,6 @@
 -- Laws of refusal 10: taken as computed and as said; a step is unplayable exactly if some message of it has no derivation from what
 -- its sender holds by then and atoms that are nobody's yet; and its place. Assumes nothing.
-use Prim.Native.Nat.{ℕ, zero, suc, _<_}
+use Prim.Native.Nat.{ℕ, zero, suc, _+_, _<_}
 use mathlib.Core.Bool.{Bool, true, false, true≢false}
 use mathlib.Core.List.{List, [], _∷_, List·Memᴰ, List·Memᴰ·head, List·Memᴰ·tail, List·Memᴰ·append-cases, List·Memᴰ·cases-cons, List·Memᴰ·not-nil, Memᴰ·append-left, Memᴰ·append-right}
 use mathlib.Core.Logic.{_↔_, ⊎-elim}
@@ -8,16 +8,28 @@ use mathlib.Core.Path.{_≡_, refl, sym, ap, _∙_, subst}
 use native.Mathlib.Omega.{arith}
 use lib.ListN.{length, getD, take}
 use Rattle.words.specs.Choice.Laws.{or-cases, or-left, or-right}
+use Rattle.words.specs.Run.Laws.{values-length, values-getD}
 use Rattle.words.specs.First.{first}
 use Rattle.words.specs.First.Laws.{clash, first-holds, first-fails, any-none, none-any, any-first}
 use Rattle.terms.specs.Term.{Term, Terms, listed, occurs, Occurs}
 use Rattle.terms.specs.Term.Laws.{occurs-path, path-occurs}
+use Rattle.book.specs.Layout.{steps}
 use Rattle.translation.specs.Dictionary.{Dictionary, Derives, DerivesAll}
 use Rattle.translation.specs.Build.{build}
 use Rattle.translation.specs.Build.Laws.{AllFree, derives-free, free-derives, derivesAll-free, freeAll-derives}
 use Rattle.translation.specs.Program.{Step}
-use Rattle.translation.specs.Narration.{Narration}
+use Rattle.translation.specs.Narration.{Narration, stepAt, narration}
 use Rattle.translation.specs.Taken.{joined, said, claimed, occursInOne, taken, Taken, Nobodys, stepOf, holdsBefore, madeAt, takenAt, unplayable, firstTaken, Playable}
+
+-- ---- the steps of a book
+module _ (b : List ℕ) where
+  pub steps-length : length (narration b .says) ≡ steps b
+  unfolding narration
+  steps-length = values-length (stepAt b) 0 (steps b)
+
+  pub step-is : (s : ℕ) → s < steps b → stepOf (narration b) s ≡ stepAt b s
+  unfolding stepOf narration
+  step-is s l = let z : 0 + s ≡ s = omega arith in values-getD (stepAt b) 0 (steps b) s _ l ∙ ap (stepAt b) z
 
 -- ---- taken
 one-path : (q : ℕ) (ts : List Term) → occursInOne q ts ≡ true → (t : Term) × List·Memᴰ t ts × Occurs q t

@@ -18,7 +18,8 @@ use Rattle.book.specs.Headed.Laws.{valid-headed}
 use Rattle.translation.specs.Dictionary.{Dictionary, image}
 use Rattle.translation.specs.Dictionary.Laws.{image-short}
 use Rattle.translation.specs.Build.{buildAll}
-use Rattle.translation.specs.Build.Laws.{buildAll-short, buildAll-made}
+use Rattle.translation.specs.Build.Laws.{buildAll-made}
+use Rattle.translation.specs.Along.Laws.{buildAll-short}
 use Rattle.translation.specs.Receive.{Event, Did, nothing, followed, rule, byRule, compared, kept, opened, receive, receiveAll}
 use Rattle.translation.specs.Receive.Laws.{by-rule}
 use Rattle.translation.specs.Program.{sent, arrived}

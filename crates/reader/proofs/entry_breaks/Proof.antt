@@ -25,7 +25,7 @@ entry-breaks-spec =
     μ-loop
     (λ c. (search needs, λ k h. absurd (omega arith)))  -- loop-holds
     (λ c κs. (c .before .before .before .pre .0, omega arith))  -- pooled-requires
-    (λ c. found _ _ _ (omega arith) (leb-yes _ _ _ _ refl (c .before .pooled .ensures) (c .if1 .taken)))  -- returns
+    (λ c. found _ _ _ (omega arith) (leb-yes _ _ _ _ refl (c .before .pooled .ensures) (let t = c .if1 .taken in omega arith)))  -- returns
     (λ c. search needs)  -- add-j
     (λ c. search needs)  -- loop-less
     (λ c. (search needs, below-more _ _ (c .before .before .before .loop .inv .1) (leb-no _ _ _ _ refl (c .before .pooled .ensures) (c .if1 .left))))  -- loop-again

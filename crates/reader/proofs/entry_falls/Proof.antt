@@ -28,7 +28,7 @@ entry-falls-spec =
     (λ c. search needs)  -- add-pooled
     (λ c κs. (c .before .before .before .pre .0, omega arith))  -- pooled-requires
     (λ c κs. (c .before .before .before .before .pre .0, omega arith))  -- pooled-requires-2
-    (λ c. found _ _ _ (omega arith) (leb-yes _ _ _ _ (c .before .before .pooled .ensures) (c .before .pooled2 .ensures) (c .if1 .taken)))  -- returns
+    (λ c. found _ _ _ (omega arith) (leb-yes _ _ _ _ (c .before .before .pooled .ensures) (c .before .pooled2 .ensures) (let t = c .if1 .taken in omega arith)))  -- returns
     (λ c. search needs)  -- add-j
     (λ c. search needs)  -- loop-less
     (λ c. (search needs, below-more _ _ (c .before .before .before .before .loop .inv .1) (leb-no _ _ _ _ (c .before .before .pooled .ensures) (c .before .pooled2 .ensures) (c .if1 .left))))  -- loop-again

@@ -29,7 +29,7 @@ oversize-spec =
     (λ c κs. search needs)  -- rows-requires
     (λ c. (search needs, (λ k h. absurd (omega arith)), (λ k h. absurd (omega arith)), length-replicate {A = ℕ} 1024 0))  -- loop-holds
     (λ c κs. (c .before .before .before .before .before .pre .0, c .before .before .before .before .before .pre .1, (let e = c .before .before .before .rows .ensures in omega arith), c .before .before .loop .inv .2, λ k h. size-fits _ k (c .before .before .loop .inv .1 k h)))  -- row-size-requires
-    (λ c. first-at _ _ _ (let e = c .before .before .before .before .before .rows .ensures in omega arith) (c .before .before .before .before .loop .inv .1) (size-over _ _ _ (c .before .row-size .ensures) (c .if1 .taken)))  -- returns
+    (λ c. first-at _ _ _ (let e = c .before .before .before .before .before .rows .ensures in omega arith) (c .before .before .before .before .loop .inv .1) (size-over _ _ _ (c .before .row-size .ensures) (let t = c .if1 .taken in omega arith)))  -- returns
     (λ c κs. search needs)  -- wide-requires
     (λ c. let e = c .before .before .before .before .before .before .rows .ensures in let f = c .before .before .before .before .before .before .before .before .pre .0 .fewRows in omega arith)  -- mul-sizes
     (λ c. let e = c .before .before .before .before .before .before .rows .ensures in let f = c .before .before .before .before .before .before .before .before .pre .0 .fewRows in omega arith)  -- array-write-sizes

@@ -27,7 +27,7 @@ first-bad-spec =
     (λ c. (omega arith, λ k h. absurd (omega arith)))  -- loop-holds
     (λ c. search needs)  -- mul-if1
     (λ c. search needs)  -- shared-slice-read-if1
-    (λ c. first-at _ _ _ (c .before .before .loop-test .taken) (c .before .before .before .loop .inv .1) (le-leb _ _ (c .if1 .taken)))  -- returns
+    (λ c. first-at _ _ _ (c .before .before .loop-test .taken) (c .before .before .before .loop .inv .1) (le-leb (c .before .before .before .before .args .q) (getD (c .before .before .before .before .args .schedule .now) (c .before .before .before .loop .i) 0) (let t = c .if1 .taken in omega arith)))  -- returns
     (λ c. search needs)  -- add-i
     (λ c. search needs)  -- loop-less
     (λ c. (let t = c .before .before .loop-test .taken in omega arith, fails-on (λ k. leb (c .before .before .before .before .args .q) (getD (c .before .before .before .before .args .schedule .now) k 0)) (c .before .before .before .loop .i) (c .before .before .before .loop .inv .1) (lt-leb (c .before .before .before .before .args .q) (getD (c .before .before .before .before .args .schedule .now) (c .before .before .before .loop .i) 0) (let t = c .if1 .left in omega arith))))  -- loop-again

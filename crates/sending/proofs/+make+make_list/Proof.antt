@@ -65,7 +65,7 @@ pub +make+make-list-spec : {M : Type 1} → statement M
     (λ c κs. search needs)  -- make-wide-requires
     (λ c. let h = valid-headed _ (c .before .before .before .pre .1 .0) in let k = h .fewRows in omega arith)  -- make-mul-if1
     (λ c. let h = valid-headed _ (c .before .before .before .pre .1 .0) in let k = h .fewRows in omega arith)  -- make-element-copy-out-if1
-    (λ c. held-makes (c .before .before .before .before .before .args .book .now) (c .before .before .before .before .before .args .since .now) (c .before .before .before .before .before .args .entries .now) _ _ (c .before .before .before .before .before .pre .1 .0) (c .before .before .before .before .before .pre .1 .1) (c .before .before .before .before .before .args .m) (c .before .before .before .before .before .pre .1 .2) _ _ (c .before .before .wide .ensures .0) (c .if1 .taken))  -- make-returns
+    (λ c. held-makes (c .before .before .before .before .before .args .book .now) (c .before .before .before .before .before .args .since .now) (c .before .before .before .before .before .args .entries .now) _ _ (c .before .before .before .before .before .pre .1 .0) (c .before .before .before .before .before .pre .1 .1) (c .before .before .before .before .before .args .m) (c .before .before .before .before .before .pre .1 .2) _ _ (c .before .before .wide .ensures .0) (let t = c .if1 .taken in λ z. absurd (omega arith)))  -- make-returns
     (λ c κs. (valid-headed _ (c .before .before .before .before .before .pre .1 .0), c .before .before .before .before .before .pre .1 .1))  -- make-row-kind-requires
     (λ c κs. search needs)  -- make-wide-requires-2
     (λ c. let h = valid-headed _ (c .before .before .before .before .before .before .before .before .pre .1 .0) in let k = h .fewRows in let e = c .wide2 .ensures .0 in omega arith)  -- make-mul-entries

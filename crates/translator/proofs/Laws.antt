@@ -1,12 +1,12 @@
 -- What the functions of this room know, as their contracts name it. Assumes nothing.
 use Prim.Native.Nat.{ℕ, suc, _+_, _*_, _≤_, _<_}
 use mathlib.Core.List.{List, [], _∷_, _++_, append-nil, append-assoc}
-use mathlib.Core.Path.{_≡_, sym, ap, ap₂, _∙_}
+use mathlib.Core.Path.{_≡_, refl, sym, ap, ap₂, _∙_}
 use native.Mathlib.Omega.{arith}
 use native.Mathlib.Nat.{add-zero}
 use lib.ListN.{length, take, length-append, length-take}
 use Rattle.words.specs.Overlay.{Wrote}
-use Rattle.words.specs.Overlay.Laws.{wrote-then, wrote-cons, wrote-none, wrote-as, wrote-take}
+use Rattle.words.specs.Overlay.Laws.{wrote-then, wrote-cons, wrote-none, wrote-as, wrote-length, wrote-take}
 use Rattle.words.specs.Run.{values}
 use Rattle.words.specs.Run.Laws.{values-last, values-length}
 use Rattle.book.specs.Layout.{parties, steps}
@@ -16,9 +16,9 @@ use Rattle.translation.specs.Listing.{heads, bodies, framed, partWords, listing
 use Rattle.translation.specs.Spelling.Laws.{heads-length}
 use Rattle.walking.specs.Found.{FoundBefore}
 use Rattle.walking.specs.Long.{mostPart, mostListing}
-use Rattle.walking.specs.Long.Laws.{part-short, offset-short, listing-length}
-use Rattle.translator.specs.Found.{FoundAmong, Sooner}
-use Rattle.translator.specs.Found.Laws.{among-none, among-more}
+use Rattle.walking.specs.Long.Laws.{listing-length}
+use Rattle.translator.specs.Found.{FoundAmong}
+use Rattle.translator.specs.Found.Laws.{among-none, among-all, among-stays, among-sooner}
 use Rattle.translator.specs.Heads.{headsOf}
 
 -- ---- one part more
@@ -47,44 +47,65 @@ module _ (b : List ℕ) where
       ap parts z ∙ values-last (partWords b) 0 q ∙ ap (λ k. parts q ++ partWords b k ∷ []) y
 
 -- ---- the loop over the parties' heads
+-- while nothing is found, the heads and the length are those of the programs; the numbers fit in any case
 pub record Measuring (b : List ℕ) (n q : ℕ) (old : List ℕ) (at : ℕ) (new : List ℕ) (next end step taken : ℕ) : Type 0 where
   pub few : q ≤ n
-  pub wrote : Wrote (heads (1 + 2 * parties b) (values (partWords b) 0 q)) old at new next
-  pub ends : end ≡ 1 + 2 * parties b + length (bodies (values (partWords b) 0 q))
+  pub same : length new ≡ length old
+  pub low : end ≤ 1 + 2 * parties b + mostPart * q
+  pub wrote : taken ≡ 0 → Wrote (heads (1 + 2 * parties b) (values (partWords b) 0 q)) old at new next
+  pub ends : taken ≡ 0 → end ≡ 1 + 2 * parties b + length (bodies (values (partWords b) 0 q))
   pub found : FoundAmong b q step taken
 
 module _ (b : List ℕ) (n : ℕ) (e : n ≡ parties b) where
-  pub heads-start : (old : List ℕ) (at end : ℕ) → end ≡ 1 + 2 * n → Measuring b n 0 old at old at end 0 0
+  pub heads-start : (old : List ℕ) (at end s : ℕ) → end ≡ 1 + 2 * n → s ≡ steps b → Measuring b n 0 old at old at end s 0
   unfolding values heads bodies
-  heads-start old at end h = record { few = omega arith; wrote = wrote-none; ends = omega arith; found = among-none b }
+  heads-start old at end s h d = record { few = omega arith; same = refl; low = omega arith; wrote = λ z. wrote-none; ends = λ z. omega arith; found = rw d (among-none b) }
 
   module _ (v : Valid b) (q : ℕ) (l : q < n) where
-    pub end-low : {old new : List ℕ} {at next end step taken : ℕ} → Measuring b n q old at new next end step taken → end ≤ mostListing
-    end-low h = let x = h .ends in let y = offset-short b v q (omega arith) in omega arith
+    pub end-low : {old new : List ℕ} {at next end step taken : ℕ} → Measuring b n q old at new next end step taken → end + mostPart ≤ mostListing
+    end-low h = let x = h .low in let y = valid-headed b v .fewParties in omega arith
 
-    pub part-low : (w : ℕ) → w ≡ length (partWords b q) → w ≤ mostPart
-    part-low w d = let y = part-short b v q (omega arith) in omega arith
+  module _ (q : ℕ) {old new later : List ℕ} {at next end step taken : ℕ} (w s t f g r : ℕ) (l : q < n) (h : Measuring b n q old at new next end step taken)
+      (d : t ≡ 0 → step ≡ steps b → w ≡ length (partWords b q)) (m : w ≤ mostPart) (k : FoundBefore b q step s t) (i : f ≡ end) (j : g ≡ w) (p : Wrote (f ∷ g ∷ []) new next later r) where
+    -- party q has no find
+    pub heads-on : {x y : ℕ} → t ≡ 0 → x ≡ step → y ≡ taken → Measuring b n (q + 1) old at later r (end + w) x y
+    heads-on {x} {y} z xe ye =
+        let lengths = wrote-length p in
+        let c = h .same in
+        let b1 = h .low in
+        let words : y ≡ 0 → w ≡ length (partWords b q) = λ o. d z (among-all b (h .found) (sym ye ∙ o)) in
+        let more : length (bodies (parts b (q + 1))) ≡ length (bodies (parts b q)) + length (partWords b q) = ap (λ ls. length (bodies ls)) (parts-more b q) ∙ ap length (bodies-last (parts b q) (partWords b q)) ∙ length-append (bodies (parts b q)) (partWords b q) in
+        record {
+          few = omega arith;
+          same = omega arith;
+          low = omega arith;
+          wrote = λ o. wrote-as (wrote-then (h .wrote (sym ye ∙ o)) p) (ap (heads (1 + 2 * parties b)) (parts-more b q) ∙ heads-last (1 + 2 * parties b) (parts b q) (partWords b q)
+              ∙ ap₂ (λ m k. heads (1 + 2 * parties b) (parts b q) ++ m ∷ k ∷ []) (sym (i ∙ h .ends (sym ye ∙ o))) (sym (j ∙ words o)));
+          ends = λ o. let a = h .ends (sym ye ∙ o) in let u = words o in omega arith;
+          found = rw (xe, ye) (among-stays b (h .found) k z);
+        }
 
-  pub heads-on : (q : ℕ) {old new later : List ℕ} {at next end step taken : ℕ} (w s t x y f g r : ℕ) → q < n → Measuring b n q old at new next end step taken
-      → w ≡ length (partWords b q) → FoundBefore b q (steps b) s t → f ≡ end → g ≡ w → Wrote (f ∷ g ∷ []) new next later r → Sooner step taken s t x y → Measuring b n (q + 1) old at later r (end + w) x y
-  heads-on q {old} {new} {later} {at} {next} {end} {step} {taken} w s t x y f g r l h d k i j p o =
-      let a = h .ends in
-      let z : length (bodies (parts b (q + 1))) ≡ length (bodies (parts b q)) + length (partWords b q) = ap (λ ls. length (bodies ls)) (parts-more b q) ∙ ap length (bodies-last (parts b q) (partWords b q)) ∙ length-append (bodies (parts b q)) (partWords b q) in
-      record {
-        few = omega arith;
-        wrote = wrote-as (wrote-then (h .wrote) p) (ap (heads (1 + 2 * parties b)) (parts-more b q) ∙ heads-last (1 + 2 * parties b) (parts b q) (partWords b q)
-            ∙ ap₂ (λ m k. heads (1 + 2 * parties b) (parts b q) ++ m ∷ k ∷ []) (sym (i ∙ a)) (sym (j ∙ d)));
-        ends = omega arith;
-        found = among-more b q step taken s t (h .found) k o;
-      }
+    -- it has one, and there is no output
+    pub heads-off : {x y : ℕ} → (t ≡ 0 → ⊥) → x ≡ s → y ≡ t → Measuring b n (q + 1) old at later r (end + w) x y
+    heads-off {x} {y} z xe ye =
+        let lengths = wrote-length p in
+        let c = h .same in
+        let b1 = h .low in
+        record {
+          few = omega arith;
+          same = omega arith;
+          low = omega arith;
+          wrote = λ o. absurd (z (sym ye ∙ o));
+          ends = λ o. absurd (z (sym ye ∙ o));
+          found = rw (xe, ye) (among-sooner b (h .found) k z);
+        }
 
   pub heads-end : (q : ℕ) {old new : List ℕ} {at next end step taken : ℕ} → n ≤ q → Measuring b n q old at new next end step taken
-      → Wrote (heads (1 + 2 * parties b) (values (partWords b) 0 (parties b))) old at new next × (end ≡ length (listing b)) × FoundAmong b (parties b) step taken
+      → (taken ≡ 0 → Wrote (headsOf b) old at new next × (end ≡ length (listing b))) × FoundAmong b (parties b) step taken
   heads-end q {old} {new} {at} {next} {end} {step} {taken} l h =
       let f = h .few in
       let z : q ≡ parties b = omega arith in
-      let a = h .ends ∙ ap (λ k. 1 + 2 * parties b + length (bodies (parts b k))) z in
-      (rw z at (h .wrote), a ∙ sym (listing-length b), rw z at (h .found))
+      (λ o. (rw z at (h .wrote o), h .ends o ∙ ap (λ k. 1 + 2 * parties b + length (bodies (parts b k))) z ∙ sym (listing-length b)), rw z at (h .found))
 
 -- ---- the loop over their programs
 pub record Laid (b : List ℕ) (n q : ℕ) (old : List ℕ) (at : ℕ) (new : List ℕ) (next : ℕ) : Type 0 where

@@ -1,6 +1,7 @@
 use book::Reading;
 use book::Refusal;
 use book::parties;
+use book::steps;
 use claims::claims;
 use holding::narrow;
 use reader::read;
@@ -22,14 +23,8 @@ ghost use Rattle.book.specs.Said.{readingSays};
 ghost use Rattle.translation.specs.Listing.{bodies, partWords, listing};
 ghost use Rattle.translation.specs.Outcome.{acceptance, outcome, came};
 ghost use Rattle.claims.specs.Claims.{Claims};
-ghost use Rattle.translator.specs.Found.{FoundAmong, Sooner};
+ghost use Rattle.translator.specs.Found.{NobodyRefused, FoundAmong};
 ghost use Rattle.translator.specs.Heads.{headsOf};
-
-// The first step at which some party would make a taken atom, and one more than the atom's row; 0 if there is no such step.
-struct Found {
-    step: u32,
-    taken: u32,
-}
 
 // Behind the heads: where the next word goes, where the last program ends, and the first step at which a taken atom would be made.
 struct Heads {
@@ -47,46 +42,27 @@ struct Surveyed {
     taken: u32,
 }
 
-// Of two steps the one that comes sooner, where `taken` says if it is there at all.
-fn sooner(step: u32, taken: u32, other: u32, found: u32) -> Found
-    ensures { λ r. ⌜ Sooner step taken other found (r .step) (r .taken) ⌝ }
-{
-    if found == 0 {
-        return Found { step, taken };
-    }
-    if taken == 0 {
-        return Found {
-            step: other,
-            taken: found,
-        };
-    }
-    if other < step {
-        return Found {
-            step: other,
-            taken: found,
-        };
-    }
-    Found { step, taken }
-}
-
-// Offset and count of each party's program; the first begins behind them.
+// Offset and count of each party's program; the first begins behind them. Where a party would make a taken atom there is no output, so
+// what is written then says nothing, and the parties that follow are asked about the steps before alone.
 fn write_heads(book: &[u32], since: &[u32; 1024], out: &mut [u32], at: usize) -> Heads
     requires { ⌜ Valid (now book) × Claims (now book) (now since) ⌝ }
-    ensures { λ r. ⌜ Wrote (headsOf (now (book .entry))) (now (out .entry)) at (now (out .exit)) (r .at) × (r .end ≡ length (listing (now (book .entry)))) × FoundAmong (now (book .entry)) (partiesOf (now (book .entry))) (r .step) (r .taken) ⌝ }
+    ensures { λ r. ⌜ (r .taken ≡ 0 → Wrote (headsOf (now (book .entry))) (now (out .entry)) at (now (out .exit)) (r .at) × (r .end ≡ length (listing (now (book .entry))))) × FoundAmong (now (book .entry)) (partiesOf (now (book .entry))) (r .step) (r .taken) ⌝ }
 {
     let n = parties(book);
     let mut next = at;
     let mut end = 1 + 2 * wide(n);
-    let mut step = 0;
+    let all = steps(book);
+    let mut step = all;
     let mut taken = 0;
     let mut party = 0;
     while party < n {
-        let part = measure(book, since, party);
+        let part = measure(book, since, party, step);
         next = put2(out, next, narrow(end), narrow(part.words));
         end += part.words;
-        let found = sooner(step, taken, part.step, part.taken);
-        step = found.step;
-        taken = found.taken;
+        if part.taken != 0 {
+            step = part.step;
+            taken = part.taken;
+        }
         party += 1;
     }
     Heads {
@@ -99,7 +75,7 @@ fn write_heads(book: &[u32], since: &[u32; 1024], out: &mut [u32], at: usize) ->
 
 // The programs, in party order.
 fn write_bodies(book: &[u32], since: &[u32; 1024], out: &mut [u32], at: usize) -> usize
-    requires { ⌜ Valid (now book) × Claims (now book) (now since) ⌝ }
+    requires { ⌜ Valid (now book) × Claims (now book) (now since) × NobodyRefused (now book) (partiesOf (now book)) ⌝ }
     ensures { λ r. ⌜ Wrote (bodies (values (partWords (now (book .entry))) 0 (partiesOf (now (book .entry))))) (now (out .entry)) at (now (out .exit)) r ⌝ }
 {
     let n = parties(book);
@@ -114,7 +90,7 @@ fn write_bodies(book: &[u32], since: &[u32; 1024], out: &mut [u32], at: usize) -
 
 // The whole output: its heads were found before.
 fn write_listing(book: &[u32], since: &[u32; 1024], heads: &[u32], out: &mut [u32]) -> usize
-    requires { ⌜ Valid (now book) × Claims (now book) (now since) × (take (2 * partiesOf (now book)) (now heads) ≡ headsOf (now book)) ⌝ }
+    requires { ⌜ Valid (now book) × Claims (now book) (now since) × NobodyRefused (now book) (partiesOf (now book)) × (take (2 * partiesOf (now book)) (now heads) ≡ headsOf (now book)) ⌝ }
     ensures { λ r. ⌜ Wrote (listing (now (book .entry))) (now (out .entry)) 0 (now (out .exit)) r ⌝ }
 {
     let n = parties(book);
@@ -123,10 +99,10 @@ fn write_listing(book: &[u32], since: &[u32; 1024], heads: &[u32], out: &mut [u3
     write_bodies(book, since, out, next)
 }
 
-// The heads, the output's length and the first taken atom, with nothing written to the output.
+// The first taken atom or, where there is none, the heads and the output's length, with nothing written to the output.
 fn survey(book: &[u32], since: &[u32; 1024]) -> Surveyed
     requires { ⌜ Valid (now book) × Claims (now book) (now since) ⌝ }
-    ensures { λ r. ⌜ (take (2 * partiesOf (now (book .entry))) (r .heads) ≡ headsOf (now (book .entry))) × (r .end ≡ length (listing (now (book .entry)))) × FoundAmong (now (book .entry)) (partiesOf (now (book .entry))) (r .step) (r .taken) ⌝ }
+    ensures { λ r. ⌜ (r .taken ≡ 0 → (take (2 * partiesOf (now (book .entry))) (r .heads) ≡ headsOf (now (book .entry))) × (r .end ≡ length (listing (now (book .entry))))) × FoundAmong (now (book .entry)) (partiesOf (now (book .entry))) (r .step) (r .taken) ⌝ }
 {
     let mut heads = [0u32; 32];
     let all = write_heads(book, since, &mut heads, 0);

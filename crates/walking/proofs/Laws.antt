@@ -34,13 +34,14 @@ use Rattle.receiving.specs.Turn.{inTurn}
 use Rattle.receiving.specs.Walk.{Walked}
 use Rattle.walking.specs.declared.Acted.{Acted}
 use Rattle.walking.specs.declared.Passed.{Passed}
-use Rattle.walking.specs.Walk.{stepDid, before, NextOwn}
+use Rattle.walking.specs.Walk.{stepDid, before, Unrefused, NextOwn}
 use Rattle.walking.specs.Walk.Laws.{step-sends, step-receives, step-idle, before-none, before-more, before-skip, before-all}
 use Rattle.translation.specs.Listing.Laws.{program-append}
 use Rattle.holding.specs.Doing.Laws.{doing-none, doing-then, doing-as}
 use Rattle.walking.specs.Long.{Within, mostPlaceholders, mostEvents}
 use Rattle.walking.specs.Long.Laws.{all-within, pairs-length, part-length, stored-few}
 use Rattle.walking.specs.Found.{foundAt, FoundBefore}
+use Rattle.walking.specs.Found.Laws.{found-unrefused}
 use Rattle.walking.specs.Walking.{Acting, Along, Walking}
 
 -- ---- one step
@@ -129,52 +130,66 @@ module _ (b : List ℕ) (p i k : ℕ) (log : List ℕ) (a : ℕ) (out : List ℕ
   pub along-start : (e : List ℕ) (d : Dictionary) → view b e ≡ start (map (term (table b)) (known b p)) → (d .entries ≡ e) × (d .next ≡ 0) × (d .kept ≡ k) → i ≡ 0 → Along b p i k log log a out out (record { dictionary = d; at = a })
   along-start e d h w z = rw (z, w .0, w .1, w .2) (doing-as (rw (← h) (doing-none {b = b} {x = e})) (before-none b p))
 
-  -- they are all
-  pub walked : {logAfter outAfter : List ℕ} {x : Received} {s t : ℕ} → i ≡ steps b → Along b p i k log logAfter a out outAfter x → FoundBefore b p i s t → Walking b p k log logAfter a out outAfter (record { here = x; step = s; taken = t })
-  walked z g f = record { along = rw (← z) g; found = rw (← z) f }
+  -- a step at which something was found is the last
+  pub walk-stops : {upto : ℕ} {logAfter outAfter : List ℕ} {x : Received} {t : ℕ} → i < steps b → Along b p (i + 1) k log logAfter a out outAfter x → FoundBefore b p upto i t → (t ≡ 0 → ⊥)
+      → Walking b p upto k log logAfter a out outAfter (record { here = x; step = i; taken = t })
+  walk-stops l g f z = record { far = i + 1; within = omega arith; along = g; found = f; whole = λ e m. absurd (z e) }
+
+  -- nothing was found
+  pub walk-ends : {upto : ℕ} {logAfter outAfter : List ℕ} {x : Received} {s : ℕ} → upto ≤ i → i ≤ steps b → Along b p i k log logAfter a out outAfter x → Unrefused b p i
+      → Walking b p upto k log logAfter a out outAfter (record { here = x; step = s; taken = 0 })
+  walk-ends l m g u = record { far = i; within = m; along = g; found = FoundBefore.none (λ k h. u k (omega arith)); whole = λ e z. omega arith }
+
+-- ---- how long it got
+module _ (b : List ℕ) (v : Valid b) (p : ℕ) where
+  all : (i : ℕ) → i ≤ steps b → Within (rowOf b) mostPlaceholders mostEvents (before b p i)
+  all i l = all-within b v (rowOf b) p i l
+
+  -- the places behind what was written and what was stored, counted from 0
+  ends-at : {log logAfter out outAfter : List ℕ} {i k : ℕ} {x : Received} → i ≤ steps b → Along b p i k log logAfter 0 out outAfter x → x .at ≡ length (programWords (rowOf b) (before b p i .events))
+  ends-at {i = i} l g = let n = g .wrote .next in let w = all i l .words in omega arith
+
+  ends-kept : {log logAfter out outAfter : List ℕ} {i a : ℕ} {x : Received} → i ≤ steps b → Along b p i 0 log logAfter a out outAfter x → x .dictionary .kept ≡ 2 * length (before b p i .stored)
+  ends-kept {i = i} l g = let n = g .keeps .next in let w = all i l .stored in let e = pairs-length (rowOf b) (before b p i .stored) in omega arith
+
+  pub few-words : {upto k : ℕ} {log logAfter out outAfter : List ℕ} {r : Passed} → Walking b p upto k log logAfter 0 out outAfter r → r .here .at ≤ mostEvents
+  few-words g = let e = ends-at (g .within) (g .along) in let w = all (g .far) (g .within) .words in omega arith
+
+  pub few-kept : {upto a : ℕ} {log logAfter out outAfter : List ℕ} {r : Passed} → Walking b p upto 0 log logAfter a out outAfter r → r .here .dictionary .kept ≤ 2 * mostPlaceholders
+  few-kept g = let e = ends-kept (g .within) (g .along) in let w = all (g .far) (g .within) .stored in omega arith
+
+  -- the pairs in the log: there is room for all of them
+  pub few-pairs : {upto a : ℕ} {log logAfter out outAfter : List ℕ} {r : Passed} → Walking b p upto 0 log logAfter a out outAfter r → r .here .dictionary .kept ≤ 2048
+  few-pairs g = let k = ends-kept (g .within) (g .along) in let s = stored-few b v p (g .far) (g .within) in let f = valid-headed b v .fewRows in omega arith
 
 -- ---- the whole program
 module _ (b : List ℕ) (v : Valid b) (p : ℕ) (h : p < parties b) where
-  all : Within (rowOf b) mostPlaceholders mostEvents (before b p (steps b))
-  all = all-within b v (rowOf b) p (steps b) (omega arith)
+  pub measured : {upto : ℕ} {log logAfter out outAfter : List ℕ} {r : Passed} → Walking b p upto 0 log logAfter 0 out outAfter r → r .taken ≡ 0 → upto ≡ steps b
+      → r .here .at + 2 + r .here .dictionary .kept ≡ length (partWords b p)
+  measured {log = log} {logAfter = logAfter} {out = out} {outAfter = outAfter} {r = r} g z e =
+      let w : Along b p (steps b) 0 log logAfter 0 out outAfter (r .here) = rw (g .whole z e) at (g .along) in
+      let a = ends-at b v p (omega arith) w in
+      let k = ends-kept b v p (omega arith) w in
+      let l = part-length b p h in
+      omega arith
 
-  -- the places behind what was written and what was stored, counted from 0
-  pub ends-at : {log logAfter out outAfter : List ℕ} {k : ℕ} {r : Passed} → Walking b p k log logAfter 0 out outAfter r → r .here .at ≡ length (programWords (rowOf b) (before b p (steps b) .events))
-  ends-at g = let n = g .along .wrote .next in let w = all .words in omega arith
-
-  pub ends-kept : {log logAfter out outAfter : List ℕ} {a : ℕ} {r : Passed} → Walking b p 0 log logAfter a out outAfter r → r .here .dictionary .kept ≡ 2 * length (before b p (steps b) .stored)
-  ends-kept g = let n = g .along .keeps .next in let w = all .stored in let l = pairs-length (rowOf b) (before b p (steps b) .stored) in omega arith
-
-  pub few-words : length (programWords (rowOf b) (before b p (steps b) .events)) ≤ mostEvents
-  few-words = all .words
-
-  pub few-stored : length (before b p (steps b) .stored) ≤ mostPlaceholders
-  few-stored = all .stored
-
-  pub measured : {log logAfter out outAfter : List ℕ} {r : Passed} → Walking b p 0 log logAfter 0 out outAfter r → r .here .at + 2 + r .here .dictionary .kept ≡ length (partWords b p)
-  measured g = let a = ends-at g in let k = ends-kept g in let l = part-length b p h in omega arith
-
-  -- the pairs in the log: there is room for all of them
-  pub few-pairs : {logAfter out outAfter log : List ℕ} {a : ℕ} {r : Passed} → Walking b p 0 log logAfter a out outAfter r → r .here .dictionary .kept ≤ 2048
-  few-pairs g = let k = ends-kept g in let s = stored-few b v p (steps b) (omega arith) in let f = valid-headed b v .fewRows in omega arith
-
-  logged : {logAfter out outAfter log : List ℕ} {a : ℕ} {r : Passed} → length log ≡ 2048 → Walking b p 0 log logAfter a out outAfter r
-      → take (r .here .dictionary .kept) logAfter ≡ pairWords (rowOf b) (before b p (steps b) .stored)
-  logged {logAfter = logAfter} l g =
+  logged : {log logAfter out outAfter : List ℕ} {a : ℕ} {x : Received} → length log ≡ 2048 → x .dictionary .kept ≤ 2048 → Along b p (steps b) 0 log logAfter a out outAfter x
+      → take (x .dictionary .kept) logAfter ≡ pairWords (rowOf b) (before b p (steps b) .stored)
+  logged {logAfter = logAfter} l f g =
       let n = pairs-length (rowOf b) (before b p (steps b) .stored) in
-      let f = few-pairs g in
-      let k = ends-kept g in
-      ap (λ i. take i logAfter) (k ∙ sym n) ∙ wrote-take (g .along .keeps) (omega arith)
+      let k = ends-kept b v p (omega arith) g in
+      ap (λ i. take i logAfter) (k ∙ sym n) ∙ wrote-take (g .keeps) (omega arith)
 
   -- the events, END's first words, and the pairs behind them
-  pub programmed : {log logAfter out middle between outAfter : List ℕ} {a i m j : ℕ} {r : Passed}
-      → length log ≡ 2048 → Walking b p 0 log logAfter a out middle r → m ≡ r .here .dictionary .kept / 2 → Wrote (6 ∷ m ∷ []) middle (r .here .at) between i
+  pub programmed : {upto : ℕ} {log logAfter out middle between outAfter : List ℕ} {a i m j : ℕ} {r : Passed}
+      → length log ≡ 2048 → upto ≡ steps b → Unrefused b p (steps b) → Walking b p upto 0 log logAfter a out middle r → m ≡ r .here .dictionary .kept / 2 → Wrote (6 ∷ m ∷ []) middle (r .here .at) between i
       → Wrote (take (r .here .dictionary .kept) logAfter) between i outAfter j → Wrote (partWords b p) out a outAfter j
   unfolding partWords programWords eventWords
-  programmed {r = r} l g d w f =
-      let k = ends-kept g in
+  programmed {log = log} {logAfter = logAfter} {out = out} {middle = middle} {a = a} {r = r} l q x g d w f =
+      let t : Along b p (steps b) 0 log logAfter a out middle (r .here) = rw (g .whole (found-unrefused x (rw q at (g .found))) q) at (g .along) in
+      let k = ends-kept b v p (omega arith) t in
       let u : r .here .dictionary .kept / 2 ≡ length (before b p (steps b) .stored) = omega arith in
-      wrote-as (wrote-then (g .along .wrote) (wrote-then (rw (d ∙ u) at w) (wrote-as f (sym (logged l g)))))
+      wrote-as (wrote-then (t .wrote) (wrote-then (rw (d ∙ u) at w) (wrote-as f (sym (logged l (few-pairs b v p g) t)))))
       (ap (programWords (rowOf b)) (before-all b p h) ∙ program-append (rowOf b) (before b p (steps b) .events) _ ∙ ap (λ l. programWords (rowOf b) (before b p (steps b) .events) ++ l) (append-nil _))
 
 -- ---- the party's next step

@@ -1,7 +1,7 @@
 -- The first step at which a taken atom would have to be made. Document 01, refusal 10: "smallest step, and the first such row in
 -- building order".
 use Prim.Native.Nat.{ℕ, _+_, _<_}
-use mathlib.Core.Bool.{true, false}
+use mathlib.Core.Bool.{true}
 use mathlib.Core.List.{List}
 use mathlib.Core.Path.{_≡_}
 use lib.Dec.{eqb}
@@ -14,7 +14,7 @@ use Rattle.translation.specs.Narration.{narration}
 use Rattle.translation.specs.Taken.{firstTaken}
 use Rattle.holding.specs.Since.{takenIn}
 use Rattle.sending.specs.Sending.{firstTaken as firstIn}
-use Rattle.walking.specs.Walk.{refusedFor}
+use Rattle.walking.specs.Walk.{refusedFor, Unrefused}
 pub mod Laws
 
 -- by the table l: one more than the first taken atom that party p would make at step s, holding δ; 0 where there is none
@@ -24,5 +24,5 @@ foundAt b l p s δ = pick (eqb (sender b s) p) (firstIn (takenIn l s) 0 (buildAl
 -- of the first i steps, party p would make a taken atom first at `step`; `taken` is one more than the atom's row, and 0 if there is no
 -- such step
 pub data FoundBefore (b : List ℕ) (p i : ℕ) : ℕ → ℕ → Type 0 where
-  none : {s : ℕ} → ((k : ℕ) → k < i → refusedFor b p k ≡ false) → FoundBefore b p i s 0
-  one : {s : ℕ} → s < i → refusedFor b p s ≡ true → ((k : ℕ) → k < s → refusedFor b p k ≡ false) → FoundBefore b p i s (firstTaken (narration b) s + 1)
+  none : {s : ℕ} → Unrefused b p i → FoundBefore b p i s 0
+  one : {s : ℕ} → s < i → refusedFor b p s ≡ true → Unrefused b p s → FoundBefore b p i s (firstTaken (narration b) s + 1)

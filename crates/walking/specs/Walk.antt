@@ -27,6 +27,10 @@ before b p i = walked (map (term (table b)) (known b p)) (own p 0 (values (stepA
 unfoldable pub refusedFor : List ℕ → ℕ → ℕ → Bool
 refusedFor b p s = pick (eqb (sender b s) p) (unplayable (narration b) s) false
 
+-- none of the first i steps is refused for party p
+abbrev pub Unrefused : List ℕ → ℕ → ℕ → Type 0
+Unrefused b p i = (k : ℕ) → k < i → refusedFor b p k ≡ false
+
 -- r is the first step from i on that party p sends or receives, or the number of steps, as far as the walk needs it: before r there
 -- is nothing for p to do
 pub record NextOwn (b : List ℕ) (p i r : ℕ) : Type 0 where

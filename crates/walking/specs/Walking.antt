@@ -1,5 +1,5 @@
 -- What a party's walk leaves behind, as its code has it.
-use Prim.Native.Nat.{ℕ}
+use Prim.Native.Nat.{ℕ, _≤_}
 use mathlib.Core.List.{List}
 use mathlib.Core.Path.{_≡_}
 use Rattle.book.specs.Layout.{steps}
@@ -22,6 +22,11 @@ abbrev pub Along : List ℕ → ℕ → ℕ → ℕ → List ℕ → List ℕ �
 Along b p i k log logAfter a out outAfter y =
     Doing b (before b p i) 0 k log logAfter a out outAfter (y .dictionary .entries) (y .dictionary .next) (y .dictionary .kept) (y .at)
 
-pub record Walking (b : List ℕ) (p k : ℕ) (log logAfter : List ℕ) (a : ℕ) (out outAfter : List ℕ) (r : Passed) : Type 0 where
-  pub along : Along b p (steps b) k log logAfter a out outAfter (r .here)
-  pub found : FoundBefore b p (steps b) (r .step) (r .taken)
+-- party p's walk through the steps before `upto`: the steps that it came through, at most all of them, and what it found. Where
+-- it looked at all steps and found nothing, it came through all.
+pub record Walking (b : List ℕ) (p upto k : ℕ) (log logAfter : List ℕ) (a : ℕ) (out outAfter : List ℕ) (r : Passed) : Type 0 where
+  pub far : ℕ
+  pub within : far ≤ steps b
+  pub along : Along b p far k log logAfter a out outAfter (r .here)
+  pub found : FoundBefore b p upto (r .step) (r .taken)
+  pub whole : r .taken ≡ 0 → upto ≡ steps b → far ≡ steps b

@@ -24,8 +24,9 @@ ghost use Rattle.translation.specs.Listing.{partWords};
 ghost use Rattle.holding.specs.View.{view};
 ghost use Rattle.claims.specs.Claims.{Claims};
 ghost use Rattle.receiving.specs.Bound.{limit};
-ghost use Rattle.walking.specs.Walk.{stepDid, NextOwn};
+ghost use Rattle.walking.specs.Walk.{stepDid, Unrefused, NextOwn};
 ghost use Rattle.walking.specs.Found.{FoundBefore};
+ghost use Rattle.walking.specs.Long.{mostPart};
 ghost use Rattle.walking.specs.Walking.{Acting, Walking};
 
 // What a step left: how far the party got, and one more than the first taken atom that it would make there (0 if there is none).
@@ -34,7 +35,7 @@ pub struct Acted {
     pub taken: u32,
 }
 
-// What all steps left: how far the party got, and the first step of its own at which it would make a taken atom.
+// What the steps left: how far the party got, and the first step of its own at which it would make a taken atom.
 pub struct Passed {
     pub here: Received,
     pub step: u32,
@@ -119,36 +120,42 @@ fn next_own(book: &[u32], party: u32, from: u32) -> u32
     i
 }
 
-// All steps, for one party: its events' words go to `out`, what it stores to `log`.
+// The steps before `upto`, for one party: its events' words go to `out`, what it stores to `log`. The walk ends with the first step
+// at which the party would make a taken atom, for such a book is refused.
 pub fn walk(
     book: &[u32],
     since: &[u32; 1024],
     party: u32,
+    upto: u32,
     kept: usize,
     log: &mut [u32],
     out: &mut [u32],
     at: usize,
 ) -> Passed
-    requires { ⌜ Valid (now book) × Claims (now book) (now since) × (party < partiesOf (now book)) ⌝ }
-    ensures { λ r. ⌜ Walking (now (book .entry)) party kept (now (log .entry)) (now (log .exit)) at (now (out .entry)) (now (out .exit)) r ⌝ }
+    requires { ⌜ Valid (now book) × Claims (now book) (now since) × (party < partiesOf (now book)) × (upto ≤ stepsOf (now book)) ⌝ }
+    ensures { λ r. ⌜ Walking (now (book .entry)) party upto kept (now (log .entry)) (now (log .exit)) at (now (out .entry)) (now (out .exit)) r ⌝ }
 {
-    let n = steps(book);
     let entries = start(book, party);
     let dictionary = Dictionary::new(entries, kept);
     let mut here = Received { dictionary, at };
-    let mut step = n;
-    let mut taken = 0;
     let mut i = next_own(book, party, 0);
-    while i < n {
+    while i < upto {
         let acted = act(book, since, here, party, i, log, out);
-        if taken == 0 {
-            step = i;
-            taken = acted.taken;
-        }
         here = acted.here;
+        if acted.taken != 0 {
+            return Passed {
+                here,
+                step: i,
+                taken: acted.taken,
+            };
+        }
         i = next_own(book, party, i + 1);
     }
-    Passed { here, step, taken }
+    Passed {
+        here,
+        step: upto,
+        taken: 0,
+    }
 }
 
 // A party's program, measured: how many words it has, and the first step at which the party would make a taken atom.
@@ -158,14 +165,24 @@ pub struct Measured {
     pub taken: u32,
 }
 
-// The walk with nothing lent to write to.
-pub fn measure(book: &[u32], since: &[u32; 1024], party: u32) -> Measured
-    requires { ⌜ Valid (now book) × Claims (now book) (now since) × (party < partiesOf (now book)) ⌝ }
-    ensures { λ r. ⌜ (r .words ≡ length (partWords (now (book .entry)) party)) × FoundBefore (now (book .entry)) party (stepsOf (now (book .entry))) (r .step) (r .taken) ⌝ }
+// The walk with nothing lent to write to. Steps from `upto` on are not looked at: all are before it, or a smaller one is refused
+// already and nobody asks for the words.
+pub fn measure(book: &[u32], since: &[u32; 1024], party: u32, upto: u32) -> Measured
+    requires { ⌜ Valid (now book) × Claims (now book) (now since) × (party < partiesOf (now book)) × (upto ≤ stepsOf (now book)) ⌝ }
+    ensures { λ r. ⌜ (r .taken ≡ 0 → upto ≡ stepsOf (now (book .entry)) → r .words ≡ length (partWords (now (book .entry)) party)) × (r .words ≤ mostPart) × FoundBefore (now (book .entry)) party upto (r .step) (r .taken) ⌝ }
 {
     let mut log = [0u32; 1];
     let mut out = [0u32; 1];
-    let passed = walk(book, since, party, 0, &mut log[0..0], &mut out[0..0], 0);
+    let passed = walk(
+        book,
+        since,
+        party,
+        upto,
+        0,
+        &mut log[0..0],
+        &mut out[0..0],
+        0,
+    );
     Measured {
         words: passed.here.at + 2 + passed.here.dictionary.kept,
         step: passed.step,
@@ -173,7 +190,8 @@ pub fn measure(book: &[u32], since: &[u32; 1024], party: u32) -> Measured
     }
 }
 
-// A party's program. What it stores is kept beside it while its events are written, and follows behind them, in END.
+// The program of a party that makes no taken atom. What it stores is kept beside it while its events are written, and follows behind
+// them, in END.
 pub fn write_program(
     book: &[u32],
     since: &[u32; 1024],
@@ -181,11 +199,11 @@ pub fn write_program(
     out: &mut [u32],
     at: usize,
 ) -> usize
-    requires { ⌜ Valid (now book) × Claims (now book) (now since) × (party < partiesOf (now book)) ⌝ }
+    requires { ⌜ Valid (now book) × Claims (now book) (now since) × (party < partiesOf (now book)) × Unrefused (now book) party (stepsOf (now book)) ⌝ }
     ensures { λ r. ⌜ Wrote (partWords (now (book .entry)) party) (now (out .entry)) at (now (out .exit)) r ⌝ }
 {
     let mut log = [0u32; 2048];
-    let events = walk(book, since, party, 0, &mut log, out, at);
+    let events = walk(book, since, party, steps(book), 0, &mut log, out, at);
     let stored = events.here.dictionary.kept;
     let pairs = put2(out, events.here.at, Code::END, narrow(stored / 2));
     put_all(out, pairs, &log, stored)

@@ -10,4 +10,4 @@ pub survey-spec : {M : Type 1} → statement M
 survey-spec = tie.close (tie.spec
     (λ c. search needs)  -- slice-aggregate-write-heads
     (λ c κs. c .before .before .pre)  -- write-heads-requires
-    (λ c. (heads-found _ (c .before .before .before .before .pre .0) refl (c .before .write-heads .ensures .0), c .before .write-heads .ensures .1, c .before .write-heads .ensures .2)))  -- returns
+    (λ c. (λ z. let w = c .before .write-heads .ensures .0 z in (heads-found _ (c .before .before .before .before .pre .0) refl (w .0), w .1), c .before .write-heads .ensures .1)))  -- returns

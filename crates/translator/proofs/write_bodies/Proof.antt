@@ -1,8 +1,9 @@
 -- `translator::write_bodies` meets its contract: the programs of the parties passed are written. Assumes nothing.
-use Rattle.translator.proofs.Laws.{Laid, bodies-start, bodies-on, bodies-end}
-use Rattle.words.specs.Overlay.Laws.{wrote-length}
+use Rattle.book.specs.Layout.{parties}
+use Prim.Native.Nat.{_-_, _<_}
 use Rattle.book.specs.Headed.Laws.{valid-headed}
-use Prim.Native.Nat.{_-_}
+use Rattle.words.specs.Overlay.Laws.{wrote-length}
+use Rattle.translator.proofs.Laws.{Laid, bodies-start, bodies-on, bodies-end}
 use borrow.Author.Needs.{needs}
 use native.Mathlib.Omega.{arith}
 use Rattle.translator.proofs.write_bodies.Statement.{statement}
@@ -22,7 +23,7 @@ write-bodies-spec =
     μ-loop
     (λ c κs. valid-headed _ (c .before .before .pre .0))  -- parties-requires
     (λ c. bodies-start _ _ (c .parties .ensures) _ _)  -- loop-holds
-    (λ c κs. (c .before .before .before .before .before .before .pre .0, c .before .before .before .before .before .before .pre .1, let e = c .before .before .before .parties .ensures in omega arith))  -- write-program-requires
+    (λ c κs. let e = c .before .before .before .parties .ensures in let l : c .before .before .loop .party < parties (c .before .before .before .before .before .before .args .book .now) = omega arith in (c .before .before .before .before .before .before .pre .0, c .before .before .before .before .before .before .pre .1, l, c .before .before .before .before .before .before .pre .2 _ l))  -- write-program-requires
     (λ c. search needs)  -- add-party
     (λ c. search needs)  -- loop-less
     (λ c. bodies-on _ _ (c .before .before .before .before .before .before .parties .ensures) _ (c .before .before .before .before .loop-test .taken) (c .before .before .before .before .before .loop .inv) (c .before .before .write-program .ensures))  -- loop-again

@@ -10,6 +10,7 @@ use lib.Dec.{eqb}
 use borrow.Author.Tests.{eqb-true}
 use borrow.Author.Count.{below-more}
 use Rattle.words.specs.Choice.{pick}
+use Rattle.words.specs.First.Laws.{clash}
 use Rattle.words.specs.Run.Laws.{values-getD}
 use Rattle.terms.specs.Table.{terms}
 use Rattle.book.specs.Layout.{table, parties, steps, sender, messages}
@@ -21,7 +22,7 @@ use Rattle.holding.specs.Since.{takenIn}
 use Rattle.sending.specs.Sending.{firstTaken as firstIn}
 use Rattle.sending.specs.Sending.Laws.{some-taken, none-taken}
 use Rattle.claims.specs.Claims.{Claims}
-use Rattle.walking.specs.Walk.{before, refusedFor, NextOwn}
+use Rattle.walking.specs.Walk.{before, refusedFor, Unrefused, NextOwn}
 use Rattle.walking.specs.Walk.Laws.{before-holds, refused-idle}
 use Rattle.walking.specs.Found.{foundAt, FoundBefore}
 
@@ -58,36 +59,30 @@ module _ (b : List ℕ) (s : ℕ) (h : s < steps b) where
       go false e = refl
 
 -- ---- one step more
-module _ (b : List ℕ) (p i : ℕ) where
-  pub found-none : {s : ℕ} → FoundBefore b p 0 s 0
-  found-none = FoundBefore.none (λ k l. absurd (omega arith))
-
-  -- it was found before
-  stays : {s t : ℕ} → FoundBefore b p i s t → (t ≡ 0 → ⊥) → FoundBefore b p (i + 1) s t
-  stays (FoundBefore.none n) z = absurd (z refl)
-  stays (FoundBefore.one {s = s} l r n) z = FoundBefore.one {s = s} (omega arith) r n
-
-  pub found-stays : {s t u v : ℕ} → FoundBefore b p i s t → (t ≡ 0 → ⊥) → u ≡ s → v ≡ t → FoundBefore b p (i + 1) u v
-  found-stays f z d e = rw (d, e) (stays f z)
-
-  clear : {s t : ℕ} → FoundBefore b p i s t → t ≡ 0 → (k : ℕ) → k < i → refusedFor b p k ≡ false
-  clear (FoundBefore.none n) z = n
-  clear (FoundBefore.one l r n) z = absurd (omega arith)
-
-  -- or it is looked for at this step
-  now : {s t x : ℕ} → FoundBefore b p i s t → t ≡ 0 → x ≡ pick (refusedFor b p i) (firstTaken (narration b) i + 1) 0 → FoundBefore b p (i + 1) i x
+module _ (b : List ℕ) (p i x : ℕ) (e : x ≡ pick (refusedFor b p i) (firstTaken (narration b) i + 1) 0) where
+  -- it is found at this step
+  pub found-here : {n : ℕ} → i < n → Unrefused b p i → (x ≡ 0 → ⊥) → FoundBefore b p n i x
   unfolding pick
-  now {s} {t} {x} f z e = go (refusedFor b p i) refl e
+  found-here {n} l u z = go (refusedFor b p i) refl e
     where
-      go : (y : Bool) → refusedFor b p i ≡ y → x ≡ pick y (firstTaken (narration b) i + 1) 0 → FoundBefore b p (i + 1) i x
-      go true r d = rw d (FoundBefore.one {s = i} (omega arith) r (clear f z))
-      go false r d = rw d (FoundBefore.none (below-more (λ k. refusedFor b p k ≡ false) i (clear f z) r))
+      go : (y : Bool) → refusedFor b p i ≡ y → x ≡ pick y (firstTaken (narration b) i + 1) 0 → FoundBefore b p n i x
+      go true r d = rw d (FoundBefore.one {s = i} l r u)
+      go false r d = absurd (z d)
 
-  pub found-now : {s t x u v : ℕ} → FoundBefore b p i s t → t ≡ 0 → x ≡ pick (refusedFor b p i) (firstTaken (narration b) i + 1) 0 → u ≡ i → v ≡ x → FoundBefore b p (i + 1) u v
-  found-now f z e c d = rw (c, d) (now f z e)
+  -- or this step is not refused
+  pub unrefused-on : Unrefused b p i → x ≡ 0 → Unrefused b p (i + 1)
+  unfolding pick
+  unrefused-on u z = below-more (λ k. refusedFor b p k ≡ false) i u (go (refusedFor b p i) refl e)
+    where
+      go : (y : Bool) → refusedFor b p i ≡ y → x ≡ pick y (firstTaken (narration b) i + 1) 0 → refusedFor b p i ≡ false
+      go true r d = absurd (omega arith)
+      go false r d = r
 
 -- ---- steps in which the party has no part
-pub found-skip : {b : List ℕ} {p i r s t : ℕ} → NextOwn b p i r → FoundBefore b p i s t → FoundBefore b p r s t
-found-skip {b} {p} {i} {r} w (FoundBefore.none n) =
-    FoundBefore.none (λ k l. elim (decLt k i) [ yes h ↦ n k h | no h ↦ refused-idle b p k (w .idle k (omega arith) l .0) ])
-found-skip w (FoundBefore.one {s = s} l r n) = let f = w .from in FoundBefore.one {s = s} (omega arith) r n
+pub unrefused-skip : {b : List ℕ} {p i r : ℕ} → NextOwn b p i r → Unrefused b p i → Unrefused b p r
+unrefused-skip {b} {p} {i} w u k l = elim (decLt k i) [ yes h ↦ u k h | no h ↦ refused-idle b p k (w .idle k (omega arith) l .0) ]
+
+-- ---- where nothing is refused, nothing is found
+pub found-unrefused : {b : List ℕ} {p i s t : ℕ} → Unrefused b p i → FoundBefore b p i s t → t ≡ 0
+found-unrefused u (FoundBefore.none n) = refl
+found-unrefused u (FoundBefore.one {s = s} l r n) = absurd (clash r (u s l))

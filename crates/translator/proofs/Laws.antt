@@ -66,7 +66,7 @@ module _ (b : List ℕ) (n : ℕ) (e : n ≡ parties b) where
     end-low h = let x = h .low in let y = valid-headed b v .fewParties in omega arith
 
   module _ (q : ℕ) {old new later : List ℕ} {at next end step taken : ℕ} (w s t f g r : ℕ) (l : q < n) (h : Measuring b n q old at new next end step taken)
-      (d : t ≡ 0 → step ≡ steps b → w ≡ length (partWords b q)) (m : w ≤ mostPart) (k : FoundBefore b q step s t) (i : f ≡ end) (j : g ≡ w) (p : Wrote (f ∷ g ∷ []) new next later r) where
+      (k : FoundBefore b q step s t) (d : t ≡ 0 → step ≡ steps b → w ≡ length (partWords b q)) (m : w ≤ mostPart) (i : f ≡ end) (j : g ≡ w) (p : Wrote (f ∷ g ∷ []) new next later r) where
     -- party q has no find
     pub heads-on : {x y : ℕ} → t ≡ 0 → x ≡ step → y ≡ taken → Measuring b n (q + 1) old at later r (end + w) x y
     heads-on {x} {y} z xe ye =

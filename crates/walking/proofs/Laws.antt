@@ -9,10 +9,11 @@ use mathlib.Core.Path.{_≡_, refl, sym, ap, ap₂, _∙_}
 use lib.ListN.{length, take, length-append, length-map}
 use borrow.Author.Tests.{eq-eqb, ne-eqb}
 use Rattle.words.specs.Choice.Laws.{pick-true, pick-false}
+use Rattle.words.specs.Run.{run}
 use Rattle.words.specs.Run.Laws.{run-length}
 use Rattle.words.specs.Overlay.{Wrote}
 use Rattle.words.specs.Overlay.Laws.{wrote-none, wrote-then, wrote-as, wrote-take}
-use Rattle.terms.specs.Term.{count}
+use Rattle.terms.specs.Term.{count, gathered, listed}
 use Rattle.terms.specs.Term.Laws.{count-gathered}
 use Rattle.terms.specs.Table.{term, terms}
 use Rattle.book.specs.Layout.{table, parties, steps, sender, receiver, stepFirst, stepCount, known, messages, listAt}
@@ -20,7 +21,7 @@ use Rattle.book.specs.Headed.Laws.{valid-headed}
 use Rattle.book.specs.Valid.{Valid}
 use Rattle.translation.specs.Dictionary.{start}
 use Rattle.translation.specs.Build.{buildAll}
-use Rattle.translation.specs.Receive.{Did, Event, followed}
+use Rattle.translation.specs.Receive.{Did, Event, nothing, followed, receiveAll}
 use Rattle.translation.specs.Program.{sent}
 use Rattle.translation.specs.Listing.{programWords, pairWords, eventWords, partWords}
 use Rattle.holding.specs.View.{rowOf, view}
@@ -74,6 +75,10 @@ module _ (b l : List ℕ) (p s : ℕ) (x : Received) (f n : ℕ) (df : f ≡ ste
       step-receives b p s (view b (x .dictionary .entries)) (x .dictionary .next) (λ q. e (dz ∙ q)) (sym dy ∙ h)
       ∙ rw (said, many)
 
+  turns-none : n ≡ 0 → inTurn (terms (table b) (listAt b f n)) (view b (x .dictionary .entries)) (x .dictionary .next) ≡ nothing (view b (x .dictionary .entries))
+  unfolding inTurn terms run gathered listed receiveAll count
+  turns-none o = ap (λ m. inTurn (terms (table b) (listAt b f m)) (view b (x .dictionary .entries)) (x .dictionary .next)) o
+
   pub acts-receive : (z y : ℕ) → z ≡ sender b s → (z ≡ p → ⊥) → y ≡ receiver b s → y ≡ p
       → {log logAfter out middle outAfter : List ℕ} {a c : ℕ} {r : Received} → c ≡ n
       → Wrote (3 ∷ s ∷ x .dictionary .next ∷ c ∷ []) out (x .at) middle a
@@ -87,6 +92,12 @@ module _ (b l : List ℕ) (p s : ℕ) (x : Received) (f n : ℕ) (df : f ≡ ste
         doing = doing-as (doing-then b _ _ first t) (step-turns z y dz e dy h);
         found = sym (pick-false _ _ _ (ne-eqb (sender b s) p (λ q. e (dz ∙ q))));
       }
+
+  -- with no messages that is all
+  pub acts-empty : (z y : ℕ) → z ≡ sender b s → (z ≡ p → ⊥) → y ≡ receiver b s → y ≡ p
+      → {log out middle : List ℕ} {a c : ℕ} → c ≡ n → n ≡ 0 → Wrote (3 ∷ s ∷ x .dictionary .next ∷ c ∷ []) out (x .at) middle a
+      → Acting b l p s x log log out middle (record { here = record { dictionary = x .dictionary; at = a }; taken = 0 })
+  acts-empty z y dz e dy h dc o w = acts-receive z y dz e dy h dc w (doing-as doing-none (turns-none o))
 
   -- what is given fits
   pub turn-fits : (z y : ℕ) → z ≡ sender b s → (z ≡ p → ⊥) → y ≡ receiver b s → y ≡ p

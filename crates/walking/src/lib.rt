@@ -88,6 +88,9 @@ fn act(
             narrow(n),
         );
         here.at = at;
+        if n == 0 {
+            return Acted { here, taken: 0 };
+        }
         let there = receive_messages(book, here, rows(book), first, n, log, out);
         return Acted {
             here: there,

@@ -93,3 +93,16 @@ expected (t ∷ ts) = t .wanted ∷ expected ts
 pub trials-hold : computed trials ≡ expected trials
 unfolding computed expected trials
 trials-hold = refl
+
+-- ---- "END .. all stored rows, in the order of storing": A opens the first message and stores its content at placeholder 2, then the
+-- second message at placeholder 1
+unfoldable pub storing : List Trial
+storing =
+    trial (6 ∷ 8 ∷ 2 ∷ 32 ∷ 1 ∷ 38 ∷ 12 ∷ 42 ∷ 0 ∷ 0 ∷ 0 ∷ 0 ∷ 0 ∷ 0 ∷ 0 ∷ 0 ∷ 0 ∷ 0 ∷ 0 ∷ 0 ∷ 0 ∷ 0 ∷ 0 ∷ 0 ∷ 0 ∷ 0 ∷ 0 ∷ 0 ∷ 2 ∷ 0 ∷ 0 ∷ 2 ∷ 0 ∷ 2 ∷ 3 ∷ 1 ∷ 5 ∷ 5 ∷ 1 ∷ 0 ∷ 10 ∷ 2 ∷ 2 ∷ 3 ∷ 0 ∷ 1 ∷ 2 ∷ 0 ∷ 1 ∷ 2 ∷ 3 ∷ 4 ∷ 5 ∷ 4 ∷ [])
+    (replicate 34 9) 0 (34 ∷ [])
+    (2 ∷ 5 ∷ 16 ∷ 21 ∷ 13 ∷ 3 ∷ 0 ∷ 0 ∷ 2 ∷ 5 ∷ 0 ∷ 2 ∷ 1 ∷ 0 ∷ 2 ∷ 6 ∷ 2 ∷ 3 ∷ 2 ∷ 4 ∷ 1 ∷ 2 ∷ 0 ∷ 2 ∷ 3 ∷ 1 ∷ 0 ∷ 2 ∷ 0 ∷ 3 ∷ 0 ∷ 4 ∷ 6 ∷ 0 ∷ [])
+    ∷ []
+
+pub storing-holds : computed storing ≡ expected storing
+unfolding computed expected storing
+storing-holds = refl

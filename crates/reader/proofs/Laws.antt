@@ -20,7 +20,7 @@ use Rattle.words.specs.Sum.Laws.{sum-none, sum-same, sum-more}
 use Rattle.terms.specs.Table.{own, rowSize}
 use Rattle.terms.specs.Table.Laws.{size-row, total-run}
 use Rattle.book.specs.Layout.{at, header, least, most, counted, begins, offset, rows, parties, steps, pool, kind, tag, rowFirst, rowCount, name, partyFirst, partyCount, sender, receiver, stepFirst, stepCount, pooled, rowsBefore, partiesBefore, stepsBefore, table}
-use Rattle.book.specs.Rules.{oneOf, outside, CountRule, countBreaks, stated, offsetBreaks, ListRule, listBreaks, fewest, largest, largestTag, rowBreaks, sizeBreaks, agrees, repeats, partyBreaks, stepBreaks, totalBreaks}
+use Rattle.book.specs.Rules.{oneOf, outside, Agree, CountRule, countBreaks, stated, offsetBreaks, ListRule, listBreaks, fewest, largest, largestTag, rowBreaks, sizeBreaks, agrees, repeats, partyBreaks, stepBreaks, totalBreaks}
 use Rattle.book.specs.Rules.Laws.{count-exact, offset-exact, outside-in, differs-same, differs-true, list-exact, row-exact, size-exact, agrees-exact, not-agrees, party-exact, step-exact}
 use Rattle.book.specs.Headed.{Headed}
 use Rattle.book.specs.Headed.Laws.{rules-headed}
@@ -180,6 +180,21 @@ module _ (b : List ℕ) (r k f g n c t : ℕ) (ec : c ≡ kind b r) (et : t ≡ 
       not-agrees b r k
       (λ x. m (hp ∙ ap (λ w. pooled b w j) y ∙ sym (run-getD b (begins b 3 + rowFirst b k) (rowCount b k) j (omega arith))
       ∙ ap (λ (w : List ℕ). getD w j 0) (x .partss) ∙ run-getD b (begins b 3 + rowFirst b r) (rowCount b r) j (omega arith) ∙ ap (λ w. pooled b w j) (sym ef) ∙ sym hq))
+
+-- ---- the hunt for a row's twin: rows up to one of the row's parts don't agree with it, since their own parts are before them
+pub before-part : (b : List ℕ) → RowsKeep b → (r : ℕ) → r < rows b → (f n j p : ℕ) → f ≡ rowFirst b r → n ≡ rowCount b r → j < n → p ≡ pooled b f j → (k : ℕ) → k < p + 1 → agrees b r k ≡ false
+before-part b keep r l f n j p d e z h k m = not-agrees b r k (λ x. go x)
+  where
+    go : Agree b r k → ⊥
+    go x =
+        let c : rowCount b k ≡ rowCount b r =
+        sym (run-length b (begins b 3 + rowFirst b k) (rowCount b k)) ∙ ap length (x .partss) ∙ run-length b (begins b 3 + rowFirst b r) (rowCount b r) in
+        let w : pooled b (rowFirst b k) j ≡ pooled b (rowFirst b r) j =
+        sym (run-getD b (begins b 3 + rowFirst b k) (rowCount b k) j (omega arith)) ∙ ap (λ (y : List ℕ). getD y j 0) (x .partss) ∙ run-getD b (begins b 3 + rowFirst b r) (rowCount b r) j (omega arith) in
+        let y : pooled b f j ≡ pooled b (rowFirst b r) j = ap (λ i. pooled b i j) d in
+        let i = keep r l .listed .each j (omega arith) in
+        let o = keep k (omega arith) .listed .each j (omega arith) in
+        absurd (omega arith)
 
 -- ---- a row's size
 pub size-sum : (b : List ℕ) → RowsKeep b → (r : ℕ) → r < rows b → (s : List ℕ) → ((k : ℕ) → k < r → getD s k 0 ≡ rowSize (table b) k)

@@ -20,6 +20,7 @@ use book::step_receiver;
 use book::step_sender;
 use book::steps;
 use words::wide;
+ghost use mathlib.Core.Bool.{false};
 ghost use mathlib.Core.Path.{_≡_};
 ghost use Prim.Native.Nat.{ℕ, _+_, _-_, _*_, _^_, _≤_, _<_, min};
 ghost use lib.Dec.{leb, eqb};
@@ -266,6 +267,25 @@ fn oversize(book: &[u32]) -> u32
     row
 }
 
+// Where the hunt for a row's twin begins: behind the row's parts, since they stand before the twin as well.
+fn hunt_from(book: &[u32], row: u32) -> u32
+    requires { ⌜ Headed (now book) × RowsKeep (now book) × (row < rowsOf (now book)) ⌝ }
+    ensures { λ r. ⌜ ((k : ℕ) → k < r → agrees (now (book .entry)) row k ≡ false) × (r ≤ row) ⌝ }
+{
+    let first = row_first(book, row);
+    let n = row_count(book, row);
+    let mut from = 0;
+    let mut j = 0;
+    while j < n {
+        let part = pooled(book, first, j);
+        if from <= part {
+            from = part + 1;
+        }
+        j += 1;
+    }
+    from
+}
+
 // The first row before this one that agrees with it in kind, tag and parts, or the row itself.
 fn twin(book: &[u32], row: u32) -> u32
     requires { ⌜ Headed (now book) × RowsKeep (now book) × (row < rowsOf (now book)) ⌝ }
@@ -275,7 +295,7 @@ fn twin(book: &[u32], row: u32) -> u32
     let tag = row_tag(book, row);
     let first = row_first(book, row);
     let n = row_count(book, row);
-    let mut k = 0;
+    let mut k = hunt_from(book, row);
     let found = 'rows: loop {
         if k == row {
             break 'rows row;

@@ -1,5 +1,5 @@
 -- What reading the next book promises. Assumes nothing.
-use Prim.Native.Nat.{ℕ, _≤_}
+use Prim.Native.Nat.{_≤_}
 use Rattle.trials.specs.declared.Next.{Next}
 use Rattle.trials.specs.declared.Next.the-variants.{Book, Nothing}
 

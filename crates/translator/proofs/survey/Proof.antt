@@ -1,7 +1,6 @@
 -- `translator::survey` meets its contract: what was laid into the heads is read from them. Assumes nothing.
 use mathlib.Core.Path.{refl}
 use Rattle.translator.proofs.Laws.{heads-found}
-use native.Mathlib.Omega.{arith}
 use borrow.Author.Needs.{needs}
 use Rattle.translator.proofs.survey.Statement.{statement}
 use Rattle.translator.proofs.survey.Tie as tie

@@ -1,5 +1,5 @@
 -- `translator::write_heads` meets its contract: the heads of the parties passed are written while nothing is found, and the smallest step is kept. Assumes nothing.
-use mathlib.Core.Logic.{_⊎_, inl, inr}
+use mathlib.Core.Logic.{inl, inr}
 use Prim.Native.Nat.{_-_}
 use Rattle.book.specs.Headed.Laws.{valid-headed}
 use Rattle.translator.specs.Found.Laws.{among-within}

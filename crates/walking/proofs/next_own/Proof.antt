@@ -1,5 +1,5 @@
 -- `walking::next_own` meets its contract: nothing is to do before it. Assumes nothing.
-use mathlib.Core.Path.{_≡_, sym, _∙_}
+use mathlib.Core.Path.{_≡_, _∙_}
 use Prim.Native.Nat.{ℕ, _-_, _≤_, _<_}
 use Rattle.walking.proofs.Laws.{idle-on}
 use Rattle.book.specs.Layout.{sender, receiver}

@@ -1,6 +1,5 @@
 -- Laws of the first step at which a taken atom would be made. Assumes nothing.
 use Prim.Native.Nat.{ℕ, _+_, _<_}
-use native.Mathlib.Nat.{zero-add}
 use native.Mathlib.Decide.{decLt}
 use native.Mathlib.Omega.{arith}
 use mathlib.Core.Bool.{Bool, true, false}
@@ -11,30 +10,26 @@ use borrow.Author.Tests.{eqb-true}
 use borrow.Author.Count.{below-more}
 use Rattle.words.specs.Choice.{pick}
 use Rattle.words.specs.First.Laws.{clash}
-use Rattle.words.specs.Run.Laws.{values-getD}
 use Rattle.terms.specs.Table.{terms}
 use Rattle.book.specs.Layout.{table, parties, steps, sender, messages}
 use Rattle.translation.specs.Dictionary.{Dictionary}
 use Rattle.translation.specs.Build.{buildAll}
 use Rattle.translation.specs.Narration.{stepAt, narration}
-use Rattle.translation.specs.Taken.{taken, stepOf, holdsBefore, madeAt, takenAt, unplayable, firstTaken}
+use Rattle.translation.specs.Taken.{taken, holdsBefore, madeAt, takenAt, unplayable, firstTaken}
 use Rattle.holding.specs.Since.{takenIn}
 use Rattle.sending.specs.Sending.{firstTaken as firstIn}
 use Rattle.sending.specs.Sending.Laws.{some-taken, none-taken}
 use Rattle.claims.specs.Claims.{Claims}
+use Rattle.translation.specs.Taken.Laws.{step-is}
 use Rattle.walking.specs.Walk.{before, refusedFor, Unrefused, NextOwn}
 use Rattle.walking.specs.Walk.Laws.{before-holds, refused-idle}
 use Rattle.walking.specs.Found.{foundAt, FoundBefore}
 
 module _ (b : List ℕ) (s : ℕ) (h : s < steps b) where
-  pub step-of : stepOf (narration b) s ≡ stepAt b s
-  unfolding stepOf narration
-  step-of = values-getD (stepAt b) 0 (steps b) s _ h ∙ ap (stepAt b) (zero-add s)
-
   made-here : (p : ℕ) → p < parties b → sender b s ≡ p → madeAt (narration b) s ≡ buildAll (terms (table b) (messages b s)) (before b p s .dictionary) .made
   unfolding madeAt stepAt
   made-here p l e =
-      ap (λ a. buildAll (a .messages) (holdsBefore (narration b) (a .sender) s) .made) step-of
+      ap (λ a. buildAll (a .messages) (holdsBefore (narration b) (a .sender) s) .made) (step-is b s h)
       ∙ ap (λ q. buildAll (terms (table b) (messages b s)) (holdsBefore (narration b) q s) .made) e
       ∙ ap (λ δ. buildAll (terms (table b) (messages b s)) δ .made) (before-holds b p l s (omega arith))
 

@@ -124,23 +124,11 @@ module _ (row : Term → ℕ) where
       record { given = omega arith; stored = omega arith; words = omega arith }
 
 -- ---- the same, number by number
-pub receive-given : (t : Term) (p : ℕ) (δ : Dictionary) (n : ℕ) → length (receive t p δ n .given) + 1 ≤ size t
-receive-given t p δ n = let h = receive-small (λ u. 0) t p δ n .given in omega arith
-
 pub receiveAll-given : (ts : Terms) (p : ℕ) (δ : Dictionary) (n : ℕ) → count ts + length (receiveAll ts p δ n .given) ≤ sizes ts
 receiveAll-given ts p δ n = receiveAll-small (λ u. 0) ts p δ n .given
 
-pub receive-stored : (t : Term) (p : ℕ) (δ : Dictionary) (n : ℕ) → length (receive t p δ n .stored) ≤ size t
-receive-stored t p δ n = receive-small (λ u. 0) t p δ n .stored
-
 pub receiveAll-stored : (ts : Terms) (p : ℕ) (δ : Dictionary) (n : ℕ) → length (receiveAll ts p δ n .stored) ≤ sizes ts
 receiveAll-stored ts p δ n = receiveAll-small (λ u. 0) ts p δ n .stored
-
-pub receive-words : (row : Term → ℕ) (t : Term) (p : ℕ) (δ : Dictionary) (n : ℕ) → length (programWords row (receive t p δ n .events)) ≤ 2 * size t
-receive-words row t p δ n = receive-small row t p δ n .words
-
-pub receiveAll-words : (row : Term → ℕ) (ts : Terms) (p : ℕ) (δ : Dictionary) (n : ℕ) → length (programWords row (receiveAll ts p δ n .events)) ≤ 2 * sizes ts
-receiveAll-words row ts p δ n = receiveAll-small row ts p δ n .words
 
 -- ---- sending
 pub news-words : (row : Term → ℕ) (rs : List ℕ) → length (programWords row (map Event.new rs)) ≡ 2 * length rs

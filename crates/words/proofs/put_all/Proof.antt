@@ -3,7 +3,7 @@ use mathlib.Core.Path.{_≡_, ap, _∙_}
 use native.Mathlib.Numerals.{add-one}
 use Prim.Native.Nat.{_-_, _≤_}
 use lib.Seq.{take-suc}
-use lib.ListN.{length, take}
+use lib.ListN.{take}
 use Rattle.words.specs.Overlay.Laws.{wrote-none, wrote-then, wrote-as, wrote-length}
 use Rattle.words.specs.Overlay.{Wrote}
 use borrow.Author.Needs.{needs}

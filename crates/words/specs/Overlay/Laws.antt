@@ -20,12 +20,6 @@ sets-far [] l a h = refl
 sets-far (w ∷ ws) l a h = rw (set-out l a w h) (sets-far ws l (suc a) (omega arith))
 
 -- ---- forward
-pub forward-none : (a : ℕ) → forward a 0 ≡ a
-forward-none a = omega arith
-
-pub forward-add : (a m n : ℕ) → forward (forward a m) n ≡ forward a (m + n)
-forward-add a m n = omega arith
-
 -- below the cap it is the sum
 pub forward-sum : (a n : ℕ) → a + n ≤ cap → forward a n ≡ a + n
 forward-sum a n h = omega arith

@@ -1,7 +1,6 @@
 -- What the functions of this room know, as their contracts name it. Assumes nothing.
 use Prim.Native.Nat.{ℕ, zero, suc, _+_, _≤_, _<_}
 use native.Mathlib.Numerals.{add-one}
-use native.Mathlib.Decide.{ℕ-discrete}
 use native.Mathlib.Omega.{arith}
 use mathlib.Core.Bool.{Bool, true, false}
 use mathlib.Core.List.{List, [], _∷_, _++_}
@@ -75,10 +74,6 @@ module _ (b x y d : List ℕ) (p : ℕ) where
   pub no-step : (n i : ℕ) → n ≡ steps b → n ≤ i → ((k : ℕ) → k < i → waitsFor b (places x y []) (counts d) p k ≡ false) → false ≡ waits b (places x y []) (counts d) p
   unfolding waits
   no-step n i e l h = sym (any-none (waitsFor b (places x y []) (counts d) p) (steps b) (λ k j. h k (omega arith)))
-
--- a test that failed up to i, and at i
-pub fails-on : (t : ℕ → Bool) (i : ℕ) → ((k : ℕ) → k < i → t k ≡ false) → t i ≡ false → (k : ℕ) → k < i + 1 → t k ≡ false
-fails-on t i h e k l = elim (ℕ-discrete k i) [ yes z ↦ ap t z ∙ e | no n ↦ h k (omega arith) ]
 
 -- ---- a party moves
 counts-set : (d : List ℕ) (p x : ℕ) → p < length d → counts (set d p x) ≡ change (counts d) p x

@@ -1,5 +1,5 @@
 -- `rehearsal::first_bad` meets its contract: no move before it is bad. Assumes nothing.
-use Rattle.rehearsal.proofs.Laws.{fails-on}
+use borrow.Author.Count.{below-more}
 use mathlib.Core.Path.{_≡_}
 use mathlib.Core.Bool.{false}
 use Prim.Native.Nat.{ℕ, _-_, _≤_, _<_}
@@ -30,5 +30,5 @@ first-bad-spec =
     (λ c. first-at _ _ _ (c .before .before .loop-test .taken) (c .before .before .before .loop .inv .1) (le-leb (c .before .before .before .before .args .q) (getD (c .before .before .before .before .args .schedule .now) (c .before .before .before .loop .i) 0) (let t = c .if1 .taken in omega arith)))  -- returns
     (λ c. search needs)  -- add-i
     (λ c. search needs)  -- loop-less
-    (λ c. (let t = c .before .before .loop-test .taken in omega arith, fails-on (λ k. leb (c .before .before .before .before .args .q) (getD (c .before .before .before .before .args .schedule .now) k 0)) (c .before .before .before .loop .i) (c .before .before .before .loop .inv .1) (lt-leb (c .before .before .before .before .args .q) (getD (c .before .before .before .before .args .schedule .now) (c .before .before .before .loop .i) 0) (let t = c .if1 .left in omega arith))))  -- loop-again
+    (λ c. (let t = c .before .before .loop-test .taken in omega arith, below-more _ _ (c .before .before .before .loop .inv .1) (lt-leb (c .before .before .before .before .args .q) (getD (c .before .before .before .before .args .schedule .now) (c .before .before .before .loop .i) 0) (let t = c .if1 .left in omega arith))))  -- loop-again
     (λ c. first-end _ _ _ (let t = c .loop-test .left in let h = c .before .loop .inv .0 in omega arith) (c .before .loop .inv .1)))  -- returns-2

@@ -5,8 +5,9 @@ use mathlib.Core.Path.{_≡_, sym, _∙_}
 use mathlib.Core.List.{[]}
 use mathlib.Core.Bool.{false}
 use Prim.Native.Nat.{ℕ, _-_, _≤_, _<_}
-use Rattle.rehearsal.proofs.Laws.{some-step, no-step, fails-on}
+use Rattle.rehearsal.proofs.Laws.{some-step, no-step}
 use Rattle.book.specs.Headed.Laws.{valid-headed}
+use borrow.Author.Count.{below-more}
 use borrow.Author.Needs.{needs}
 use native.Mathlib.Omega.{arith}
 use Rattle.rehearsal.proofs.waits.Statement.{statement}
@@ -30,5 +31,5 @@ waits-spec =
     (λ c. some-step (c .before .before .before .before .before .before .args .book .now) (c .before .before .before .before .before .before .args .sends .now) (c .before .before .before .before .before .before .args .receives .now) (c .before .before .before .before .before .before .args .done .now) (c .before .before .before .before .before .before .args .party) _ _ _ (c .before .before .before .before .steps .ensures) (c .before .before .loop-test .taken) (c .before .waits-for .ensures) (c .if1 .taken))  -- returns
     (λ c. search needs)  -- add-step
     (λ c. search needs)  -- loop-less
-    (λ c. (let t = c .before .before .loop-test .taken in omega arith, fails-on (waitsFor (c .before .before .before .before .before .before .args .book .now) (places (c .before .before .before .before .before .before .args .sends .now) (c .before .before .before .before .before .before .args .receives .now) []) (counts (c .before .before .before .before .before .before .args .done .now)) (c .before .before .before .before .before .before .args .party)) _ (c .before .before .before .loop .inv .1) (sym (c .before .waits-for .ensures) ∙ c .if1 .left)))  -- loop-again
+    (λ c. (let t = c .before .before .loop-test .taken in omega arith, below-more _ _ (c .before .before .before .loop .inv .1) (sym (c .before .waits-for .ensures) ∙ c .if1 .left)))  -- loop-again
     (λ c. no-step (c .before .before .before .before .args .book .now) (c .before .before .before .before .args .sends .now) (c .before .before .before .before .args .receives .now) (c .before .before .before .before .args .done .now) (c .before .before .before .before .args .party) _ _ (c .before .before .steps .ensures) (let t = c .loop-test .left in omega arith) (c .before .loop .inv .1)))  -- returns-2

@@ -7,7 +7,7 @@ use Prim.Native.Nat.{_+_, _*_}
 use borrow.Author.Needs.{needs}
 use native.Mathlib.Omega.{arith}
 use Prim.Native.Nat.{ℕ, _<_}
-use borrow.Fn.Kinds.{In}
+use borrow.Fn.Kinds.{In, Out}
 use borrow.Fn.PlainCycle.{Measures, is, falls, and}
 use Rattle.claims.proofs.mark.Reads as mark
 use Rattle.claims.proofs.mark.Kinds as mark-kinds
@@ -43,8 +43,8 @@ abbrev mark-list-below : ℕ → In 3 mark-list-kinds.ps
 mark-list-below t =
     and 3 mark-list-kinds.ps (falls 3 mark-list-kinds.ps _<_ μ-mark-list t) mark-list.Pre
 
-pub +mark+mark-list-spec : {M : Type 1} → statement M
-+mark+mark-list-spec = close μ-mark μ-mark-list (λ t. mark-lts.spec (
+abbrev mark-calls : ℕ → mark-lts.Claims
+mark-calls t = (
   row-kind-reads.Asked,
   row-kind-reads.Learnt,
   mark-atom-reads.Asked,
@@ -58,36 +58,132 @@ pub +mark+mark-list-spec : {M : Type 1} → statement M
   mark-list-below t,
   mark-list.Post,
 )
+
+-- a place or a need of `mark`, by its name
+abbrev in-mark : (mark-lts.Claims → In 3 mark-kinds.ps → Out 3 mark-kinds.ps mark-kinds.r → Type 0) → ℕ → Type 0
+in-mark P t = P (mark-calls t) (mark-at t) mark.Post
+
+abbrev mark-list-calls : ℕ → mark-list-lts.Claims
+mark-list-calls t = (
+  entry-reads.Asked,
+  entry-reads.Learnt,
+  mark-below t,
+  mark.Post,
+  mark-list-below t,
+  mark-list.Post,
+)
+
+-- a place or a need of `mark_list`, by its name
+abbrev in-mark-list : (mark-list-lts.Claims → In 3 mark-list-kinds.ps → Out 3 mark-list-kinds.ps mark-list-kinds.r → Type 0) → ℕ → Type 0
+in-mark-list P t = P (mark-list-calls t) (mark-list-at t) mark-list.Post
+
+mark-mark-atom-requires : (t : ℕ) → in-mark mark-lts.Need-mark-atom-requires t
+mark-mark-atom-requires t c κs =
+    let start : in-mark mark-lts.Start t = search in
+    let h = valid-headed _ (start .pre .1 .0) in
+    (start .pre .1 .1 .sized, omega arith)
+
+mark-mul-if2 : (t : ℕ) → in-mark mark-lts.Need-mul-if2 t
+mark-mul-if2 t c =
+    let start : in-mark mark-lts.Start t = search in
+    let h = valid-headed _ (start .pre .1 .0) in
+    omega arith
+
+mark-element-copy-out-if2 : (t : ℕ) → in-mark mark-lts.Need-element-copy-out-if2 t
+mark-element-copy-out-if2 t c =
+    let start : in-mark mark-lts.Start t = search in
+    let h = valid-headed _ (start .pre .1 .0) in
+    omega arith
+
+mark-mark-list-requires : (t : ℕ) → in-mark mark-lts.Need-mark-list-requires t
+mark-mark-list-requires t c κs =
+    let after-row-first : in-mark mark-lts.After-row-first t = search in
+    let start : in-mark mark-lts.Start t = search in
+    let s = span-row _ (start .pre .1 .0) _ _ _ (start .pre .1 .2) (after-row-first .row-first .ensures .0)
+    (c .row-count .ensures .0) in
+    (omega arith, (start .pre .1 .0, start .pre .1 .1, omega arith, s, start .pre .1 .3))
+
+mark-mul-seen : (t : ℕ) → in-mark mark-lts.Need-mul-seen t
+mark-mul-seen t c =
+    let start : in-mark mark-lts.Start t = search in
+    let h = valid-headed _ (start .pre .1 .0) in
+    omega arith
+
+mark-element-write-seen : (t : ℕ) → in-mark mark-lts.Need-element-write-seen t
+mark-element-write-seen t c =
+    let start : in-mark mark-lts.Start t = search in
+    let h = valid-headed _ (start .pre .1 .0) in
+    omega arith
+
+mark-returns-3 : (t : ℕ) → in-mark mark-lts.Need-returns-3 t
+mark-returns-3 t c =
+    let after-mark-list : in-mark mark-lts.After-mark-list t = search in
+    let after-row-count : in-mark mark-lts.After-row-count t = search in
+    let after-row-first : in-mark mark-lts.After-row-first t = search in
+    let else1 : in-mark mark-lts.Else1 t = search in
+    let after-row-kind : in-mark mark-lts.After-row-kind t = search in
+    let start : in-mark mark-lts.Start t = search in
+    let d = row-marked _ (start .pre .1 .0) _ _ (start .pre .1 .2) (after-row-kind .row-kind .ensures) _ _
+    (else1 .if1 .left) (after-row-first .row-first .ensures .0) (after-row-count .row-count .ensures .0)
+    (after-mark-list .mark-list .ensures .0) in (
+      d,
+      ready-more _ _ _ _ (c .wide2 .ensures .0)
+          (let h = valid-headed _ (start .pre .1 .0) in let k = h .fewRows in let j = start .pre .1 .2 in omega
+          arith) (start .pre .1 .3) d (after-mark-list .mark-list .ensures .1),
+    )
+
+mark-list-entry-requires : (t : ℕ) → in-mark-list mark-list-lts.Need-entry-requires t
+mark-list-entry-requires t c κs =
+    let else1 : in-mark-list mark-list-lts.Else1 t = search in
+    let start : in-mark-list mark-list-lts.Start t = search in
+    (start .pre .1 .0, start .pre .1 .3, let n = else1 .if1 .left in omega arith)
+
+mark-list-mark-requires : (t : ℕ) → in-mark-list mark-list-lts.Need-mark-requires t
+mark-list-mark-requires t c κs =
+    let start : in-mark-list mark-list-lts.Start t = search in
+    (omega arith, (start .pre .1 .0, start .pre .1 .1, omega arith, start .pre .1 .4))
+
+mark-list-add-mark-list : (t : ℕ) → in-mark-list mark-list-lts.Need-add-mark-list t
+mark-list-add-mark-list t c =
+    let start : in-mark-list mark-list-lts.Start t = search in
+    let h = valid-headed _ (start .pre .1 .0) in
+    omega arith
+
+mark-list-mark-list-requires : (t : ℕ) → in-mark-list mark-list-lts.Need-mark-list-requires t
+mark-list-mark-list-requires t c κs =
+    let after-mark : in-mark-list mark-list-lts.After-mark t = search in
+    let else1 : in-mark-list mark-list-lts.Else1 t = search in
+    let start : in-mark-list mark-list-lts.Start t = search in
+    let s = span-tail _ _ _ _ (start .pre .1 .3) (let n = else1 .if1 .left in omega arith) in
+    (omega arith, (start .pre .1 .0, after-mark .mark .ensures .1, start .pre .1 .2, s, start .pre .1 .4))
+
+pub +mark+mark-list-spec : {M : Type 1} → statement M
++mark+mark-list-spec = close μ-mark μ-mark-list (λ t. mark-lts.spec
+    (mark-calls t)
     (mark-at t)
     mark.Post
-    (λ c κs. (valid-headed _ (c .before .pre .1 .0), c .before .pre .1 .2))  -- mark-row-kind-requires
-    (λ c κs. let h = valid-headed _ (c .before .before .before .before .pre .1 .0) in let k = h .fewRows in let j = c .before .before .before .before .pre .1 .2 in (c .before .before .before .before .pre .1 .1 .sized, omega arith))  -- mark-mark-atom-requires
-    (λ c. let d = atom-marked _ (c .before .before .before .before .before .pre .1 .0) _ _ (c .before .before .before .before .before .pre .1 .2) (c .before .before .before .row-kind .ensures) (c .before .before .if1 .taken) (c .mark-atom .ensures) in (d, ready-marked _ _ (c .before .before .before .before .before .pre .1 .1) d))  -- mark-returns
+    (λ c κs. search (valid-headed, needs))  -- mark-row-kind-requires
+    (mark-mark-atom-requires t)
+    (λ c. search (atom-marked, ready-marked, needs))  -- mark-returns
     (λ c κs. search needs)  -- mark-wide-requires
-    (λ c. let h = valid-headed _ (c .before .before .before .before .pre .1 .0) in let k = h .fewRows in let j = c .before .before .before .before .pre .1 .2 in omega arith)  -- mark-mul-if2
-    (λ c. let h = valid-headed _ (c .before .before .before .before .pre .1 .0) in let k = h .fewRows in let j = c .before .before .before .before .pre .1 .2 in omega arith)  -- mark-element-copy-out-if2
-    (λ c. (seen-already _ (c .before .before .before .before .before .before .args .seen .now) _ _ _ _ (c .before .before .wide .ensures .0) (c .before .before .before .before .before .before .pre .1 .1) (c .if2 .taken), c .before .before .before .before .before .before .pre .1 .1))  -- mark-returns-2
-    (λ c κs. (valid-headed _ (c .before .before .before .before .before .before .before .before .pre .1 .0), c .before .before .before .before .before .before .before .before .pre .1 .2))  -- mark-row-first-requires
-    (λ c κs. (valid-headed _ (c .before .before .before .before .before .before .before .before .before .pre .1 .0), c .before .before .before .before .before .before .before .before .before .pre .1 .2))  -- mark-row-count-requires
-    (λ c κs. let q = c .before .before .before .before .before .before .before .before .before .before .pre .1 .2 in let s = span-row _ (c .before .before .before .before .before .before .before .before .before .before .pre .1 .0) _ _ _ (c .before .before .before .before .before .before .before .before .before .before .pre .1 .2) (c .before .row-first .ensures .0) (c .row-count .ensures .0) in let f = s .few in (omega arith, (c .before .before .before .before .before .before .before .before .before .before .pre .1 .0, c .before .before .before .before .before .before .before .before .before .before .pre .1 .1, omega arith, s, c .before .before .before .before .before .before .before .before .before .before .pre .1 .3)))  -- mark-mark-list-requires
+    (mark-mul-if2 t)
+    (mark-element-copy-out-if2 t)
+    (λ c. search (seen-already, needs))  -- mark-returns-2
+    (λ c κs. search (valid-headed, needs))  -- mark-row-first-requires
+    (λ c κs. search (valid-headed, needs))  -- mark-row-count-requires
+    (mark-mark-list-requires t)
     (λ c κs. search needs)  -- mark-wide-requires-2
-    (λ c. let h = valid-headed _ (c .before .before .before .before .before .before .before .before .before .before .before .before .pre .1 .0) in let k = h .fewRows in let j = c .before .before .before .before .before .before .before .before .before .before .before .before .pre .1 .2 in omega arith)  -- mark-mul-seen
-    (λ c. let h = valid-headed _ (c .before .before .before .before .before .before .before .before .before .before .before .before .pre .1 .0) in let k = h .fewRows in let j = c .before .before .before .before .before .before .before .before .before .before .before .before .pre .1 .2 in omega arith)  -- mark-element-write-seen
-    (λ c. let d = row-marked _ (c .before .before .before .before .before .before .before .before .before .before .before .before .pre .1 .0) _ _ (c .before .before .before .before .before .before .before .before .before .before .before .before .pre .1 .2) (c .before .before .before .before .before .before .before .before .before .before .row-kind .ensures) _ _ (c .before .before .before .before .before .before .before .before .before .if1 .left) (c .before .before .before .row-first .ensures .0) (c .before .before .row-count .ensures .0) (c .before .mark-list .ensures .0) in (d, ready-more _ _ _ _ (c .wide2 .ensures .0) (let h = valid-headed _ (c .before .before .before .before .before .before .before .before .before .before .before .before .pre .1 .0) in let k = h .fewRows in let j = c .before .before .before .before .before .before .before .before .before .before .before .before .pre .1 .2 in omega arith) (c .before .before .before .before .before .before .before .before .before .before .before .before .pre .1 .3) d (c .before .mark-list .ensures .1))))  -- mark-returns-3
-    λ t. mark-list-lts.spec (
-      entry-reads.Asked,
-      entry-reads.Learnt,
-      mark-below t,
-      mark.Post,
-      mark-list-below t,
-      mark-list.Post,
-    )
+    (mark-mul-seen t)
+    (mark-element-write-seen t)
+    (mark-returns-3 t))
+    λ t. mark-list-lts.spec
+    (mark-list-calls t)
     (mark-list-at t)
     mark-list.Post
-    (λ c. (marked-end _ _ _ _ _ (c .if1 .taken) (c .before .before .pre .1 .1 .sized), c .before .before .pre .1 .1))  -- mark-list-returns
-    (λ c κs. (c .before .before .before .before .pre .1 .0, c .before .before .before .before .pre .1 .3, let n = c .before .before .if1 .left in omega arith))  -- mark-list-entry-requires
-    (λ c κs. let p = c .entry .ensures .1 in let q = c .before .before .before .before .before .pre .1 .2 in (omega arith, (c .before .before .before .before .before .pre .1 .0, c .before .before .before .before .before .pre .1 .1, omega arith, c .before .before .before .before .before .pre .1 .4)))  -- mark-list-mark-requires
-    (λ c. let s = c .before .before .before .before .before .before .before .before .pre .1 .3 .inside in let h = valid-headed _ (c .before .before .before .before .before .before .before .before .pre .1 .0) in let k = h .smallPool in omega arith)  -- mark-list-add-mark-list
+    (λ c. search (marked-end, needs))  -- mark-list-returns
+    (mark-list-entry-requires t)
+    (mark-list-mark-requires t)
+    (mark-list-add-mark-list t)
     (λ c. search needs)  -- mark-list-sub-mark-list
-    (λ c κs. let s = span-tail _ _ _ _ (c .before .before .before .before .before .before .before .before .pre .1 .3) (let n = c .before .before .before .before .before .before .if1 .left in omega arith) in (omega arith, (c .before .before .before .before .before .before .before .before .pre .1 .0, c .before .before .mark .ensures .1, c .before .before .before .before .before .before .before .before .pre .1 .2, s, c .before .before .before .before .before .before .before .before .pre .1 .4)))  -- mark-list-mark-list-requires
-    (λ c. (more-marked _ _ _ _ _ (c .before .before .before .before .before .before .before .if1 .left) (c .before .before .before .before .entry .ensures .0) (c .before .before .before .mark .ensures .0) (c .mark-list .ensures .0), c .mark-list .ensures .1))  -- mark-list-returns-2
+    (mark-list-mark-list-requires t)
+    (λ c. search (more-marked, needs))  -- mark-list-returns-2

@@ -5,10 +5,22 @@ use borrow.Author.Needs.{needs}
 use Rattle.claims.proofs.claims.Statement.{statement}
 use Rattle.claims.proofs.claims.Tie as tie
 
+mark-steps-requires : tie.Need-mark-steps-requires
+mark-steps-requires c κs =
+    let after-mark-knowledge : tie.After-mark-knowledge = search in
+    let after-mark-names : tie.After-mark-names = search in
+    let start : tie.Start = search in (
+      start .pre,
+      claims-start _ _ _ _ all-zero (after-mark-names .mark-names .ensures .0)
+          (after-mark-knowledge .mark-knowledge .ensures .0),
+      after-mark-knowledge .mark-knowledge .ensures .1,
+    )
+
 pub claims-spec : {M : Type 1} → statement M
 claims-spec =
-    tie.close (tie.spec
-    (λ c κs. (c .before .before .before .pre, ready-start _))  -- mark-names-requires
-    (λ c κs. (c .before .before .before .before .before .before .pre, c .before .before .mark-names .ensures .1))  -- mark-knowledge-requires
-    (λ c κs. (c .before .before .before .before .before .before .before .before .before .pre, claims-start (c .before .before .before .before .before .before .before .before .before .args .book .now) _ _ _ all-zero (c .before .before .before .before .before .mark-names .ensures .0) (c .before .before .mark-knowledge .ensures .0), c .before .before .mark-knowledge .ensures .1))  -- mark-steps-requires
+    tie.close
+    (tie.spec
+    (λ c κs. search (ready-start, needs))  -- mark-names-requires
+    (λ c κs. search needs)  -- mark-knowledge-requires
+    mark-steps-requires
     (λ c. search needs))  -- returns

@@ -10,10 +10,10 @@ mark-atom-spec =
     tie.close
     (tie.spec
     (λ c κs. search needs)  -- wide-requires
-    (λ c. let k = c .before .pre .1 in omega arith)  -- mul-if1
-    (λ c. let k = c .before .pre .1 in omega arith)  -- element-copy-out-if1
+    (λ c. omega arith)  -- mul-if1
+    (λ c. omega arith)  -- element-copy-out-if1
     (λ c κs. search needs)  -- wide-requires-2
-    (λ c. let k = c .before .before .before .before .pre .1 in omega arith)  -- mul-since
-    (λ c. let k = c .before .before .before .before .pre .1 in omega arith)  -- element-write-since
-    (λ c. new-marked _ _ _ _ (c .before .before .before .before .pre .0) (c .before .before .before .wide .ensures .0) _ (c .wide2 .ensures .0) (c .before .before .before .before .pre .1) (c .before .if1 .taken))  -- returns
-    (λ c. old-marked _ _ _ _ (c .before .before .before .pre .0) (c .before .before .wide .ensures .0) (c .if1 .left)))  -- returns-2
+    (λ c. omega arith)  -- mul-since
+    (λ c. omega arith)  -- element-write-since
+    (λ c. search new-marked)  -- returns
+    (λ c. search old-marked))  -- returns-2

@@ -14,16 +14,23 @@ Inv-loop book since₀ seen₀ n party₀ since seen party = Knowledge book n pa
 abbrev μ-loop : tie.MeasureT-loop
 μ-loop book since₀ seen₀ n party₀ since seen party = n - party
 
+mark-known-requires : tie.Need-mark-known-requires Inv-loop μ-loop
+mark-known-requires c κs =
+    let at-loop : tie.At-loop Inv-loop μ-loop = search in
+    let after-parties : tie.After-parties Inv-loop μ-loop = search in
+    let start : tie.Start Inv-loop μ-loop = search in
+    (start .pre .0, at-loop .loop .inv .1, let e = after-parties .parties .ensures in omega arith)
+
 pub mark-knowledge-spec : {M : Type 1} → statement M
 mark-knowledge-spec =
     tie.close
     (tie.spec
     Inv-loop
     μ-loop
-    (λ c κs. valid-headed _ (c .before .pre .0))  -- parties-requires
-    (λ c. (knowledge-start _ _ (c .parties .ensures) _ (c .before .before .pre .1 .sized), c .before .before .pre .1))  -- loop-holds
-    (λ c κs. (c .before .before .before .before .before .before .pre .0, c .before .before .before .loop .inv .1, let e = c .before .before .before .before .parties .ensures in omega arith))  -- mark-known-requires
+    (λ c κs. search valid-headed)  -- parties-requires
+    (λ c. search (knowledge-start, needs))  -- loop-holds
+    mark-known-requires
     (λ c. search needs)  -- add-party
     (λ c. search needs)  -- loop-less
-    (λ c. (knowledge-on _ _ (c .before .before .before .before .before .parties .ensures) _ (c .before .before .before .loop-test .taken) (c .before .before .before .before .loop .inv .0) (c .mark-known .ensures .0), c .mark-known .ensures .1))  -- loop-again
-    (λ c. (knowledge-end _ _ (c .before .before .parties .ensures) _ (c .loop-test .left) (c .before .loop .inv .0), c .before .loop .inv .1)))  -- returns
+    (λ c. search (knowledge-on, needs))  -- loop-again
+    (λ c. search (knowledge-end, needs)))  -- returns

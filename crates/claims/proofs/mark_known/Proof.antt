@@ -14,18 +14,44 @@ Inv-loop book since₀ seen₀ party first n j₀ since seen j = Knows book firs
 abbrev μ-loop : tie.MeasureT-loop
 μ-loop book since₀ seen₀ party first n j₀ since seen j = n - j
 
+mark-requires : tie.Need-mark-requires Inv-loop μ-loop
+mark-requires c κs =
+    let in-loop : tie.In-loop Inv-loop μ-loop = search in
+    let at-loop : tie.At-loop Inv-loop μ-loop = search in
+    let after-party-count : tie.After-party-count Inv-loop μ-loop = search in
+    let after-party-first : tie.After-party-first Inv-loop μ-loop = search in
+    let start : tie.Start Inv-loop μ-loop = search in (
+      start .pre .0,
+      at-loop .loop .inv .1,
+      known-low _ _ _ _ (after-party-first .party-first .ensures .0) (after-party-count .party-count .ensures .0)
+          (start .pre .0) (start .pre .2) _ _ (in-loop .loop-test .taken) (c .pooled .ensures),
+      omega arith,
+    )
+
+loop-again : tie.Need-loop-again Inv-loop μ-loop
+loop-again c =
+    let after-pooled : tie.After-pooled Inv-loop μ-loop = search in
+    let in-loop : tie.In-loop Inv-loop μ-loop = search in
+    let at-loop : tie.At-loop Inv-loop μ-loop = search in
+    let after-party-count : tie.After-party-count Inv-loop μ-loop = search in
+    let after-party-first : tie.After-party-first Inv-loop μ-loop = search in (
+      knows-on _ _ _ _ (after-party-first .party-first .ensures .0) (after-party-count .party-count .ensures .0) _ _
+          (in-loop .loop-test .taken) (after-pooled .pooled .ensures) (at-loop .loop .inv .0) (c .mark .ensures .0),
+      c .mark .ensures .1,
+    )
+
 pub mark-known-spec : {M : Type 1} → statement M
 mark-known-spec =
     tie.close
     (tie.spec
     Inv-loop
     μ-loop
-    (λ c κs. (valid-headed _ (c .before .pre .0), c .before .pre .2))  -- party-first-requires
-    (λ c κs. (valid-headed _ (c .before .before .pre .0), c .before .before .pre .2))  -- party-count-requires
-    (λ c. (knows-start (c .before .before .before .args .book .now) _ _ _ (c .before .party-first .ensures .0) (c .party-count .ensures .0) _ (c .before .before .before .pre .1 .sized), c .before .before .before .pre .1))  -- loop-holds
-    (λ c κs. (valid-headed _ (c .before .before .before .before .before .before .before .pre .0), known-inside (c .before .before .before .before .before .before .before .args .book .now) _ _ _ (c .before .before .before .before .before .party-first .ensures .0) (c .before .before .before .before .party-count .ensures .0) (c .before .before .before .before .before .before .before .pre .0) (c .before .before .before .before .before .before .before .pre .2) _ (c .before .before .loop-test .taken)))  -- pooled-requires
-    (λ c κs. (c .before .before .before .before .before .before .before .before .pre .0, c .before .before .before .before .loop .inv .1, known-low (c .before .before .before .before .before .before .before .before .args .book .now) _ _ _ (c .before .before .before .before .before .before .party-first .ensures .0) (c .before .before .before .before .before .party-count .ensures .0) (c .before .before .before .before .before .before .before .before .pre .0) (c .before .before .before .before .before .before .before .before .pre .2) _ _ (c .before .before .before .loop-test .taken) (c .pooled .ensures), omega arith))  -- mark-requires
+    (λ c κs. search (valid-headed, needs))  -- party-first-requires
+    (λ c κs. search (valid-headed, needs))  -- party-count-requires
+    (λ c. search (knows-start, needs))  -- loop-holds
+    (λ c κs. search (valid-headed, known-inside, needs))  -- pooled-requires
+    mark-requires
     (λ c. search needs)  -- add-j
     (λ c. search needs)  -- loop-less
-    (λ c. (knows-on (c .before .before .before .before .before .before .before .before .before .args .book .now) _ _ _ (c .before .before .before .before .before .before .before .party-first .ensures .0) (c .before .before .before .before .before .before .party-count .ensures .0) _ _ (c .before .before .before .before .loop-test .taken) (c .before .pooled .ensures) (c .before .before .before .before .before .loop .inv .0) (c .mark .ensures .0), c .mark .ensures .1))  -- loop-again
-    (λ c. (knows-end (c .before .before .before .before .before .args .book .now) _ _ _ (c .before .before .before .party-first .ensures .0) (c .before .before .party-count .ensures .0) _ (c .loop-test .left) (c .before .loop .inv .0), c .before .loop .inv .1)))  -- returns
+    loop-again
+    (λ c. search (knows-end, needs)))  -- returns

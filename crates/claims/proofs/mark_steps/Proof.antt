@@ -17,20 +17,63 @@ Inv-loop book since₀ seen₀ n step₀ since seen step = (step ≤ n) × Claim
 abbrev μ-loop : tie.MeasureT-loop
 μ-loop book since₀ seen₀ n step₀ since seen step = n - step
 
+loop-holds : tie.Need-loop-holds Inv-loop μ-loop
+loop-holds c = let start : tie.Start Inv-loop μ-loop = search in (search needs, start .pre .1, start .pre .2)
+
+add-mark-list : tie.Need-add-mark-list Inv-loop μ-loop
+add-mark-list c =
+    let start : tie.Start Inv-loop μ-loop = search in
+    let h = valid-headed _ (start .pre .0) in
+    omega arith
+
+mark-list-requires : tie.Need-mark-list-requires Inv-loop μ-loop
+mark-list-requires c κs =
+    let after-step-first : tie.After-step-first Inv-loop μ-loop = search in
+    let after-rows : tie.After-rows Inv-loop μ-loop = search in
+    let at-loop : tie.At-loop Inv-loop μ-loop = search in
+    let after-steps : tie.After-steps Inv-loop μ-loop = search in
+    let start : tie.Start Inv-loop μ-loop = search in
+    let r = after-rows .rows .ensures in (
+      start .pre .0,
+      at-loop .loop .inv .2,
+      omega arith,
+      rw r (span-step _ (start .pre .0) _ _ _ (let e = after-steps .steps .ensures in omega arith)
+          (after-step-first .step-first .ensures .0) (c .step-count .ensures .0)),
+      omega arith,
+    )
+
+loop-again : tie.Need-loop-again Inv-loop μ-loop
+loop-again c =
+    let after-step-count : tie.After-step-count Inv-loop μ-loop = search in
+    let after-step-first : tie.After-step-first Inv-loop μ-loop = search in
+    let at-loop : tie.At-loop Inv-loop μ-loop = search in (
+      search needs,
+      step-claimed _ _ _ _ _ _ (after-step-first .step-first .ensures .0) (after-step-count .step-count .ensures .0)
+          (at-loop .loop .inv .1) (c .mark-list .ensures .0),
+      c .mark-list .ensures .1,
+    )
+
+returns : tie.Need-returns Inv-loop μ-loop
+returns c =
+    let at-loop : tie.At-loop Inv-loop μ-loop = search in
+    let after-steps : tie.After-steps Inv-loop μ-loop = search in
+    claims-end _ _ _ (let e = after-steps .steps .ensures in let k = at-loop .loop .inv .0 in omega arith)
+    (at-loop .loop .inv .1)
+
 pub mark-steps-spec : {M : Type 1} → statement M
 mark-steps-spec =
     tie.close
     (tie.spec
     Inv-loop
     μ-loop
-    (λ c κs. valid-headed _ (c .before .pre .0))  -- steps-requires
-    (λ c. (search needs, c .before .before .pre .1, c .before .before .pre .2))  -- loop-holds
-    (λ c κs. valid-headed _ (c .before .before .before .before .before .before .pre .0))  -- rows-requires
-    (λ c κs. (valid-headed _ (c .before .before .before .before .before .before .before .pre .0), let e = c .before .before .before .before .before .steps .ensures in omega arith))  -- step-first-requires
-    (λ c κs. (valid-headed _ (c .before .before .before .before .before .before .before .before .pre .0), let e = c .before .before .before .before .before .before .steps .ensures in omega arith))  -- step-count-requires
-    (λ c. let e = c .before .before .before .before .before .before .before .steps .ensures in let h = valid-headed _ (c .before .before .before .before .before .before .before .before .before .pre .0) in let k = h .fewSteps in omega arith)  -- add-mark-list
-    (λ c κs. let r = c .before .before .rows .ensures in (c .before .before .before .before .before .before .before .before .before .pre .0, c .before .before .before .before .before .before .loop .inv .2, omega arith, rw r (span-step _ (c .before .before .before .before .before .before .before .before .before .pre .0) _ _ _ (let e = c .before .before .before .before .before .before .before .steps .ensures in omega arith) (c .before .step-first .ensures .0) (c .step-count .ensures .0)), omega arith))  -- mark-list-requires
+    (λ c κs. search valid-headed)  -- steps-requires
+    loop-holds
+    (λ c κs. search valid-headed)  -- rows-requires
+    (λ c κs. search (valid-headed, needs))  -- step-first-requires
+    (λ c κs. search (valid-headed, needs))  -- step-count-requires
+    add-mark-list
+    mark-list-requires
     (λ c. search needs)  -- add-step
     (λ c. search needs)  -- loop-less
-    (λ c. (search needs, step-claimed _ _ _ _ _ _ (c .before .before .step-first .ensures .0) (c .before .step-count .ensures .0) (c .before .before .before .before .before .before .before .loop .inv .1) (c .mark-list .ensures .0), c .mark-list .ensures .1))  -- loop-again
-    (λ c. claims-end _ _ _ (let e = c .before .before .steps .ensures in let k = c .before .loop .inv .0 in omega arith) (c .before .loop .inv .1)))  -- returns
+    loop-again
+    returns)

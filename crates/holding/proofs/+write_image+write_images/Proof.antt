@@ -6,7 +6,7 @@ use Rattle.book.specs.Headed.Laws.{valid-headed}
 use borrow.Author.Needs.{needs}
 use native.Mathlib.Omega.{arith}
 use Prim.Native.Nat.{ℕ, _<_}
-use borrow.Fn.Kinds.{In}
+use borrow.Fn.Kinds.{In, Out}
 use borrow.Fn.PlainCycle.{Measures, is, falls, and}
 use Rattle.holding.proofs.write_image.Reads as write-image
 use Rattle.holding.proofs.write_image.Kinds as write-image-kinds
@@ -49,8 +49,8 @@ write-images-below t =
     (falls 3 write-images-kinds.ps _<_ μ-write-images t)
     write-images.Pre
 
-pub +write-image+write-images-spec : {M : Type 1} → statement M
-+write-image+write-images-spec = close μ-write-image μ-write-images (λ t. write-image-lts.spec (
+abbrev write-image-calls : ℕ → write-image-lts.Claims
+write-image-calls t = (
   wide-reads.Asked,
   wide-reads.Learnt,
   put-entry-reads.Asked,
@@ -64,35 +64,104 @@ pub +write-image+write-images-spec : {M : Type 1} → statement M
   write-images-below t,
   write-images.Post,
 )
+
+-- a place or a need of `write_image`, by its name
+abbrev in-write-image : (write-image-lts.Claims → In 3 write-image-kinds.ps → Out 3 write-image-kinds.ps write-image-kinds.r → Type 0) → ℕ → Type 0
+in-write-image P t = P (write-image-calls t) (write-image-at t) write-image.Post
+
+abbrev write-images-calls : ℕ → write-images-lts.Claims
+write-images-calls t = (
+  entry-reads.Asked,
+  entry-reads.Learnt,
+  write-image-below t,
+  write-image.Post,
+  write-images-below t,
+  write-images.Post,
+)
+
+-- a place or a need of `write_images`, by its name
+abbrev in-write-images : (write-images-lts.Claims → In 3 write-images-kinds.ps → Out 3 write-images-kinds.ps write-images-kinds.r → Type 0) → ℕ → Type 0
+in-write-images P t = P (write-images-calls t) (write-images-at t) write-images.Post
+
+write-image-mul-held : (t : ℕ) → in-write-image write-image-lts.Need-mul-held t
+write-image-mul-held t c =
+    let start : in-write-image write-image-lts.Start t = search in
+    let h = valid-headed _ (start .pre .1 .0) in
+    omega arith
+
+write-image-element-copy-out-held : (t : ℕ) → in-write-image write-image-lts.Need-element-copy-out-held t
+write-image-element-copy-out-held t c =
+    let start : in-write-image write-image-lts.Start t = search in
+    let h = valid-headed _ (start .pre .1 .0) in
+    omega arith
+
+write-image-write-images-requires : (t : ℕ) → in-write-image write-image-lts.Need-write-images-requires t
+write-image-write-images-requires t c κs =
+    let after-row-count : in-write-image write-image-lts.After-row-count t = search in
+    let after-row-first : in-write-image write-image-lts.After-row-first t = search in
+    let start : in-write-image write-image-lts.Start t = search in
+    let s = span-row _ (start .pre .1 .0) _ _ _ (start .pre .1 .1) (after-row-first .row-first .ensures .0)
+    (after-row-count .row-count .ensures .0) in
+    (omega arith, (start .pre .1 .0, omega arith, s))
+
+write-images-entry-requires : (t : ℕ) → in-write-images write-images-lts.Need-entry-requires t
+write-images-entry-requires t c κs =
+    let start : in-write-images write-images-lts.Start t = search in
+    (start .pre .1 .0, start .pre .1 .2, let n = c .if1 .left in omega arith)
+
+write-images-write-image-requires : (t : ℕ) → in-write-images write-images-lts.Need-write-image-requires t
+write-images-write-image-requires t c κs =
+    let start : in-write-images write-images-lts.Start t = search in
+    (omega arith, (start .pre .1 .0, omega arith))
+
+write-images-add-write-images : (t : ℕ) → in-write-images write-images-lts.Need-add-write-images t
+write-images-add-write-images t c =
+    let start : in-write-images write-images-lts.Start t = search in
+    let h = valid-headed _ (start .pre .1 .0) in
+    omega arith
+
+write-images-write-images-requires : (t : ℕ) → in-write-images write-images-lts.Need-write-images-requires t
+write-images-write-images-requires t c κs =
+    let else1 : in-write-images write-images-lts.Else1 t = search in
+    let start : in-write-images write-images-lts.Start t = search in
+    let s = span-tail _ _ _ _ (start .pre .1 .2) (let n = else1 .if1 .left in omega arith) in
+    (omega arith, (start .pre .1 .0, start .pre .1 .1, s))
+
+write-images-returns-2 : (t : ℕ) → in-write-images write-images-lts.Need-returns-2 t
+write-images-returns-2 t c =
+    let after-write-images : in-write-images write-images-lts.After-write-images t = search in
+    let after-write-image : in-write-images write-images-lts.After-write-image t = search in
+    let after-entry : in-write-images write-images-lts.After-entry t = search in
+    let else1 : in-write-images write-images-lts.Else1 t = search in
+    more-wrote _ _ _ _ _ (let n = else1 .if1 .left in omega arith) (after-entry .entry .ensures .0)
+    (after-write-image .write-image .ensures) (after-write-images .write-images .ensures)
+
+pub +write-image+write-images-spec : {M : Type 1} → statement M
++write-image+write-images-spec = close μ-write-image μ-write-images (λ t. write-image-lts.spec
+    (write-image-calls t)
     (write-image-at t)
     write-image.Post
     (λ c κs. search needs)  -- write-image-wide-requires
-    (λ c. let h = valid-headed _ (c .before .before .before .pre .1 .0) in let k = h .fewRows in omega arith)  -- write-image-mul-held
-    (λ c. let h = valid-headed _ (c .before .before .before .pre .1 .0) in let k = h .fewRows in omega arith)  -- write-image-element-copy-out-held
+    (write-image-mul-held t)
+    (write-image-element-copy-out-held t)
     (λ c κs. search needs)  -- write-image-put-entry-requires
     (λ c. search needs)  -- write-image-same-length
-    (λ c. held-wrote _ _ _ _ (c .before .before .before .before .before .before .before .before .before .pre .1 .0) (c .before .before .before .before .before .before .before .before .before .pre .1 .1) (c .before .before .before .before .before .before .wide .ensures .0) (c .before .before .before .before .if1 .taken) (c .before .before .put-entry .ensures))  -- write-image-returns
-    (λ c κs. (c .before .before .before .before .before .before .pre .1 .0, c .before .before .before .before .before .before .pre .1 .1))  -- write-image-put-head-requires
-    (λ c κs. (valid-headed _ (c .before .before .before .before .before .before .before .before .before .pre .1 .0), c .before .before .before .before .before .before .before .before .before .pre .1 .1))  -- write-image-row-first-requires
-    (λ c κs. (valid-headed _ (c .before .before .before .before .before .before .before .before .before .before .pre .1 .0), c .before .before .before .before .before .before .before .before .before .before .pre .1 .1))  -- write-image-row-count-requires
-    (λ c κs. let q = c .before .before .before .before .before .before .before .before .before .before .before .before .pre .1 .1 in let s = span-row _ (c .before .before .before .before .before .before .before .before .before .before .before .before .pre .1 .0) _ _ _ (c .before .before .before .before .before .before .before .before .before .before .before .before .pre .1 .1) (c .before .before .row-first .ensures .0) (c .before .row-count .ensures .0) in let f = s .few in (omega arith, (c .before .before .before .before .before .before .before .before .before .before .before .before .pre .1 .0, omega arith, s)))  -- write-image-write-images-requires
+    (λ c. search held-wrote)  -- write-image-returns
+    (λ c κs. search needs)  -- write-image-put-head-requires
+    (λ c κs. search (valid-headed, needs))  -- write-image-row-first-requires
+    (λ c κs. search (valid-headed, needs))  -- write-image-row-count-requires
+    (write-image-write-images-requires t)
     (λ c. search needs)  -- write-image-same-length-2
-    (λ c. free-wrote _ _ _ _ _ (c .before .before .before .before .before .before .before .before .before .before .before .before .before .before .before .pre .1 .0) (c .before .before .before .before .before .before .before .before .before .before .before .before .before .before .before .pre .1 .1) (is-free (c .before .before .before .before .before .before .before .before .before .before .before .before .before .before .before .args .book .now) (c .before .before .before .before .before .before .before .before .before .before .before .before .before .before .before .args .entries .now) _ _ (c .before .before .before .before .before .before .before .before .before .before .before .before .wide .ensures .0) (c .before .before .before .before .before .before .before .before .before .before .if1 .left)) (c .before .before .before .before .before .row-first .ensures .0) (c .before .before .before .before .row-count .ensures .0) (c .before .before .before .before .before .before .before .before .put-head .ensures) (c .before .before .write-images .ensures)))  -- write-image-returns-2
-    λ t. write-images-lts.spec (
-      entry-reads.Asked,
-      entry-reads.Learnt,
-      write-image-below t,
-      write-image.Post,
-      write-images-below t,
-      write-images.Post,
-    )
+    (λ c. search (free-wrote, is-free, needs)))  -- write-image-returns-2
+    λ t. write-images-lts.spec
+    (write-images-calls t)
     (write-images-at t)
     write-images.Post
-    (λ c. none-wrote _ _ _ _ _ _ (c .if1 .taken))  -- write-images-returns
-    (λ c κs. (c .before .before .before .pre .1 .0, c .before .before .before .pre .1 .2, let n = c .if1 .left in omega arith))  -- write-images-entry-requires
-    (λ c κs. let p = c .before .entry .ensures .1 in let q = c .before .before .before .before .before .pre .1 .1 in (omega arith, (c .before .before .before .before .before .pre .1 .0, omega arith)))  -- write-images-write-image-requires
-    (λ c. let s = c .before .before .before .before .before .before .before .before .pre .1 .2 .inside in let h = valid-headed _ (c .before .before .before .before .before .before .before .before .pre .1 .0) in let k = h .smallPool in omega arith)  -- write-images-add-write-images
+    (λ c. search none-wrote)  -- write-images-returns
+    (write-images-entry-requires t)
+    (write-images-write-image-requires t)
+    (write-images-add-write-images t)
     (λ c. search needs)  -- write-images-sub-write-images
-    (λ c κs. let s = span-tail _ _ _ _ (c .before .before .before .before .before .before .before .before .before .pre .1 .2) (let n = c .before .before .before .before .before .before .if1 .left in omega arith) in (omega arith, (c .before .before .before .before .before .before .before .before .before .pre .1 .0, c .before .before .before .before .before .before .before .before .before .pre .1 .1, s)))  -- write-images-write-images-requires
+    (write-images-write-images-requires t)
     (λ c. search needs)  -- write-images-same-length
-    (λ c. more-wrote _ _ _ _ _ (let n = c .before .before .before .before .before .before .before .before .before .if1 .left in omega arith) (c .before .before .before .before .before .before .before .before .entry .ensures .0) (c .before .before .before .before .before .before .write-image .ensures) (c .before .before .write-images .ensures))  -- write-images-returns-2
+    (write-images-returns-2 t)

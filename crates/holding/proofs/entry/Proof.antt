@@ -5,7 +5,21 @@ use native.Mathlib.Omega.{arith}
 use Rattle.holding.proofs.entry.Statement.{statement}
 use Rattle.holding.proofs.entry.Tie as tie
 
+pooled-requires : tie.Need-pooled-requires
+pooled-requires c κs =
+    let start : tie.Start = search in
+    (valid-headed _ (start .pre .0), span-index _ _ _ _ (start .pre .1) (start .pre .2))
+
+returns : tie.Need-returns
+returns c =
+    let start : tie.Start = search in (
+      c .pooled .ensures,
+      let h = span-head _ _ _ _ (start .pre .1) (start .pre .2) in let e = c .pooled .ensures in omega arith,
+    )
+
 pub entry-spec : {M : Type 1} → statement M
-entry-spec = tie.close (tie.spec
-    (λ c κs. (valid-headed _ (c .before .pre .0), span-index _ _ _ _ (c .before .pre .1) (c .before .pre .2)))  -- pooled-requires
-    (λ c. (c .pooled .ensures, let h = span-head _ _ _ _ (c .before .before .pre .1) (c .before .before .pre .2) in let e = c .pooled .ensures in omega arith)))  -- returns
+entry-spec =
+    tie.close
+    (tie.spec
+    pooled-requires
+    returns)

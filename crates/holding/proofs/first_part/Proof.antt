@@ -4,8 +4,27 @@ use Rattle.book.specs.Headed.Laws.{valid-headed}
 use Rattle.holding.proofs.first_part.Statement.{statement}
 use Rattle.holding.proofs.first_part.Tie as tie
 
+row-first-requires : tie.Need-row-first-requires
+row-first-requires c κs = let start : tie.Start = search in (valid-headed _ (start .pre .0), start .pre .1)
+
+pooled-requires : tie.Need-pooled-requires
+pooled-requires c κs =
+    let start : tie.Start = search in (
+      valid-headed _ (start .pre .0),
+      part-index _ (start .pre .0) _ _ (start .pre .1) (start .pre .2) (c .row-first .ensures .0),
+    )
+
+returns : tie.Need-returns
+returns c =
+    let after-row-first : tie.After-row-first = search in
+    let start : tie.Start = search in
+    part-at _ (start .pre .0) _ _ (start .pre .1) (start .pre .2) (after-row-first .row-first .ensures .0) _
+    (c .pooled .ensures)
+
 pub first-part-spec : {M : Type 1} → statement M
-first-part-spec = tie.close (tie.spec
-    (λ c κs. (valid-headed _ (c .before .pre .0), c .before .pre .1))  -- row-first-requires
-    (λ c κs. (valid-headed _ (c .before .before .pre .0), part-index _ (c .before .before .pre .0) _ _ (c .before .before .pre .1) (c .before .before .pre .2) (c .row-first .ensures .0)))  -- pooled-requires
-    (λ c. part-at _ (c .before .before .before .pre .0) _ _ (c .before .before .before .pre .1) (c .before .before .before .pre .2) (c .before .row-first .ensures .0) _ (c .pooled .ensures)))  -- returns
+first-part-spec =
+    tie.close
+    (tie.spec
+    row-first-requires
+    pooled-requires
+    returns)

@@ -18,17 +18,47 @@ Inv-loop book side part n row₀ row = (row ≤ n) × ((k : ℕ) → k < row →
 abbrev μ-loop : tie.MeasureT-loop
 μ-loop book side part n row₀ row = n - row
 
+is-half-requires : tie.Need-is-half-requires Inv-loop μ-loop
+is-half-requires c κs =
+    let after-rows : tie.After-rows Inv-loop μ-loop = search in
+    let start : tie.Start Inv-loop μ-loop = search in
+    (start .pre .0, (let e = after-rows .rows .ensures in omega arith), start .pre .1, start .pre .2, start .pre .3)
+
+returns : tie.Need-returns Inv-loop μ-loop
+returns c =
+    let after-is-half : tie.After-is-half Inv-loop μ-loop = search in
+    let at-loop : tie.At-loop Inv-loop μ-loop = search in
+    let after-rows : tie.After-rows Inv-loop μ-loop = search in
+    let start : tie.Start Inv-loop μ-loop = search in
+    half-first _ (start .pre .0) _ _ _
+    (first-at _ _ _ (let e = after-rows .rows .ensures in omega arith) (at-loop .loop .inv .1)
+    (sym (after-is-half .is-half .ensures) ∙ c .if1 .taken))
+
+loop-again : tie.Need-loop-again Inv-loop μ-loop
+loop-again c =
+    let after-is-half : tie.After-is-half Inv-loop μ-loop = search in
+    let at-loop : tie.At-loop Inv-loop μ-loop = search in
+    (search needs, below-more _ _ (at-loop .loop .inv .1) (sym (after-is-half .is-half .ensures) ∙ c .if1 .left))
+
+returns-2 : tie.Need-returns-2 Inv-loop μ-loop
+returns-2 c =
+    let at-loop : tie.At-loop Inv-loop μ-loop = search in
+    let after-rows : tie.After-rows Inv-loop μ-loop = search in
+    let start : tie.Start Inv-loop μ-loop = search in
+    half-first _ (start .pre .0) _ _ _
+    (first-end _ _ _ (let e = after-rows .rows .ensures in omega arith) (at-loop .loop .inv .1))
+
 pub half-row-spec : {M : Type 1} → statement M
 half-row-spec =
     tie.close
     (tie.spec
     Inv-loop
     μ-loop
-    (λ c κs. valid-headed _ (c .before .pre .0))  -- rows-requires
+    (λ c κs. search valid-headed)  -- rows-requires
     (λ c. (search needs, λ k h. absurd (omega arith)))  -- loop-holds
-    (λ c κs. (c .before .before .before .before .pre .0, (let e = c .before .before .rows .ensures in omega arith), c .before .before .before .before .pre .1, c .before .before .before .before .pre .2, c .before .before .before .before .pre .3))  -- is-half-requires
-    (λ c. half-first _ (c .before .before .before .before .before .before .pre .0) _ _ _ (first-at _ _ _ (let e = c .before .before .before .before .rows .ensures in omega arith) (c .before .before .before .loop .inv .1) (sym (c .before .is-half .ensures) ∙ c .if1 .taken)))  -- returns
+    is-half-requires
+    returns
     (λ c. search needs)  -- add-row
     (λ c. search needs)  -- loop-less
-    (λ c. (search needs, below-more _ _ (c .before .before .before .loop .inv .1) (sym (c .before .is-half .ensures) ∙ c .if1 .left)))  -- loop-again
-    (λ c. half-first _ (c .before .before .before .before .pre .0) _ _ _ (first-end _ _ _ (let e = c .before .before .rows .ensures in omega arith) (c .before .loop .inv .1))))  -- returns-2
+    loop-again
+    returns-2)

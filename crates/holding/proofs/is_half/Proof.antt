@@ -5,9 +5,23 @@ use native.Mathlib.Omega.{arith}
 use Rattle.holding.proofs.is_half.Statement.{statement}
 use Rattle.holding.proofs.is_half.Tie as tie
 
+row-kind-requires : tie.Need-row-kind-requires
+row-kind-requires c κs = let start : tie.Start = search in (valid-headed _ (start .pre .0), start .pre .1)
+
+first-part-requires : tie.Need-first-part-requires
+first-part-requires c κs =
+    let after-row-kind : tie.After-row-kind = search in
+    let start : tie.Start = search in (
+      start .pre .0,
+      start .pre .1,
+      let e = after-row-kind .row-kind .ensures in let f = c .if1 .left in let g = start .pre .3 in omega arith,
+    )
+
 pub is-half-spec : {M : Type 1} → statement M
-is-half-spec = tie.close (tie.spec
-    (λ c κs. (valid-headed _ (c .before .pre .0), c .before .pre .1))  -- row-kind-requires
-    (λ c. half-kind _ (c .before .before .before .pre .0) _ _ _ (c .before .before .before .pre .1) (c .before .before .before .pre .2) (c .before .before .before .pre .3) (c .before .before .before .pre .4) _ (c .before .row-kind .ensures) (c .if1 .taken))  -- returns
-    (λ c κs. (c .before .before .before .pre .0, c .before .before .before .pre .1, let e = c .before .row-kind .ensures in let f = c .if1 .left in let g = c .before .before .before .pre .3 in omega arith))  -- first-part-requires
-    (λ c. half-same _ (c .before .before .before .before .pre .0) _ _ _ (c .before .before .before .before .pre .1) (c .before .before .before .before .pre .2) (c .before .before .before .before .pre .3) (c .before .before .before .before .pre .4) _ _ (c .before .before .row-kind .ensures) (c .before .if1 .left) (c .first-part .ensures .0)))  -- returns-2
+is-half-spec =
+    tie.close
+    (tie.spec
+    row-kind-requires
+    (λ c. search half-kind)  -- returns
+    first-part-requires
+    (λ c. search half-same))  -- returns-2

@@ -11,23 +11,71 @@ use borrow.Author.Needs.{needs}
 use Rattle.holding.proofs.put_head.Statement.{statement}
 use Rattle.holding.proofs.put_head.Tie as tie
 
+returns : tie.Need-returns
+returns c =
+    let after-put3 : tie.After-put3 = search in
+    let after-narrow : tie.After-narrow = search in
+    let after-row-count : tie.After-row-count = search in
+    let after-row-tag : tie.After-row-tag = search in
+    let then1 : tie.Then1 = search in
+    let after-row-kind : tie.After-row-kind = search in
+    let start : tie.Start = search in
+    wrote-as (after-put3 .put3 .ensures) (head-operation (start .args .book .now) _ _
+    (after-row-kind .row-kind .ensures) _ _ (then1 .if1 .taken) (after-row-tag .row-tag .ensures)
+    (after-narrow .narrow .ensures ∙ after-row-count .row-count .ensures .0))
+
+sub-narrow : tie.Need-sub-narrow
+sub-narrow c =
+    let then2 : tie.Then2 = search in
+    let after-row-kind : tie.After-row-kind = search in
+    let start : tie.Start = search in
+    let h = first-part _ (start .pre .0) _ (start .pre .1)
+    (let e = after-row-kind .row-kind .ensures in let f = then2 .if2 .taken in omega arith) in
+    omega arith
+
+returns-2 : tie.Need-returns-2
+returns-2 c =
+    let after-put2 : tie.After-put2 = search in
+    let after-narrow2 : tie.After-narrow2 = search in
+    let after-row-count2 : tie.After-row-count2 = search in
+    let then2 : tie.Then2 = search in
+    let after-row-kind : tie.After-row-kind = search in
+    let start : tie.Start = search in
+    wrote-as (after-put2 .put2 .ensures) (head-cipher (start .args .book .now) _ _
+    (after-row-kind .row-kind .ensures) _ (then2 .if2 .taken) (after-row-count2 .row-count2 .ensures .0) ∙ ap
+    (λ (x : ℕ). 3 ∷ x ∷ []) (sym (after-narrow2 .narrow2 .ensures)))
+
+returns-5 : tie.Need-returns-5
+returns-5 c =
+    let after-put22 : tie.After-put22 = search in
+    let else4 : tie.Else4 = search in
+    let else3 : tie.Else3 = search in
+    let else2 : tie.Else2 = search in
+    let else1 : tie.Else1 = search in
+    let after-row-kind : tie.After-row-kind = search in
+    let start : tie.Start = search in
+    wrote-as (after-put22 .put22 .ensures) (head-atom (start .args .book .now) _ _
+    (after-row-kind .row-kind .ensures) (let k = start .pre .0 .rowsKeep _ (start .pre .1) .kinded in let e =
+    after-row-kind .row-kind .ensures in let a = else1 .if1 .left in let b = else2 .if2 .left in let f
+    = else3 .if3 .left in let g = else4 .if4 .left in omega arith))
+
 pub put-head-spec : {M : Type 1} → statement M
 put-head-spec =
     tie.close
     (tie.spec
-    (λ c κs. (valid-headed _ (c .before .before .pre .0), c .before .before .pre .1))  -- row-kind-requires
-    (λ c κs. (valid-headed _ (c .before .before .before .before .before .pre .0), c .before .before .before .before .before .pre .1))  -- row-tag-requires
-    (λ c κs. (valid-headed _ (c .before .before .before .before .before .before .pre .0), c .before .before .before .before .before .before .pre .1))  -- row-count-requires
-    (λ c κs. let h = c .row-count .ensures .1 in omega arith)  -- narrow-requires
+    (λ c κs. search (valid-headed, needs))  -- row-kind-requires
+    (λ c κs. search (valid-headed, needs))  -- row-tag-requires
+    (λ c κs. search (valid-headed, needs))  -- row-count-requires
+    (λ c κs. omega arith)  -- narrow-requires
     (λ c κs. search needs)  -- put3-requires
     (λ c. search needs)  -- same-length
-    (λ c. wrote-as (c .before .before .put3 .ensures) (head-operation (c .before .before .before .before .before .before .before .before .before .before .before .args .book .now) _ _ (c .before .before .before .before .before .before .before .before .row-kind .ensures) _ _ (c .before .before .before .before .before .before .before .if1 .taken) (c .before .before .before .before .before .row-tag .ensures) (c .before .before .before .narrow .ensures ∙ c .before .before .before .before .row-count .ensures .0)))  -- returns
-    (λ c κs. (valid-headed _ (c .before .before .before .before .before .before .pre .0), c .before .before .before .before .before .before .pre .1))  -- row-count-requires-2
-    (λ c. let h = first-part _ (c .before .before .before .before .before .before .before .pre .0) _ (c .before .before .before .before .before .before .before .pre .1) (let e = c .before .before .before .before .row-kind .ensures in let f = c .before .before .if2 .taken in omega arith) in let g = c .row-count2 .ensures .0 in omega arith)  -- sub-narrow
-    (λ c κs. let h = c .row-count2 .ensures .1 in omega arith)  -- narrow-requires-2
+    returns
+    (λ c κs. search (valid-headed, needs))  -- row-count-requires-2
+    sub-narrow
+    (λ c κs. omega arith)  -- narrow-requires-2
     (λ c κs. search needs)  -- put2-requires
     (λ c. search needs)  -- same-length-2
-    (λ c. wrote-as (c .before .before .put2 .ensures) (head-cipher (c .before .before .before .before .before .before .before .before .before .before .before .args .book .now) _ _ (c .before .before .before .before .before .before .before .before .row-kind .ensures) _ (c .before .before .before .before .before .before .if2 .taken) (c .before .before .before .before .row-count2 .ensures .0) ∙ ap (λ (x : ℕ). 3 ∷ x ∷ []) (sym (c .before .before .before .narrow2 .ensures))))  -- returns-2
+    returns-2
     (λ c κs. search needs)  -- put-requires
     (λ c. search needs)  -- same-length-3
     (λ c. search (wrote-as, head-public))  -- returns-3
@@ -36,4 +84,4 @@ put-head-spec =
     (λ c. search (wrote-as, head-private))  -- returns-4
     (λ c κs. search needs)  -- put2-requires-2
     (λ c. search needs)  -- same-length-5
-    (λ c. wrote-as (c .before .before .put22 .ensures) (head-atom (c .before .before .before .before .before .before .before .before .before .before .before .args .book .now) _ _ (c .before .before .before .before .before .before .before .before .row-kind .ensures) (let k = c .before .before .before .before .before .before .before .before .before .before .before .pre .0 .rowsKeep _ (c .before .before .before .before .before .before .before .before .before .before .before .pre .1) .kinded in let e = c .before .before .before .before .before .before .before .before .row-kind .ensures in let a = c .before .before .before .before .before .before .before .if1 .left in let b = c .before .before .before .before .before .before .if2 .left in let f = c .before .before .before .before .before .if3 .left in let g = c .before .before .before .before .if4 .left in omega arith))))  -- returns-5
+    returns-5)

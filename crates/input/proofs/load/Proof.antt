@@ -18,7 +18,16 @@ abbrev μ-loop : tie.MeasureT-loop
 loop-again : tie.Need-loop-again Inv-loop μ-loop
 unfolding wordAt
 loop-again c =
-    (search needs, search needs, loaded-more (c .before .before .before .before .before .before .before .before .before .args .bytes .now) (c .before .before .before .before .before .before .loop .out) (c .before .before .before .before .before .before .loop .i) (c .word .result) (omega arith) (c .word .ensures) (c .before .before .before .before .before .before .loop .inv .2))
+    let at-loop : tie.At-loop Inv-loop μ-loop = search in
+    let start : tie.Start Inv-loop μ-loop = search in (
+      search needs,
+      search needs,
+      loaded-more (start .args .bytes .now) (at-loop .loop .out) _ _ (omega arith) (c .word .ensures)
+          (at-loop .loop .inv .2),
+    )
+
+returns : tie.Need-returns Inv-loop μ-loop
+returns c = let at-loop : tie.At-loop Inv-loop μ-loop = search in λ i h. at-loop .loop .inv .2 i (omega arith)
 
 pub load-spec : {M : Type 1} → statement M
 load-spec =
@@ -45,4 +54,4 @@ load-spec =
     (λ c. search needs)  -- loop-less
     loop-again
     (λ c. search needs)  -- same-length
-    (λ c. λ i h. c .before .loop .inv .2 i (omega arith)))  -- returns
+    returns)

@@ -11,14 +11,20 @@ use Rattle.line.proofs.end.Tie as tie
 
 returns : tie.Need-returns
 returns c =
-    let line = c .before .args .line .now in
-    ((simp length-set (omega arith), sym (length-take-le 1 (set line 0 10) (simp length-set (omega arith)))), ended-none line (c .before .args .at) (c .if1 .taken) (omega arith))
+    let start : tie.Start = search in
+    let line = start .args .line .now in (
+      (simp length-set (omega arith), sym (length-take-le 1 (set line 0 10) (simp length-set (omega arith)))),
+      ended-none line _ (c .if1 .taken) (omega arith),
+    )
 
 returns-2 : tie.Need-returns-2
 returns-2 c =
-    let line = c .before .args .line .now in
-    let at = c .before .args .at in
-    ((simp length-set (omega arith), sym (length-take-le at (set line (at - 1) 10) (simp length-set (omega arith)))), ended-some line at (omega arith) (omega arith))
+    let start : tie.Start = search in
+    let line = start .args .line .now in
+    let at = start .args .at in (
+      (simp length-set (omega arith), sym (length-take-le at (set line (at - 1) 10) (simp length-set (omega arith)))),
+      ended-some line at (omega arith) (omega arith),
+    )
 
 pub end-spec : {M : Type 1} → statement M
 end-spec =

@@ -7,7 +7,10 @@ use Rattle.line.proofs.listing_line.Tie as tie
 
 returns : tie.Need-returns
 unfolding listingLine
-returns c = (c .before .before .end .ensures .0, c .before .before .end .ensures .1 ∙ ap ended (c .before .before .before .before .before .before .put-words .ensures .0))
+returns c =
+    let after-end : tie.After-end = search in
+    let after-put-words : tie.After-put-words = search in
+    (after-end .end .ensures .0, after-end .end .ensures .1 ∙ ap ended (after-put-words .put-words .ensures .0))
 
 pub listing-line-spec : {M : Type 1} → statement M
 listing-line-spec =

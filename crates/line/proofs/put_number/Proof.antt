@@ -7,25 +7,35 @@ use Rattle.line.proofs.put_number.Tie as tie
 
 put-text-requires : tie.Need-put-text-requires
 put-text-requires c κs =
-    let said = c .before .before .decimal .ensures in
+    let after-decimal : tie.After-decimal = search in
+    let said = after-decimal .decimal .ensures in
     omega (arith, all-digits _ _ (said .1 .0) (said .1 .1) (omega arith))
 
 slice-write-line : tie.Need-slice-write-line
 slice-write-line c =
-    let said = c .before .before .before .before .before .decimal .ensures in
-    omega (arith, c .before .before .put-text .ensures .next, all-digits _ _ (said .1 .0) (said .1 .1) (omega arith))
+    let after-put-text : tie.After-put-text = search in
+    let after-decimal : tie.After-decimal = search in
+    let said = after-decimal .decimal .ensures in
+    omega (arith, after-put-text .put-text .ensures .next, all-digits _ _ (said .1 .0) (said .1 .1) (omega arith))
 
 add-result : tie.Need-add-result
 add-result c =
-    let said = c .before .before .before .before .before .decimal .ensures in
-    omega (arith, c .before .before .put-text .ensures .next, all-digits _ _ (said .1 .0) (said .1 .1) (omega arith))
+    let after-put-text : tie.After-put-text = search in
+    let after-decimal : tie.After-decimal = search in
+    let said = after-decimal .decimal .ensures in
+    omega (arith, after-put-text .put-text .ensures .next, all-digits _ _ (said .1 .0) (said .1 .1) (omega arith))
 
 returns : tie.Need-returns
 returns c =
-    let said = c .before .before .before .before .before .decimal .ensures in
-    let put = c .before .before .put-text .ensures in
-    let most = all-digits _ _ (said .1 .0) (said .1 .1) (omega arith) in
-    (put-spaced _ _ (said .1 .0) (omega arith) (said .1 .1) put (omega (arith, put .next, most)), omega (arith, put .next, most), λ h. omega (arith, put .next, word-digits _ _ (said .1 .0) (said .1 .1) h))
+    let after-put-text : tie.After-put-text = search in
+    let after-decimal : tie.After-decimal = search in
+    let said = after-decimal .decimal .ensures in
+    let put = after-put-text .put-text .ensures in
+    let most = all-digits _ _ (said .1 .0) (said .1 .1) (omega arith) in (
+      put-spaced _ _ (said .1 .0) (omega arith) (said .1 .1) put (omega (arith, put .next, most)),
+      omega (arith, put .next, most),
+      λ h. omega (arith, put .next, word-digits _ _ (said .1 .0) (said .1 .1) h),
+    )
 
 pub put-number-spec : {M : Type 1} → statement M
 put-number-spec =

@@ -19,11 +19,24 @@ abbrev μ-loop : tie.MeasureT-loop
 
 loop-again : tie.Need-loop-again Inv-loop μ-loop
 loop-again c =
-    let text = c .before .before .before .args .text .now in
-    let old = c .before .before .before .args .line .now in
-    let at = c .before .before .before .args .at in
-    let i = c .before .before .loop .i in
-    (search needs, search needs, ap (λ (l : List ℕ). set l (at + i) (getD text i 0)) (c .before .before .loop .inv .2) ∙ rw add-one (paste-suc old at text i 0 (omega arith) (omega arith)))
+    let at-loop : tie.At-loop Inv-loop μ-loop = search in
+    let start : tie.Start Inv-loop μ-loop = search in
+    let text = start .args .text .now in
+    let old = start .args .line .now in
+    let at = start .args .at in
+    let i = at-loop .loop .i in (
+      search needs,
+      search needs,
+      ap (λ (l : List ℕ). set l (at + i) (getD text i 0)) (at-loop .loop .inv .2) ∙ rw add-one
+          (paste-suc old at text i 0 (omega arith) (omega arith)),
+    )
+
+returns : tie.Need-returns Inv-loop μ-loop
+returns c =
+    let at-loop : tie.At-loop Inv-loop μ-loop = search in
+    let start : tie.Start Inv-loop μ-loop = search in
+    put-paste (start .args .line .now) (start .args .text .now) (at-loop .loop .line) (start .args .at)
+    (at-loop .loop .i) (omega arith) (omega arith) (at-loop .loop .inv .2)
 
 pub put-text-spec : {M : Type 1} → statement M
 put-text-spec =
@@ -31,7 +44,7 @@ put-text-spec =
     (tie.spec
     Inv-loop
     μ-loop
-    (λ c. (search needs, search needs, paste-zero (c .args .line .now) (c .args .at) (c .args .text .now)))  -- loop-holds
+    (λ c. search (paste-zero, needs))  -- loop-holds
     (λ c. search needs)  -- shared-slice-read-line
     (λ c. search needs)  -- add-line
     (λ c. search needs)  -- slice-write-line
@@ -40,4 +53,4 @@ put-text-spec =
     loop-again
     (λ c. search needs)  -- add-result
     (λ c. search needs)  -- same-length
-    (λ c. put-paste (c .before .before .args .line .now) (c .before .before .args .text .now) (c .before .loop .line) (c .before .before .args .at) (c .before .loop .i) (omega arith) (omega arith) (c .before .loop .inv .2)))  -- returns
+    returns)

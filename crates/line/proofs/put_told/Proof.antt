@@ -11,15 +11,44 @@ use Rattle.line.proofs.put_told.Tie as tie
 
 returns : tie.Need-returns
 returns c =
-    let told = c .before .before .before .before .before .before .before .before .before .told .given in
-    let front = put-then (put-then (c .before .before .before .before .before .before .before .before .before .before .before .before .before .put-text .ensures) (c .before .before .before .before .before .before .put-number .ensures .0)) (c .before .before .put-number2 .ensures .0) .front in
-    (front ∙ spelled-two refused (told .0 .0) (told .0 .1 .0) ∙ ap (λ (s : Told). refused ++ spelled (toldSays s .number ∷ toldSays s .values)) (sym (told .1)), omega (arith, c .before .before .before .before .before .before .before .before .before .before .before .before .before .put-text .ensures .next, c .before .before .before .before .before .before .put-number .ensures .1, c .before .before .put-number2 .ensures .1))
+    let after-put-number2 : tie.After-put-number2 = search in
+    let after-put-number : tie.After-put-number = search in
+    let after-told : tie.After-told = search in
+    let after-put-text : tie.After-put-text = search in
+    let told = after-told .told .given in
+    let front = put-then (put-then (after-put-text .put-text .ensures) (after-put-number .put-number .ensures .0))
+    (after-put-number2 .put-number2 .ensures .0) .front in (
+      front ∙ spelled-two refused (told .0 .0) (told .0 .1 .0) ∙ ap
+          (λ (s : Told). refused ++ spelled (toldSays s .number ∷ toldSays s .values)) (sym (told .1)),
+      omega (
+        arith,
+        after-put-text .put-text .ensures .next,
+        after-put-number .put-number .ensures .1,
+        after-put-number2 .put-number2 .ensures .1,
+      ),
+    )
 
 returns-2 : tie.Need-returns-2
 returns-2 c =
-    let told = c .before .before .before .before .before .before .before .before .before .before .before .before .before .told2 .given in
-    let front = put-then (put-then (put-then (c .before .before .before .before .before .before .before .before .before .before .before .before .before .before .before .before .before .put-text .ensures) (c .before .before .before .before .before .before .before .before .before .before .put-number3 .ensures .0)) (c .before .before .before .before .before .before .put-number4 .ensures .0)) (c .before .before .put-number5 .ensures .0) .front in
-    (front ∙ spelled-three refused (told .0 .0) (told .0 .1 .0) (told .0 .1 .1 .0) ∙ ap (λ (s : Told). refused ++ spelled (toldSays s .number ∷ toldSays s .values)) (sym (told .1)), omega (arith, c .before .before .before .before .before .before .before .before .before .before .before .before .before .before .before .before .before .put-text .ensures .next, c .before .before .before .before .before .before .before .before .before .before .put-number3 .ensures .1, c .before .before .before .before .before .before .put-number4 .ensures .1, c .before .before .put-number5 .ensures .1))
+    let after-put-number5 : tie.After-put-number5 = search in
+    let after-put-number4 : tie.After-put-number4 = search in
+    let after-put-number3 : tie.After-put-number3 = search in
+    let after-told2 : tie.After-told2 = search in
+    let after-put-text : tie.After-put-text = search in
+    let told = after-told2 .told2 .given in
+    let front = put-then
+    (put-then (put-then (after-put-text .put-text .ensures) (after-put-number3 .put-number3 .ensures .0))
+    (after-put-number4 .put-number4 .ensures .0)) (after-put-number5 .put-number5 .ensures .0) .front in (
+      front ∙ spelled-three refused (told .0 .0) (told .0 .1 .0) (told .0 .1 .1 .0) ∙ ap
+          (λ (s : Told). refused ++ spelled (toldSays s .number ∷ toldSays s .values)) (sym (told .1)),
+      omega (
+        arith,
+        after-put-text .put-text .ensures .next,
+        after-put-number3 .put-number3 .ensures .1,
+        after-put-number4 .put-number4 .ensures .1,
+        after-put-number5 .put-number5 .ensures .1,
+      ),
+    )
 
 pub put-told-spec : {M : Type 1} → statement M
 put-told-spec =

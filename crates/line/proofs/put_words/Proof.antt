@@ -21,20 +21,35 @@ loop-holds : tie.Need-loop-holds Inv-loop μ-loop
 unfolding spelled
 loop-holds c = (search needs, search needs, search needs, refl)
 
+cast-put-number : tie.Need-cast-put-number Inv-loop μ-loop
+cast-put-number c =
+    let at-loop : tie.At-loop Inv-loop μ-loop = search in
+    omega (arith, c .shared-slice-known2 .given (at-loop .loop .i))
+
 loop-again : tie.Need-loop-again Inv-loop μ-loop
 loop-again c =
-    let words = c .before .before .before .before .before .before .before .before .before .args .words .now in
-    let i = c .before .before .before .before .before .before .loop .i in
-    let put = c .before .before .put-number .ensures in
-    let inv = c .before .before .before .before .before .before .loop .inv in
-    let word : getD words i 0 < 2 ^ 32 = omega (arith, c .before .before .before .shared-slice-known2 .given i) in
-    (search needs, omega (arith, put .2 word), search needs, put .0 .front ∙ ap (λ (l : List ℕ). l ++ spaced (getD words i 0)) (inv .3) ∙ spelled-next words i (omega arith))
+    let after-put-number : tie.After-put-number Inv-loop μ-loop = search in
+    let after-shared-slice-known2 : tie.After-shared-slice-known2 Inv-loop μ-loop = search in
+    let at-loop : tie.At-loop Inv-loop μ-loop = search in
+    let start : tie.Start Inv-loop μ-loop = search in
+    let words = start .args .words .now in
+    let i = at-loop .loop .i in
+    let put = after-put-number .put-number .ensures in
+    let inv = at-loop .loop .inv in
+    let word : getD words i 0 < 2 ^ 32 = omega (arith, after-shared-slice-known2 .shared-slice-known2 .given i) in (
+      search needs,
+      omega (arith, put .2 word),
+      search needs,
+      put .0 .front ∙ ap (λ (l : List ℕ). l ++ spaced (getD words i 0)) (inv .3) ∙ spelled-next words i (omega arith),
+    )
 
 returns : tie.Need-returns Inv-loop μ-loop
 returns c =
-    let words = c .before .before .before .before .args .words .now in
-    let e : c .before .loop .i ≡ length words = omega arith in
-    (c .before .loop .inv .3 ∙ ap (λ (n : ℕ). spelled (take n words)) e ∙ ap spelled (take-length words), omega arith)
+    let at-loop : tie.At-loop Inv-loop μ-loop = search in
+    let start : tie.Start Inv-loop μ-loop = search in
+    let words = start .args .words .now in
+    let e : at-loop .loop .i ≡ length words = omega arith in
+    (at-loop .loop .inv .3 ∙ ap (λ (n : ℕ). spelled (take n words)) e ∙ ap spelled (take-length words), omega arith)
 
 pub put-words-spec : {M : Type 1} → statement M
 put-words-spec =
@@ -45,7 +60,7 @@ put-words-spec =
     loop-holds
     (λ c. search needs)  -- mul-put-number
     (λ c. search needs)  -- shared-slice-read-put-number
-    (λ c. omega (arith, c .shared-slice-known2 .given (c .before .before .before .loop .i)))  -- cast-put-number
+    cast-put-number
     (λ c κs. search needs)  -- put-number-requires
     (λ c. search needs)  -- add-i
     (λ c. search needs)  -- loop-less

@@ -10,7 +10,13 @@ use Rattle.line.proofs.refusal_line.Tie as tie
 returns : tie.Need-returns
 unfolding refusalLine
 returns c =
-    (c .before .before .end .ensures .0, c .before .before .end .ensures .1 ∙ ap ended (c .before .before .before .before .before .before .put-told .ensures .0 ∙ ap (λ (s : Said). refused ++ spelled (s .number ∷ s .values)) (c .before .before .before .before .before .before .before .told-of .ensures)))
+    let after-end : tie.After-end = search in
+    let after-put-told : tie.After-put-told = search in
+    let after-told-of : tie.After-told-of = search in (
+      after-end .end .ensures .0,
+      after-end .end .ensures .1 ∙ ap ended (after-put-told .put-told .ensures .0 ∙ ap (λ (s : Said). refused ++
+          spelled (s .number ∷ s .values)) (after-told-of .told-of .ensures)),
+    )
 
 pub refusal-line-spec : {M : Type 1} → statement M
 refusal-line-spec =

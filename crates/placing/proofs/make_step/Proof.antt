@@ -7,18 +7,60 @@ use borrow.Author.Needs.{needs}
 use Rattle.placing.proofs.make_step.Statement.{statement}
 use Rattle.placing.proofs.make_step.Tie as tie
 
+make-list-requires : tie.Need-make-list-requires
+make-list-requires c κs = (
+  let start : tie.Start = search in start .pre .0,
+  let after-rows : tie.After-rows = search in let e = after-rows .rows .ensures in omega arith,
+  let after-step-count : tie.After-step-count = search in let after-step-first : tie.After-step-first = search in
+      let after-rows : tie.After-rows = search in let start : tie.Start = search in let e
+      = after-rows .rows .ensures in rw e
+      (span-step (start .args .book .now) (start .pre .0) _ _ _ (start .pre .1)
+      (after-step-first .step-first .ensures .0) (after-step-count .step-count .ensures .0)),
+  search needs,
+)
+
+narrow-requires : tie.Need-narrow-requires
+narrow-requires c κs =
+    let after-make-list : tie.After-make-list = search in
+    let after-step-count : tie.After-step-count = search in
+    let after-step-first : tie.After-step-first = search in
+    let start : tie.Start = search in
+    let k = sent-few _ (start .pre .0) _ (start .pre .1) _ _ _ (after-step-first .step-first .ensures .0)
+    (after-step-count .step-count .ensures .0) (start .pre .2) (after-make-list .make-list .ensures) in
+    omega arith
+
+add-here : tie.Need-add-here
+add-here c =
+    let after-make-list : tie.After-make-list = search in
+    let after-step-count : tie.After-step-count = search in
+    let after-step-first : tie.After-step-first = search in
+    let start : tie.Start = search in
+    let k = sent-few _ (start .pre .0) _ (start .pre .1) _ _ _ (after-step-first .step-first .ensures .0)
+    (after-step-count .step-count .ensures .0) (start .pre .2) (after-make-list .make-list .ensures) in
+    omega arith
+
+add-here-2 : tie.Need-add-here-2
+add-here-2 c =
+    let after-make-list : tie.After-make-list = search in
+    let after-step-count : tie.After-step-count = search in
+    let after-step-first : tie.After-step-first = search in
+    let start : tie.Start = search in
+    let k = sent-few _ (start .pre .0) _ (start .pre .1) _ _ _ (after-step-first .step-first .ensures .0)
+    (after-step-count .step-count .ensures .0) (start .pre .2) (after-make-list .make-list .ensures) in
+    omega arith
+
 pub make-step-spec : {M : Type 1} → statement M
 make-step-spec =
     tie.close
     (tie.spec
-    (λ c κs. valid-headed _ (c .before .before .before .pre .0))  -- rows-requires
-    (λ c κs. (valid-headed _ (c .before .before .before .before .pre .0), c .before .before .before .before .pre .1))  -- step-first-requires
-    (λ c κs. (valid-headed _ (c .before .before .before .before .before .pre .0), c .before .before .before .before .before .pre .1))  -- step-count-requires
+    (λ c κs. search valid-headed)  -- rows-requires
+    (λ c κs. search (valid-headed, needs))  -- step-first-requires
+    (λ c κs. search (valid-headed, needs))  -- step-count-requires
     (λ c. search needs)  -- sub-make-list
     (λ c. search needs)  -- part-out-start
     (λ c. search needs)  -- part-out-end
-    (λ c κs. let e = c .before .before .before .rows .ensures in (c .before .before .before .before .before .before .before .pre .0, omega arith, rw e (span-step (c .before .before .before .before .before .before .before .args .book .now) (c .before .before .before .before .before .before .before .pre .0) _ _ _ (c .before .before .before .before .before .before .before .pre .1) (c .before .before .step-first .ensures .0) (c .before .step-count .ensures .0)), search needs))  -- make-list-requires
-    (λ c κs. let k = sent-few (c .before .before .before .before .before .before .before .before .before .before .args .book .now) (c .before .before .before .before .before .before .before .before .before .before .pre .0) (c .before .before .before .before .before .before .before .before .before .before .args .step) (c .before .before .before .before .before .before .before .before .before .before .pre .1) (c .before .before .before .before .before .before .before .before .before .before .args .before) _ _ (c .before .before .before .before .before .step-first .ensures .0) (c .before .before .before .before .step-count .ensures .0) (c .before .before .before .before .before .before .before .before .before .before .pre .2) (c .before .before .make-list .ensures) in omega arith)  -- narrow-requires
-    (λ c. let k = sent-few (c .before .before .before .before .before .before .before .before .before .before .before .before .args .book .now) (c .before .before .before .before .before .before .before .before .before .before .before .before .pre .0) (c .before .before .before .before .before .before .before .before .before .before .before .before .args .step) (c .before .before .before .before .before .before .before .before .before .before .before .before .pre .1) (c .before .before .before .before .before .before .before .before .before .before .before .before .args .before) _ _ (c .before .before .before .before .before .before .before .step-first .ensures .0) (c .before .before .before .before .before .before .step-count .ensures .0) (c .before .before .before .before .before .before .before .before .before .before .before .before .pre .2) (c .before .before .before .before .make-list .ensures) in let m = c .before .narrow .ensures in omega arith)  -- add-here
-    (λ c. let k = sent-few (c .before .before .before .before .before .before .before .before .before .before .before .before .args .book .now) (c .before .before .before .before .before .before .before .before .before .before .before .before .pre .0) (c .before .before .before .before .before .before .before .before .before .before .before .before .args .step) (c .before .before .before .before .before .before .before .before .before .before .before .before .pre .1) (c .before .before .before .before .before .before .before .before .before .before .before .before .args .before) _ _ (c .before .before .before .before .before .before .before .step-first .ensures .0) (c .before .before .before .before .before .before .step-count .ensures .0) (c .before .before .before .before .before .before .before .before .before .before .before .before .pre .2) (c .before .before .before .before .make-list .ensures) in let m = c .before .narrow .ensures in omega arith)  -- add-here-2
-    (λ c. sent-counts (c .before .before .before .before .before .before .before .before .before .before .before .before .args .book .now) (c .before .before .before .before .before .before .before .before .before .before .before .before .pre .0) (c .before .before .before .before .before .before .before .before .before .before .before .before .args .step) (c .before .before .before .before .before .before .before .before .before .before .before .before .pre .1) (c .before .before .before .before .before .before .before .before .before .before .before .before .args .before) _ _ (c .before .before .before .before .before .before .before .step-first .ensures .0) (c .before .before .before .before .before .before .step-count .ensures .0) (c .before .before .before .before .before .before .before .before .before .before .before .before .pre .2) (c .before .before .before .before .make-list .ensures) _ (c .before .narrow .ensures)))  -- returns
+    make-list-requires
+    narrow-requires
+    add-here
+    add-here-2
+    (λ c. search sent-counts))  -- returns

@@ -6,21 +6,94 @@ use borrow.Author.Needs.{needs}
 use Rattle.placing.proofs.place_step.Statement.{statement}
 use Rattle.placing.proofs.place_step.Tie as tie
 
+sub-sends : tie.Need-sub-sends
+sub-sends c =
+    let after-make-step : tie.After-make-step = search in
+    let start : tie.Start = search in
+    let k = sent-some _ (start .pre .0) (start .args .party) _ (start .pre .1) (after-make-step .make-step .ensures)
+    in
+    omega arith
+
+mul-sends : tie.Need-mul-sends
+mul-sends c =
+    let start : tie.Start = search in
+    let m = valid-headed _ (start .pre .0) .fewSteps in
+    omega arith
+
+element-write-sends : tie.Need-element-write-sends
+element-write-sends c =
+    let start : tie.Start = search in
+    let m = valid-headed _ (start .pre .0) .fewSteps in
+    omega arith
+
+returns : tie.Need-returns
+returns c =
+    let after-make-step : tie.After-make-step = search in
+    let then1 : tie.Then1 = search in
+    let after-step-sender : tie.After-step-sender = search in
+    let start : tie.Start = search in
+    step-sent _ (start .pre .0) _ _ (start .pre .1) _ _ (after-step-sender .step-sender .ensures) (then1 .if1 .taken)
+    (c .wide .ensures .0) (start .pre .4) (after-make-step .make-step .ensures)
+
+mul-receives : tie.Need-mul-receives
+mul-receives c =
+    let start : tie.Start = search in
+    let m = valid-headed _ (start .pre .0) .fewSteps in
+    omega arith
+
+element-write-receives : tie.Need-element-write-receives
+element-write-receives c =
+    let start : tie.Start = search in
+    let m = valid-headed _ (start .pre .0) .fewSteps in
+    omega arith
+
+take-step-requires : tie.Need-take-step-requires
+take-step-requires c κs =
+    let then2 : tie.Then2 = search in
+    let after-step-receiver : tie.After-step-receiver = search in
+    let start : tie.Start = search in (
+      start .pre .0,
+      start .pre .1,
+      through-as _ (start .pre .0) _ _ (start .pre .1) _ _ _ (after-step-receiver .step-receiver .ensures)
+          (then2 .if2 .taken) (start .pre .3),
+    )
+
+returns-2 : tie.Need-returns-2
+returns-2 c =
+    let after-wide2 : tie.After-wide2 = search in
+    let then2 : tie.Then2 = search in
+    let after-step-receiver : tie.After-step-receiver = search in
+    let else1 : tie.Else1 = search in
+    let after-step-sender : tie.After-step-sender = search in
+    let start : tie.Start = search in
+    step-received _ (start .pre .0) _ _ (start .pre .1) _ _ _ (after-step-sender .step-sender .ensures)
+    (else1 .if1 .left) (after-step-receiver .step-receiver .ensures) (then2 .if2 .taken)
+    (after-wide2 .wide2 .ensures .0) (start .pre .5) (start .pre .3) (c .take-step .ensures)
+
+returns-3 : tie.Need-returns-3
+returns-3 c =
+    let after-step-receiver : tie.After-step-receiver = search in
+    let else1 : tie.Else1 = search in
+    let after-step-sender : tie.After-step-sender = search in
+    let start : tie.Start = search in
+    step-idles _ (start .pre .0) _ _ (start .pre .1) _ _ (after-step-sender .step-sender .ensures) (else1 .if1 .left)
+    (after-step-receiver .step-receiver .ensures) (c .if2 .left) (start .pre .3)
+
 pub place-step-spec : {M : Type 1} → statement M
 place-step-spec =
     tie.close
     (tie.spec
-    (λ c κs. (valid-headed _ (c .before .pre .0), c .before .pre .1))  -- step-sender-requires
-    (λ c κs. (c .before .before .before .pre .0, c .before .before .before .pre .1, through-as (c .before .before .before .args .book .now) (c .before .before .before .pre .0) (c .before .before .before .args .party) (c .before .before .before .args .step) (c .before .before .before .pre .1) _ _ _ (c .before .step-sender .ensures) (c .if1 .taken) (c .before .before .before .pre .3)))  -- make-step-requires
-    (λ c. let k = sent-some (c .before .before .before .before .before .args .book .now) (c .before .before .before .before .before .pre .0) (c .before .before .before .before .before .args .party) (c .before .before .before .before .before .args .step) (c .before .before .before .before .before .pre .1) (c .before .make-step .ensures) in omega arith)  -- sub-sends
+    (λ c κs. search (valid-headed, needs))  -- step-sender-requires
+    (λ c κs. search (through-as, needs))  -- make-step-requires
+    sub-sends
     (λ c κs. search needs)  -- wide-requires
-    (λ c. let k = c .wide .ensures in let m = valid-headed _ (c .before .before .before .before .before .before .pre .0) .fewSteps in let h = c .before .before .before .before .before .before .pre .1 in omega arith)  -- mul-sends
-    (λ c. let k = c .wide .ensures in let m = valid-headed _ (c .before .before .before .before .before .before .pre .0) .fewSteps in let h = c .before .before .before .before .before .before .pre .1 in omega arith)  -- element-write-sends
-    (λ c. step-sent (c .before .before .before .before .before .before .args .book .now) (c .before .before .before .before .before .before .pre .0) (c .before .before .before .before .before .before .args .party) (c .before .before .before .before .before .before .args .step) (c .before .before .before .before .before .before .pre .1) _ _ (c .before .before .before .before .step-sender .ensures) (c .before .before .before .if1 .taken) (c .wide .ensures .0) (c .before .before .before .before .before .before .pre .4) (c .before .before .make-step .ensures))  -- returns
-    (λ c κs. (valid-headed _ (c .before .before .before .pre .0), c .before .before .before .pre .1))  -- step-receiver-requires
+    mul-sends
+    element-write-sends
+    returns
+    (λ c κs. search (valid-headed, needs))  -- step-receiver-requires
     (λ c κs. search needs)  -- wide-requires-2
-    (λ c. let k = c .wide2 .ensures in let m = valid-headed _ (c .before .before .before .before .before .before .pre .0) .fewSteps in let h = c .before .before .before .before .before .before .pre .1 in omega arith)  -- mul-receives
-    (λ c. let k = c .wide2 .ensures in let m = valid-headed _ (c .before .before .before .before .before .before .pre .0) .fewSteps in let h = c .before .before .before .before .before .before .pre .1 in omega arith)  -- element-write-receives
-    (λ c κs. (c .before .before .before .before .before .before .pre .0, c .before .before .before .before .before .before .pre .1, through-as (c .before .before .before .before .before .before .args .book .now) (c .before .before .before .before .before .before .pre .0) (c .before .before .before .before .before .before .args .party) (c .before .before .before .before .before .before .args .step) (c .before .before .before .before .before .before .pre .1) _ _ _ (c .before .before .step-receiver .ensures) (c .before .if2 .taken) (c .before .before .before .before .before .before .pre .3)))  -- take-step-requires
-    (λ c. step-received (c .before .before .before .before .before .before .before .args .book .now) (c .before .before .before .before .before .before .before .pre .0) (c .before .before .before .before .before .before .before .args .party) (c .before .before .before .before .before .before .before .args .step) (c .before .before .before .before .before .before .before .pre .1) _ _ _ (c .before .before .before .before .before .step-sender .ensures) (c .before .before .before .before .if1 .left) (c .before .before .before .step-receiver .ensures) (c .before .before .if2 .taken) (c .before .wide2 .ensures .0) (c .before .before .before .before .before .before .before .pre .5) (c .before .before .before .before .before .before .before .pre .3) (c .take-step .ensures))  -- returns-2
-    (λ c. step-idles (c .before .before .before .before .before .args .book .now) (c .before .before .before .before .before .pre .0) (c .before .before .before .before .before .args .party) (c .before .before .before .before .before .args .step) (c .before .before .before .before .before .pre .1) _ _ (c .before .before .before .step-sender .ensures) (c .before .before .if1 .left) (c .before .step-receiver .ensures) (c .if2 .left) (c .before .before .before .before .before .pre .3)))  -- returns-3
+    mul-receives
+    element-write-receives
+    take-step-requires
+    returns-2
+    returns-3)

@@ -17,6 +17,14 @@ Inv-loop book first n bound j₀ j = (j ≤ n) × ((k : ℕ) → k < j → leb b
 abbrev μ-loop : tie.MeasureT-loop
 μ-loop book first n bound j₀ j = n - j
 
+loop-again : tie.Need-loop-again Inv-loop μ-loop
+loop-again c =
+    let after-pooled : tie.After-pooled Inv-loop μ-loop = search in
+    let at-loop : tie.At-loop Inv-loop μ-loop = search in (
+      search needs,
+      below-more _ _ (at-loop .loop .inv .1) (leb-no _ _ _ _ refl (after-pooled .pooled .ensures) (c .if1 .left)),
+    )
+
 pub entry-breaks-spec : {M : Type 1} → statement M
 entry-breaks-spec =
     tie.close
@@ -24,9 +32,9 @@ entry-breaks-spec =
     Inv-loop
     μ-loop
     (λ c. (search needs, λ k h. absurd (omega arith)))  -- loop-holds
-    (λ c κs. (c .before .before .before .pre .0, omega arith))  -- pooled-requires
-    (λ c. found _ _ _ (omega arith) (leb-yes _ _ _ _ refl (c .before .pooled .ensures) (let t = c .if1 .taken in omega arith)))  -- returns
+    (λ c κs. search needs)  -- pooled-requires
+    (λ c. search (found, leb-yes, needs))  -- returns
     (λ c. search needs)  -- add-j
     (λ c. search needs)  -- loop-less
-    (λ c. (search needs, below-more _ _ (c .before .before .before .loop .inv .1) (leb-no _ _ _ _ refl (c .before .pooled .ensures) (c .if1 .left))))  -- loop-again
-    (λ c. passed _ _ _ (omega arith) (c .before .loop .inv .1)))  -- returns-2
+    loop-again
+    (λ c. search passed))  -- returns-2

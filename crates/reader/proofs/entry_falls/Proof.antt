@@ -17,6 +17,27 @@ Inv-loop book first n j₀ j = (j ≤ n) × ((k : ℕ) → k < j → leb (pooled
 abbrev μ-loop : tie.MeasureT-loop
 μ-loop book first n j₀ j = n - j
 
+returns : tie.Need-returns Inv-loop μ-loop
+returns c =
+    let after-pooled2 : tie.After-pooled2 Inv-loop μ-loop = search in
+    let after-pooled : tie.After-pooled Inv-loop μ-loop = search in
+    found _ _ _ (omega arith)
+    (leb-yes _ _ _ _ (after-pooled .pooled .ensures) (after-pooled2 .pooled2 .ensures)
+    (let t = c .if1 .taken in omega arith))
+
+loop-again : tie.Need-loop-again Inv-loop μ-loop
+loop-again c =
+    let after-pooled2 : tie.After-pooled2 Inv-loop μ-loop = search in
+    let after-pooled : tie.After-pooled Inv-loop μ-loop = search in
+    let at-loop : tie.At-loop Inv-loop μ-loop = search in (
+      search needs,
+      below-more _ _ (at-loop .loop .inv .1)
+          (leb-no _ _ _ _ (after-pooled .pooled .ensures) (after-pooled2 .pooled2 .ensures) (c .if1 .left)),
+    )
+
+returns-2 : tie.Need-returns-2 Inv-loop μ-loop
+returns-2 c = let at-loop : tie.At-loop Inv-loop μ-loop = search in passed _ _ _ (omega arith) (at-loop .loop .inv .1)
+
 pub entry-falls-spec : {M : Type 1} → statement M
 entry-falls-spec =
     tie.close
@@ -26,10 +47,10 @@ entry-falls-spec =
     (λ c. (search needs, λ k h. absurd (omega arith)))  -- loop-holds
     (λ c. search needs)  -- add-loop
     (λ c. search needs)  -- add-pooled
-    (λ c κs. (c .before .before .before .pre .0, omega arith))  -- pooled-requires
-    (λ c κs. (c .before .before .before .before .pre .0, omega arith))  -- pooled-requires-2
-    (λ c. found _ _ _ (omega arith) (leb-yes _ _ _ _ (c .before .before .pooled .ensures) (c .before .pooled2 .ensures) (let t = c .if1 .taken in omega arith)))  -- returns
+    (λ c κs. search needs)  -- pooled-requires
+    (λ c κs. search needs)  -- pooled-requires-2
+    returns
     (λ c. search needs)  -- add-j
     (λ c. search needs)  -- loop-less
-    (λ c. (search needs, below-more _ _ (c .before .before .before .before .loop .inv .1) (leb-no _ _ _ _ (c .before .before .pooled .ensures) (c .before .pooled2 .ensures) (c .if1 .left))))  -- loop-again
-    (λ c. passed _ _ _ (omega arith) (c .before .loop .inv .1)))  -- returns-2
+    loop-again
+    returns-2)

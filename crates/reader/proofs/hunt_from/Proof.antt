@@ -16,18 +16,54 @@ Inv-loop book row first n from₀ j₀ from j = (j ≤ n) × ((k : ℕ) → k < 
 abbrev μ-loop : tie.MeasureT-loop
 μ-loop book row first n from₀ j₀ from j = n - j
 
+add-from : tie.Need-add-from Inv-loop μ-loop
+add-from c =
+    let after-pooled : tie.After-pooled Inv-loop μ-loop = search in
+    let in-loop : tie.In-loop Inv-loop μ-loop = search in
+    let after-row-count : tie.After-row-count Inv-loop μ-loop = search in
+    let after-row-first : tie.After-row-first Inv-loop μ-loop = search in
+    let start : tie.Start Inv-loop μ-loop = search in
+    let i = (part-before _ (start .pre .1) _ (start .pre .2) _ _ (after-row-first .row-first .ensures .0)
+    (after-row-count .row-count .ensures .0) _ _ (in-loop .loop-test .taken) (after-pooled .pooled .ensures)) in
+    omega arith
+
+loop-again : tie.Need-loop-again Inv-loop μ-loop
+loop-again c =
+    let after-pooled : tie.After-pooled Inv-loop μ-loop = search in
+    let in-loop : tie.In-loop Inv-loop μ-loop = search in
+    let at-loop : tie.At-loop Inv-loop μ-loop = search in
+    let after-row-count : tie.After-row-count Inv-loop μ-loop = search in
+    let after-row-first : tie.After-row-first Inv-loop μ-loop = search in
+    let start : tie.Start Inv-loop μ-loop = search in (
+      let t = in-loop .loop-test .taken in omega arith,
+      elim (c .if1 .came) [
+        | inl w ↦ (λ k h. before-part _ (start .pre .1) _ (start .pre .2) _ _ _ _
+            (after-row-first .row-first .ensures .0) (after-row-count .row-count .ensures .0)
+            (in-loop .loop-test .taken) (after-pooled .pooled .ensures) k (let e = w .1 in omega arith))
+        | inr w ↦
+            (λ k h. at-loop .loop .inv .1 k (let e = w .1 in omega arith))
+      ],
+      elim (c .if1 .came) [
+        | inl w ↦ (let i = (part-before _ (start .pre .1) _ (start .pre .2) _ _
+            (after-row-first .row-first .ensures .0) (after-row-count .row-count .ensures .0) _ _
+            (in-loop .loop-test .taken) (after-pooled .pooled .ensures)) in let e = w .1 in omega arith)
+        | inr w ↦
+            (let e = w .1 in let h = at-loop .loop .inv .2 in omega arith)
+      ],
+    )
+
 pub hunt-from-spec : {M : Type 1} → statement M
 hunt-from-spec =
     tie.close
     (tie.spec
     Inv-loop
     μ-loop
-    (λ c κs. (c .before .pre .0, c .before .pre .2))  -- row-first-requires
-    (λ c κs. (c .before .before .pre .0, c .before .before .pre .2))  -- row-count-requires
+    (λ c κs. search needs)  -- row-first-requires
+    (λ c κs. search needs)  -- row-count-requires
     (λ c. (omega arith, λ k h. absurd (omega arith), omega arith))  -- loop-holds
-    (λ c κs. (c .before .before .before .before .before .pre .0, part-inside (c .before .before .before .before .before .args .book .now) (c .before .before .before .before .before .pre .1) (c .before .before .before .before .before .args .row) (c .before .before .before .before .before .pre .2) _ _ (c .before .before .before .row-first .ensures .0) (c .before .before .row-count .ensures .0) _ (c .loop-test .taken)))  -- pooled-requires
-    (λ c. let i = (part-before (c .before .before .before .before .before .before .before .args .book .now) (c .before .before .before .before .before .before .before .pre .1) (c .before .before .before .before .before .before .before .args .row) (c .before .before .before .before .before .before .before .pre .2) _ _ (c .before .before .before .before .before .row-first .ensures .0) (c .before .before .before .before .row-count .ensures .0) _ _ (c .before .before .loop-test .taken) (c .before .pooled .ensures)) in omega arith)  -- add-from
+    (λ c κs. search (part-inside, needs))  -- pooled-requires
+    add-from
     (λ c. search needs)  -- add-j
     (λ c. search needs)  -- loop-less
-    (λ c. (let t = c .before .before .loop-test .taken in omega arith, elim (c .if1 .came) [ inl w ↦ (λ k h. before-part (c .before .before .before .before .before .before .before .args .book .now) (c .before .before .before .before .before .before .before .pre .1) (c .before .before .before .before .before .before .before .args .row) (c .before .before .before .before .before .before .before .pre .2) _ _ _ _ (c .before .before .before .before .before .row-first .ensures .0) (c .before .before .before .before .row-count .ensures .0) (c .before .before .loop-test .taken) (c .before .pooled .ensures) k (let e = w .1 in omega arith)) | inr w ↦ (λ k h. c .before .before .before .loop .inv .1 k (let e = w .1 in omega arith)) ], elim (c .if1 .came) [ inl w ↦ (let i = (part-before (c .before .before .before .before .before .before .before .args .book .now) (c .before .before .before .before .before .before .before .pre .1) (c .before .before .before .before .before .before .before .args .row) (c .before .before .before .before .before .before .before .pre .2) _ _ (c .before .before .before .before .before .row-first .ensures .0) (c .before .before .before .before .row-count .ensures .0) _ _ (c .before .before .loop-test .taken) (c .before .pooled .ensures)) in let e = w .1 in omega arith) | inr w ↦ (let e = w .1 in let h = c .before .before .before .loop .inv .2 in omega arith) ]))  -- loop-again
-    (λ c. (c .before .loop .inv .1, c .before .loop .inv .2)))  -- returns
+    loop-again
+    (λ c. search needs))  -- returns

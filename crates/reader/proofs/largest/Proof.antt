@@ -4,7 +4,9 @@ use Rattle.reader.proofs.largest.Statement.{statement}
 use Rattle.reader.proofs.largest.Tie as tie
 
 pub largest-spec : {M : Type 1} → statement M
-largest-spec = tie.close (tie.spec
+largest-spec =
+    tie.close
+    (tie.spec
     (λ c. search largest-0)  -- returns
     (λ c. search largest-1)  -- returns-2
     (λ c. search largest-2)  -- returns-3

@@ -5,6 +5,12 @@ use borrow.Author.Needs.{needs}
 use Rattle.reader.proofs.list_breaks.Statement.{statement}
 use Rattle.reader.proofs.list_breaks.Tie as tie
 
+entry-breaks-requires : tie.Need-entry-breaks-requires
+entry-breaks-requires c κs =
+    let after-pool : tie.After-pool = search in
+    let start : tie.Start = search in
+    (start .pre .0, let e = after-pool .pool .ensures in omega arith)
+
 pub list-breaks-spec : {M : Type 1} → statement M
 list-breaks-spec =
     tie.close
@@ -15,5 +21,5 @@ list-breaks-spec =
     (λ c κs. search needs)  -- pool-requires
     (λ c. search needs)  -- add-if4
     (λ c. search list-pool)  -- returns-4
-    (λ c κs. (c .before .before .before .before .before .before .pre .0, let e = c .before .pool .ensures in omega arith))  -- entry-breaks-requires
+    entry-breaks-requires
     (λ c. search list-entries))  -- returns-5

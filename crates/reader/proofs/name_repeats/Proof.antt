@@ -17,6 +17,17 @@ Inv-loop book party own k₀ k = (k ≤ party) × ((m : ℕ) → m < k → eqb (
 abbrev μ-loop : tie.MeasureT-loop
 μ-loop book party own k₀ k = party - k
 
+loop-again : tie.Need-loop-again Inv-loop μ-loop
+loop-again c =
+    let after-party-name2 : tie.After-party-name2 Inv-loop μ-loop = search in
+    let at-loop : tie.At-loop Inv-loop μ-loop = search in
+    let after-party-name : tie.After-party-name Inv-loop μ-loop = search in (
+      search needs,
+      below-more _ _ (at-loop .loop .inv .1)
+          (eqb-no _ _ _ _ (after-party-name2 .party-name2 .ensures) (after-party-name .party-name .ensures)
+          (c .if1 .left)),
+    )
+
 pub name-repeats-spec : {M : Type 1} → statement M
 name-repeats-spec =
     tie.close
@@ -25,9 +36,9 @@ name-repeats-spec =
     μ-loop
     (λ c κs. search needs)  -- party-name-requires
     (λ c. (search needs, λ m h. absurd (omega arith)))  -- loop-holds
-    (λ c κs. (c .before .before .before .before .pre .0, omega arith))  -- party-name-requires-2
-    (λ c. found _ _ _ (omega arith) (eqb-yes _ _ _ _ (c .before .party-name2 .ensures) (c .before .before .before .before .party-name .ensures) (c .if1 .taken)))  -- returns
+    (λ c κs. search needs)  -- party-name-requires-2
+    (λ c. search (found, eqb-yes, needs))  -- returns
     (λ c. search needs)  -- add-k
     (λ c. search needs)  -- loop-less
-    (λ c. (search needs, below-more _ _ (c .before .before .before .loop .inv .1) (eqb-no _ _ _ _ (c .before .party-name2 .ensures) (c .before .before .before .before .party-name .ensures) (c .if1 .left))))  -- loop-again
-    (λ c. passed _ _ _ (omega arith) (c .before .loop .inv .1)))  -- returns-2
+    loop-again
+    (λ c. search passed))  -- returns-2

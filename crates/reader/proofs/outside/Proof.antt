@@ -4,6 +4,8 @@ use Rattle.reader.proofs.outside.Statement.{statement}
 use Rattle.reader.proofs.outside.Tie as tie
 
 pub outside-spec : {M : Type 1} → statement M
-outside-spec = tie.close (tie.spec
+outside-spec =
+    tie.close
+    (tie.spec
     (λ c. search outside-below)  -- returns
     (λ c. search outside-above))  -- returns-2

@@ -20,6 +20,53 @@ Inv-loop book n sizes₀ row₀ sizes row = (row ≤ n) × ((k : ℕ) → k < ro
 abbrev μ-loop : tie.MeasureT-loop
 μ-loop book n sizes₀ row₀ sizes row = n - row
 
+loop-holds : tie.Need-loop-holds Inv-loop μ-loop
+loop-holds c =
+    (search needs, (λ k h. absurd (omega arith)), (λ k h. absurd (omega arith)), length-replicate {A = ℕ} 1024 0)
+
+row-size-requires : tie.Need-row-size-requires Inv-loop μ-loop
+row-size-requires c κs =
+    let at-loop : tie.At-loop Inv-loop μ-loop = search in
+    let after-rows : tie.After-rows Inv-loop μ-loop = search in
+    let start : tie.Start Inv-loop μ-loop = search in (
+      start .pre .0,
+      start .pre .1,
+      (let e = after-rows .rows .ensures in omega arith),
+      at-loop .loop .inv .2,
+      λ k h. size-fits _ k (at-loop .loop .inv .1 k h),
+    )
+
+returns : tie.Need-returns Inv-loop μ-loop
+returns c =
+    let after-row-size : tie.After-row-size Inv-loop μ-loop = search in
+    let at-loop : tie.At-loop Inv-loop μ-loop = search in
+    let after-rows : tie.After-rows Inv-loop μ-loop = search in
+    first-at _ _ _ (let e = after-rows .rows .ensures in omega arith) (at-loop .loop .inv .1)
+    (size-over _ _ _ (after-row-size .row-size .ensures) (let t = c .if1 .taken in omega arith))
+
+loop-again : tie.Need-loop-again Inv-loop μ-loop
+loop-again c =
+    let else1 : tie.Else1 Inv-loop μ-loop = search in
+    let after-row-size : tie.After-row-size Inv-loop μ-loop = search in
+    let at-loop : tie.At-loop Inv-loop μ-loop = search in
+    let after-rows : tie.After-rows Inv-loop μ-loop = search in
+    let start : tie.Start Inv-loop μ-loop = search in (
+      search needs,
+      below-more _ _ (at-loop .loop .inv .1)
+          (size-within _ _ _ (after-row-size .row-size .ensures) (else1 .if1 .left)),
+      stored-below (rowSize (table (start .args .book .now))) (at-loop .loop .sizes) (at-loop .loop .row)
+          (c .wide .result) _ (c .wide .ensures .0) (let e = after-rows .rows .ensures in let f =
+          start .pre .0 .fewRows in let g = at-loop .loop .inv .3 in omega arith) (at-loop .loop .inv .2)
+          (after-row-size .row-size .ensures),
+      length-set (at-loop .loop .sizes) (c .wide .result) (after-row-size .row-size .result) ∙ at-loop .loop .inv .3,
+    )
+
+returns-2 : tie.Need-returns-2 Inv-loop μ-loop
+returns-2 c =
+    let at-loop : tie.At-loop Inv-loop μ-loop = search in
+    let after-rows : tie.After-rows Inv-loop μ-loop = search in
+    first-end _ _ _ (let e = after-rows .rows .ensures in omega arith) (at-loop .loop .inv .1)
+
 pub oversize-spec : {M : Type 1} → statement M
 oversize-spec =
     tie.close
@@ -27,13 +74,13 @@ oversize-spec =
     Inv-loop
     μ-loop
     (λ c κs. search needs)  -- rows-requires
-    (λ c. (search needs, (λ k h. absurd (omega arith)), (λ k h. absurd (omega arith)), length-replicate {A = ℕ} 1024 0))  -- loop-holds
-    (λ c κs. (c .before .before .before .before .before .pre .0, c .before .before .before .before .before .pre .1, (let e = c .before .before .before .rows .ensures in omega arith), c .before .before .loop .inv .2, λ k h. size-fits _ k (c .before .before .loop .inv .1 k h)))  -- row-size-requires
-    (λ c. first-at _ _ _ (let e = c .before .before .before .before .before .rows .ensures in omega arith) (c .before .before .before .before .loop .inv .1) (size-over _ _ _ (c .before .row-size .ensures) (let t = c .if1 .taken in omega arith)))  -- returns
+    loop-holds
+    row-size-requires
+    returns
     (λ c κs. search needs)  -- wide-requires
-    (λ c. let e = c .before .before .before .before .before .before .rows .ensures in let f = c .before .before .before .before .before .before .before .before .pre .0 .fewRows in omega arith)  -- mul-sizes
-    (λ c. let e = c .before .before .before .before .before .before .rows .ensures in let f = c .before .before .before .before .before .before .before .before .pre .0 .fewRows in omega arith)  -- array-write-sizes
+    (λ c. omega arith)  -- mul-sizes
+    (λ c. omega arith)  -- array-write-sizes
     (λ c. search needs)  -- add-row
     (λ c. search needs)  -- loop-less
-    (λ c. (search needs, below-more _ _ (c .before .before .before .before .before .loop .inv .1) (size-within _ _ _ (c .before .before .row-size .ensures) (c .before .if1 .left)), stored-below (rowSize (table (c .before .before .before .before .before .before .before .before .args .book .now))) (c .before .before .before .before .before .loop .sizes) (c .before .before .before .before .before .loop .row) (c .wide .result) (c .before .before .row-size .result) (c .wide .ensures .0) (let e = c .before .before .before .before .before .before .rows .ensures in let f = c .before .before .before .before .before .before .before .before .pre .0 .fewRows in let g = c .before .before .before .before .before .loop .inv .3 in omega arith) (c .before .before .before .before .before .loop .inv .2) (c .before .before .row-size .ensures), length-set (c .before .before .before .before .before .loop .sizes) (c .wide .result) (c .before .before .row-size .result) ∙ c .before .before .before .before .before .loop .inv .3))  -- loop-again
-    (λ c. first-end _ _ _ (let e = c .before .before .rows .ensures in omega arith) (c .before .loop .inv .1)))  -- returns-2
+    loop-again
+    returns-2)

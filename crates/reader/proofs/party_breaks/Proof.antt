@@ -5,6 +5,18 @@ use borrow.Author.Needs.{needs}
 use Rattle.reader.proofs.party_breaks.Statement.{statement}
 use Rattle.reader.proofs.party_breaks.Tie as tie
 
+row-kind-requires : tie.Need-row-kind-requires
+row-kind-requires c κs =
+    let after-rows : tie.After-rows = search in
+    let start : tie.Start = search in
+    (start .pre .0, let e = after-rows .rows .ensures in omega arith)
+
+entry-falls-requires : tie.Need-entry-falls-requires
+entry-falls-requires c κs =
+    let after-list-breaks : tie.After-list-breaks = search in
+    let start : tie.Start = search in
+    (start .pre .0, list-inside _ _ _ _ _ _ _ _ (after-list-breaks .list-breaks .ensures) (c .if4 .left))
+
 pub party-breaks-spec : {M : Type 1} → statement M
 party-breaks-spec =
     tie.close
@@ -12,14 +24,14 @@ party-breaks-spec =
     (λ c κs. search needs)  -- party-name-requires
     (λ c κs. search needs)  -- rows-requires
     (λ c. search party-no-row)  -- returns
-    (λ c κs. (c .before .before .before .before .pre .0, let e = c .before .rows .ensures in omega arith))  -- row-kind-requires
+    row-kind-requires
     (λ c. search party-no-atom)  -- returns-2
     (λ c κs. search needs)  -- name-repeats-requires
     (λ c. search party-repeats)  -- returns-3
     (λ c κs. search needs)  -- party-first-requires
     (λ c κs. search needs)  -- party-count-requires
     (λ c κs. search needs)  -- rows-requires-2
-    (λ c κs. (c .before .before .before .before .before .before .before .before .before .before .before .pre .0, c .before .party-count .ensures .1, c .before .before .party-first .ensures .1))  -- list-breaks-requires
+    (λ c κs. search needs)  -- list-breaks-requires
     (λ c. search party-list)  -- returns-4
-    (λ c κs. (c .before .before .before .before .before .before .before .before .before .before .before .before .before .pre .0, list-inside _ _ _ _ _ _ _ _ (c .before .list-breaks .ensures) (c .if4 .left)))  -- entry-falls-requires
+    entry-falls-requires
     (λ c. search party-falls))  -- returns-5

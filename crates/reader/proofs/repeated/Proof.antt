@@ -16,6 +16,34 @@ Inv-loop book n row₀ row = (row ≤ n) × ((k : ℕ) → k < row → repeats b
 abbrev μ-loop : tie.MeasureT-loop
 μ-loop book n row₀ row = n - row
 
+row-repeats-requires : tie.Need-row-repeats-requires Inv-loop μ-loop
+row-repeats-requires c κs =
+    let after-rows : tie.After-rows Inv-loop μ-loop = search in
+    let start : tie.Start Inv-loop μ-loop = search in
+    (start .pre .0, start .pre .1, let e = after-rows .rows .ensures in omega arith)
+
+returns : tie.Need-returns Inv-loop μ-loop
+returns c =
+    let after-row-repeats : tie.After-row-repeats Inv-loop μ-loop = search in
+    let at-loop : tie.At-loop Inv-loop μ-loop = search in
+    let after-rows : tie.After-rows Inv-loop μ-loop = search in
+    first-at _ _ _ (let e = after-rows .rows .ensures in omega arith) (at-loop .loop .inv .1)
+    (sym (after-row-repeats .row-repeats .ensures) ∙ c .if1 .taken)
+
+loop-again : tie.Need-loop-again Inv-loop μ-loop
+loop-again c =
+    let after-row-repeats : tie.After-row-repeats Inv-loop μ-loop = search in
+    let at-loop : tie.At-loop Inv-loop μ-loop = search in (
+      search needs,
+      below-more _ _ (at-loop .loop .inv .1) (sym (after-row-repeats .row-repeats .ensures) ∙ c .if1 .left),
+    )
+
+returns-2 : tie.Need-returns-2 Inv-loop μ-loop
+returns-2 c =
+    let at-loop : tie.At-loop Inv-loop μ-loop = search in
+    let after-rows : tie.After-rows Inv-loop μ-loop = search in
+    first-end _ _ _ (let e = after-rows .rows .ensures in omega arith) (at-loop .loop .inv .1)
+
 pub repeated-spec : {M : Type 1} → statement M
 repeated-spec =
     tie.close
@@ -24,9 +52,9 @@ repeated-spec =
     μ-loop
     (λ c κs. search needs)  -- rows-requires
     (λ c. (search needs, λ k h. absurd (omega arith)))  -- loop-holds
-    (λ c κs. (c .before .before .before .before .pre .0, c .before .before .before .before .pre .1, let e = c .before .before .rows .ensures in omega arith))  -- row-repeats-requires
-    (λ c. first-at _ _ _ (let e = c .before .before .before .before .rows .ensures in omega arith) (c .before .before .before .loop .inv .1) (sym (c .before .row-repeats .ensures) ∙ c .if1 .taken))  -- returns
+    row-repeats-requires
+    returns
     (λ c. search needs)  -- add-row
     (λ c. search needs)  -- loop-less
-    (λ c. (search needs, below-more _ _ (c .before .before .before .loop .inv .1) (sym (c .before .row-repeats .ensures) ∙ c .if1 .left)))  -- loop-again
-    (λ c. first-end _ _ _ (let e = c .before .before .rows .ensures in omega arith) (c .before .loop .inv .1)))  -- returns-2
+    loop-again
+    returns-2)

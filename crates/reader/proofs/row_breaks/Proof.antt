@@ -17,5 +17,5 @@ row-breaks-spec =
     (λ c κs. search needs)  -- largest-requires
     (λ c κs. search needs)  -- row-count-requires
     (λ c κs. search needs)  -- row-first-requires
-    (λ c κs. (c .before .before .before .before .before .before .before .before .before .before .pre .0, c .before .row-count .ensures .1, c .row-first .ensures .1))  -- list-breaks-requires
+    (λ c κs. search needs)  -- list-breaks-requires
     (λ c. search row-list-breaks))  -- returns-3

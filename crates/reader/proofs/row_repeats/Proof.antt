@@ -5,7 +5,9 @@ use Rattle.reader.proofs.row_repeats.Statement.{statement}
 use Rattle.reader.proofs.row_repeats.Tie as tie
 
 pub row-repeats-spec : {M : Type 1} → statement M
-row-repeats-spec = tie.close (tie.spec
+row-repeats-spec =
+    tie.close
+    (tie.spec
     (λ c κs. search needs)  -- row-kind-requires
     (λ c. search repeats-atom)  -- returns
     (λ c κs. search needs)  -- twin-requires

@@ -18,6 +18,93 @@ Inv-loop book sizes row first n size₀ j₀ size j = (j ≤ n) × (size ≡ own
 abbrev μ-loop : tie.MeasureT-loop
 μ-loop book sizes row first n size₀ j₀ size j = n - j
 
+loop-holds : tie.Need-loop-holds Inv-loop μ-loop
+loop-holds c =
+    let after-row-kind : tie.After-row-kind Inv-loop μ-loop = search in
+    let after-row-first : tie.After-row-first Inv-loop μ-loop = search in
+    let start : tie.Start Inv-loop μ-loop = search in
+    let z = sum-none (λ i. getD (start .args .sizes .now) (pooled (start .args .book .now)
+    (after-row-first .row-first .result) i) 0) in
+    let y = c .own-size .ensures .0 in
+    let x = ap own (after-row-kind .row-kind .ensures) in
+    (search needs, omega arith, omega arith)
+
+pooled-requires : tie.Need-pooled-requires Inv-loop μ-loop
+pooled-requires c κs =
+    let after-row-count : tie.After-row-count Inv-loop μ-loop = search in
+    let after-row-first : tie.After-row-first Inv-loop μ-loop = search in
+    let start : tie.Start Inv-loop μ-loop = search in (
+      start .pre .0,
+      part-inside _ (start .pre .1) _ (start .pre .2) _ _ (after-row-first .row-first .ensures .0)
+          (after-row-count .row-count .ensures .0) _ (omega arith),
+    )
+
+mul-size : tie.Need-mul-size Inv-loop μ-loop
+mul-size c =
+    let after-pooled : tie.After-pooled Inv-loop μ-loop = search in
+    let after-row-count : tie.After-row-count Inv-loop μ-loop = search in
+    let after-row-first : tie.After-row-first Inv-loop μ-loop = search in
+    let start : tie.Start Inv-loop μ-loop = search in
+    let h = part-before _ (start .pre .1) _ (start .pre .2) _ _ (after-row-first .row-first .ensures .0)
+    (after-row-count .row-count .ensures .0) _ _ (omega arith) (after-pooled .pooled .ensures) in
+    omega arith
+
+element-copy-out-size : tie.Need-element-copy-out-size Inv-loop μ-loop
+element-copy-out-size c =
+    let after-pooled : tie.After-pooled Inv-loop μ-loop = search in
+    let after-row-count : tie.After-row-count Inv-loop μ-loop = search in
+    let after-row-first : tie.After-row-first Inv-loop μ-loop = search in
+    let start : tie.Start Inv-loop μ-loop = search in
+    let h = part-before _ (start .pre .1) _ (start .pre .2) _ _ (after-row-first .row-first .ensures .0)
+    (after-row-count .row-count .ensures .0) _ _ (omega arith) (after-pooled .pooled .ensures) in
+    omega arith
+
+add-size : tie.Need-add-size Inv-loop μ-loop
+add-size c =
+    let after-wide : tie.After-wide Inv-loop μ-loop = search in
+    let after-pooled : tie.After-pooled Inv-loop μ-loop = search in
+    let after-row-count : tie.After-row-count Inv-loop μ-loop = search in
+    let after-row-first : tie.After-row-first Inv-loop μ-loop = search in
+    let start : tie.Start Inv-loop μ-loop = search in
+    let h : getD (start .args .sizes .now) (after-wide .wide .result) 0 ≤ 1024 = size-known (start .args .book .now)
+    (start .args .sizes .now) _ _ _ (start .pre .3) (start .pre .4) (after-wide .wide .ensures .0)
+    (part-before _ (start .pre .1) _ (start .pre .2) _ _ (after-row-first .row-first .ensures .0)
+    (after-row-count .row-count .ensures .0) _ _ (omega arith) (after-pooled .pooled .ensures)) in
+    let k : after-row-count .row-count .result ≤ 9 = part-few _ (start .pre .1) _ (start .pre .2) _ _
+    (after-row-first .row-first .ensures .0) (after-row-count .row-count .ensures .0) in
+    omega arith
+
+loop-again : tie.Need-loop-again Inv-loop μ-loop
+loop-again c =
+    let after-wide : tie.After-wide Inv-loop μ-loop = search in
+    let after-pooled : tie.After-pooled Inv-loop μ-loop = search in
+    let at-loop : tie.At-loop Inv-loop μ-loop = search in
+    let after-row-count : tie.After-row-count Inv-loop μ-loop = search in
+    let after-row-first : tie.After-row-first Inv-loop μ-loop = search in
+    let start : tie.Start Inv-loop μ-loop = search in
+    let h : getD (start .args .sizes .now) (after-wide .wide .result) 0 ≤ 1024 = size-known (start .args .book .now)
+    (start .args .sizes .now) _ _ _ (start .pre .3) (start .pre .4) (after-wide .wide .ensures .0)
+    (part-before _ (start .pre .1) _ (start .pre .2) _ _ (after-row-first .row-first .ensures .0)
+    (after-row-count .row-count .ensures .0) _ _ (omega arith) (after-pooled .pooled .ensures)) in (
+      search needs,
+      size-step (start .args .book .now) (start .args .sizes .now) (after-row-first .row-first .result)
+          (at-loop .loop .j) _ _ _ _ (at-loop .loop .inv .1) (after-wide .wide .ensures .0)
+          (after-pooled .pooled .ensures),
+      omega arith,
+    )
+
+returns : tie.Need-returns Inv-loop μ-loop
+returns c =
+    let at-loop : tie.At-loop Inv-loop μ-loop = search in
+    let after-row-count : tie.After-row-count Inv-loop μ-loop = search in
+    let after-row-first : tie.After-row-first Inv-loop μ-loop = search in
+    let start : tie.Start Inv-loop μ-loop = search in
+    at-loop .loop .inv .1 ∙ ap (λ m. own (kind (start .args .book .now) (start .args .row)) + sum (λ i. getD
+    (start .args .sizes .now) (pooled (start .args .book .now) (after-row-first .row-first .result) i) 0) m)
+    (let z : at-loop .loop .j ≡ rowCount (start .args .book .now) (start .args .row)
+    = (let y = after-row-count .row-count .ensures .0 in omega arith) in z) ∙ size-sum _ (start .pre .1) _
+    (start .pre .2) (start .args .sizes .now) (start .pre .3) _ (after-row-first .row-first .ensures .0)
+
 pub row-size-spec : {M : Type 1} → statement M
 row-size-spec =
     tie.close
@@ -28,13 +115,13 @@ row-size-spec =
     (λ c κs. search needs)  -- row-count-requires
     (λ c κs. search needs)  -- row-kind-requires
     (λ c κs. search needs)  -- own-size-requires
-    (λ c. let z = sum-none (λ i. getD (c .before .before .before .before .before .args .sizes .now) (pooled (c .before .before .before .before .before .args .book .now) (c .before .before .before .row-first .result) i) 0) in let y = c .own-size .ensures .0 in let x = ap own (c .before .row-kind .ensures) in (search needs, omega arith, omega arith))  -- loop-holds
-    (λ c κs. (c .before .before .before .before .before .before .before .pre .0, part-inside (c .before .before .before .before .before .before .before .args .book .now) (c .before .before .before .before .before .before .before .pre .1) _ (c .before .before .before .before .before .before .before .pre .2) _ _ (c .before .before .before .before .before .row-first .ensures .0) (c .before .before .before .before .row-count .ensures .0) _ (omega arith)))  -- pooled-requires
+    loop-holds
+    pooled-requires
     (λ c κs. search needs)  -- wide-requires
-    (λ c. let h = part-before (c .before .before .before .before .before .before .before .before .before .args .book .now) (c .before .before .before .before .before .before .before .before .before .pre .1) _ (c .before .before .before .before .before .before .before .before .before .pre .2) _ _ (c .before .before .before .before .before .before .before .row-first .ensures .0) (c .before .before .before .before .before .before .row-count .ensures .0) _ _ (omega arith) (c .before .pooled .ensures) in let k = c .before .before .before .before .before .before .before .before .before .pre .0 .fewRows in omega arith)  -- mul-size
-    (λ c. let h = part-before (c .before .before .before .before .before .before .before .before .before .args .book .now) (c .before .before .before .before .before .before .before .before .before .pre .1) _ (c .before .before .before .before .before .before .before .before .before .pre .2) _ _ (c .before .before .before .before .before .before .before .row-first .ensures .0) (c .before .before .before .before .before .before .row-count .ensures .0) _ _ (omega arith) (c .before .pooled .ensures) in let k = c .before .before .before .before .before .before .before .before .before .pre .0 .fewRows in omega arith)  -- element-copy-out-size
-    (λ c. let h : getD (c .before .before .before .before .before .before .before .before .before .before .args .sizes .now) (c .before .wide .result) 0 ≤ 1024 = size-known (c .before .before .before .before .before .before .before .before .before .before .args .book .now) (c .before .before .before .before .before .before .before .before .before .before .args .sizes .now) _ _ _ (c .before .before .before .before .before .before .before .before .before .before .pre .3) (c .before .before .before .before .before .before .before .before .before .before .pre .4) (c .before .wide .ensures .0) (part-before (c .before .before .before .before .before .before .before .before .before .before .args .book .now) (c .before .before .before .before .before .before .before .before .before .before .pre .1) _ (c .before .before .before .before .before .before .before .before .before .before .pre .2) _ _ (c .before .before .before .before .before .before .before .before .row-first .ensures .0) (c .before .before .before .before .before .before .before .row-count .ensures .0) _ _ (omega arith) (c .before .before .pooled .ensures)) in let k : c .before .before .before .before .before .before .before .row-count .result ≤ 9 = part-few (c .before .before .before .before .before .before .before .before .before .before .args .book .now) (c .before .before .before .before .before .before .before .before .before .before .pre .1) _ (c .before .before .before .before .before .before .before .before .before .before .pre .2) _ _ (c .before .before .before .before .before .before .before .before .row-first .ensures .0) (c .before .before .before .before .before .before .before .row-count .ensures .0) in omega arith)  -- add-size
+    mul-size
+    element-copy-out-size
+    add-size
     (λ c. search needs)  -- add-j
     (λ c. search needs)  -- loop-less
-    (λ c. let h : getD (c .before .before .before .before .before .before .before .before .before .before .args .sizes .now) (c .before .wide .result) 0 ≤ 1024 = size-known (c .before .before .before .before .before .before .before .before .before .before .args .book .now) (c .before .before .before .before .before .before .before .before .before .before .args .sizes .now) _ _ _ (c .before .before .before .before .before .before .before .before .before .before .pre .3) (c .before .before .before .before .before .before .before .before .before .before .pre .4) (c .before .wide .ensures .0) (part-before (c .before .before .before .before .before .before .before .before .before .before .args .book .now) (c .before .before .before .before .before .before .before .before .before .before .pre .1) _ (c .before .before .before .before .before .before .before .before .before .before .pre .2) _ _ (c .before .before .before .before .before .before .before .before .row-first .ensures .0) (c .before .before .before .before .before .before .before .row-count .ensures .0) _ _ (omega arith) (c .before .before .pooled .ensures)) in (search needs, size-step (c .before .before .before .before .before .before .before .before .before .before .args .book .now) (c .before .before .before .before .before .before .before .before .before .before .args .sizes .now) (c .before .before .before .before .before .before .before .before .row-first .result) (c .before .before .before .before .loop .j) _ _ _ _ (c .before .before .before .before .loop .inv .1) (c .before .wide .ensures .0) (c .before .before .pooled .ensures), omega arith))  -- loop-again
-    (λ c. c .before .loop .inv .1 ∙ ap (λ m. own (kind (c .before .before .before .before .before .before .before .args .book .now) (c .before .before .before .before .before .before .before .args .row)) + sum (λ i. getD (c .before .before .before .before .before .before .before .args .sizes .now) (pooled (c .before .before .before .before .before .before .before .args .book .now) (c .before .before .before .before .before .row-first .result) i) 0) m) (let z : c .before .loop .j ≡ rowCount (c .before .before .before .before .before .before .before .args .book .now) (c .before .before .before .before .before .before .before .args .row) = (let y = c .before .before .before .before .row-count .ensures .0 in omega arith) in z) ∙ size-sum (c .before .before .before .before .before .before .before .args .book .now) (c .before .before .before .before .before .before .before .pre .1) _ (c .before .before .before .before .before .before .before .pre .2) (c .before .before .before .before .before .before .before .args .sizes .now) (c .before .before .before .before .before .before .before .pre .3) _ (c .before .before .before .before .before .row-first .ensures .0)))  -- returns
+    loop-again
+    returns)

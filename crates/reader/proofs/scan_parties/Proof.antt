@@ -18,6 +18,65 @@ Inv-loop book before n sum₀ party₀ sum party = (party ≤ n) × ((k : ℕ) �
 abbrev μ-loop : tie.MeasureT-loop
 μ-loop book before n sum₀ party₀ sum party = n - party
 
+loop-holds : tie.Need-loop-holds Inv-loop μ-loop
+loop-holds c =
+    let start : tie.Start Inv-loop μ-loop = search in (
+      search needs,
+      (λ k h. absurd (omega arith)),
+      parties-none (start .args .book .now) _ (start .pre .1),
+      start .pre .2,
+    )
+
+party-breaks-requires : tie.Need-party-breaks-requires Inv-loop μ-loop
+party-breaks-requires c κs =
+    let at-loop : tie.At-loop Inv-loop μ-loop = search in
+    let after-parties : tie.After-parties Inv-loop μ-loop = search in
+    let start : tie.Start Inv-loop μ-loop = search in
+    (start .pre .0, (let e = after-parties .parties .ensures in omega arith), at-loop .loop .inv .2)
+
+returns : tie.Need-returns Inv-loop μ-loop
+returns c =
+    let after-party-breaks : tie.After-party-breaks Inv-loop μ-loop = search in
+    let at-loop : tie.At-loop Inv-loop μ-loop = search in
+    let after-parties : tie.After-parties Inv-loop μ-loop = search in
+    record {
+      stopped = first-at _ _ _ (let e = after-parties .parties .ensures in omega arith)
+          (at-loop .loop .inv .1) (sym (after-party-breaks .party-breaks .ensures) ∙ c .if1 .taken);
+      summed
+          = at-loop .loop .inv .2;
+      inside = at-loop .loop .inv .3;
+    }
+
+party-count-requires : tie.Need-party-count-requires Inv-loop μ-loop
+party-count-requires c κs =
+    let after-parties : tie.After-parties Inv-loop μ-loop = search in
+    let start : tie.Start Inv-loop μ-loop = search in
+    (start .pre .0, (let e = after-parties .parties .ensures in omega arith))
+
+loop-again : tie.Need-loop-again Inv-loop μ-loop
+loop-again c =
+    let else1 : tie.Else1 Inv-loop μ-loop = search in
+    let after-party-breaks : tie.After-party-breaks Inv-loop μ-loop = search in
+    let at-loop : tie.At-loop Inv-loop μ-loop = search in
+    let p = party-passed _ _ _ _ _ (after-party-breaks .party-breaks .ensures) (else1 .if1 .left)
+    (at-loop .loop .inv .2) (c .party-count .ensures .0) in (
+      search needs,
+      below-more _ _ (at-loop .loop .inv .1) (sym (after-party-breaks .party-breaks .ensures) ∙ else1 .if1 .left),
+      p .0,
+      p .1,
+    )
+
+returns-2 : tie.Need-returns-2 Inv-loop μ-loop
+returns-2 c =
+    let at-loop : tie.At-loop Inv-loop μ-loop = search in
+    let after-parties : tie.After-parties Inv-loop μ-loop = search in
+    record {
+      stopped = first-end _ _ _ (let e = after-parties .parties .ensures in omega arith)
+          (at-loop .loop .inv .1);
+      summed = at-loop .loop .inv .2;
+      inside = at-loop .loop .inv .3;
+    }
+
 pub scan-parties-spec : {M : Type 1} → statement M
 scan-parties-spec =
     tie.close
@@ -25,12 +84,12 @@ scan-parties-spec =
     Inv-loop
     μ-loop
     (λ c κs. search needs)  -- parties-requires
-    (λ c. (search needs, (λ k h. absurd (omega arith)), parties-none (c .before .before .args .book .now) _ (c .before .before .pre .1), c .before .before .pre .2))  -- loop-holds
-    (λ c κs. (c .before .before .before .before .pre .0, (let e = c .before .before .parties .ensures in omega arith), c .before .loop .inv .2))  -- party-breaks-requires
-    (λ c. record { stopped = first-at _ _ _ (let e = c .before .before .before .before .parties .ensures in omega arith) (c .before .before .before .loop .inv .1) (sym (c .before .party-breaks .ensures) ∙ c .if1 .taken); summed = c .before .before .before .loop .inv .2; inside = c .before .before .before .loop .inv .3 })  -- returns
-    (λ c κs. (c .before .before .before .before .before .before .pre .0, (let e = c .before .before .before .before .parties .ensures in omega arith)))  -- party-count-requires
-    (λ c. let h = c .before .before .before .before .before .before .before .pre .0 .smallPool in let k = c .before .before .before .before .loop .inv .3 in let l = c .party-count .ensures .1 in omega arith)  -- add-sum
+    loop-holds
+    party-breaks-requires
+    returns
+    party-count-requires
+    (λ c. omega arith)  -- add-sum
     (λ c. search needs)  -- add-party
     (λ c. search needs)  -- loop-less
-    (λ c. let p = party-passed (c .before .before .before .before .before .before .before .args .book .now) (c .before .before .before .before .loop .party) (c .before .before .before .before .loop .sum) (c .party-count .result) _ (c .before .before .party-breaks .ensures) (c .before .if1 .left) (c .before .before .before .before .loop .inv .2) (c .party-count .ensures .0) in (search needs, below-more _ _ (c .before .before .before .before .loop .inv .1) (sym (c .before .before .party-breaks .ensures) ∙ c .before .if1 .left), p .0, p .1))  -- loop-again
-    (λ c. record { stopped = first-end _ _ _ (let e = c .before .before .parties .ensures in omega arith) (c .before .loop .inv .1); summed = c .before .loop .inv .2; inside = c .before .loop .inv .3 }))  -- returns-2
+    loop-again
+    returns-2)

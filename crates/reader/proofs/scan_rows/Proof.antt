@@ -18,6 +18,60 @@ Inv-loop book n sum₀ row₀ sum row = (row ≤ n) × ((k : ℕ) → k < row �
 abbrev μ-loop : tie.MeasureT-loop
 μ-loop book n sum₀ row₀ sum row = n - row
 
+loop-holds : tie.Need-loop-holds Inv-loop μ-loop
+loop-holds c =
+    let start : tie.Start Inv-loop μ-loop = search in
+    (search needs, (λ k h. absurd (omega arith)), rows-none (start .args .book .now), omega arith)
+
+row-breaks-requires : tie.Need-row-breaks-requires Inv-loop μ-loop
+row-breaks-requires c κs =
+    let at-loop : tie.At-loop Inv-loop μ-loop = search in
+    let after-rows : tie.After-rows Inv-loop μ-loop = search in
+    let start : tie.Start Inv-loop μ-loop = search in
+    (start .pre, (let e = after-rows .rows .ensures in omega arith), at-loop .loop .inv .2)
+
+returns : tie.Need-returns Inv-loop μ-loop
+returns c =
+    let after-row-breaks : tie.After-row-breaks Inv-loop μ-loop = search in
+    let at-loop : tie.At-loop Inv-loop μ-loop = search in
+    let after-rows : tie.After-rows Inv-loop μ-loop = search in
+    record {
+      stopped = first-at _ _ _ (let e = after-rows .rows .ensures in omega arith) (at-loop .loop .inv .1) (sym
+          (after-row-breaks .row-breaks .ensures) ∙ c .if1 .taken);
+      summed = at-loop .loop .inv .2;
+      inside
+          = at-loop .loop .inv .3;
+    }
+
+row-count-requires : tie.Need-row-count-requires Inv-loop μ-loop
+row-count-requires c κs =
+    let after-rows : tie.After-rows Inv-loop μ-loop = search in
+    let start : tie.Start Inv-loop μ-loop = search in
+    (start .pre, (let e = after-rows .rows .ensures in omega arith))
+
+loop-again : tie.Need-loop-again Inv-loop μ-loop
+loop-again c =
+    let else1 : tie.Else1 Inv-loop μ-loop = search in
+    let after-row-breaks : tie.After-row-breaks Inv-loop μ-loop = search in
+    let at-loop : tie.At-loop Inv-loop μ-loop = search in
+    let p = row-passed _ _ _ _ _ (after-row-breaks .row-breaks .ensures) (else1 .if1 .left) (at-loop .loop .inv .2)
+    (c .row-count .ensures .0) in (
+      search needs,
+      below-more _ _ (at-loop .loop .inv .1) (sym (after-row-breaks .row-breaks .ensures) ∙ else1 .if1 .left),
+      p .0,
+      p .1,
+    )
+
+returns-2 : tie.Need-returns-2 Inv-loop μ-loop
+returns-2 c =
+    let at-loop : tie.At-loop Inv-loop μ-loop = search in
+    let after-rows : tie.After-rows Inv-loop μ-loop = search in
+    record {
+      stopped = first-end _ _ _ (let e = after-rows .rows .ensures in omega arith) (at-loop .loop .inv .1);
+      summed = at-loop .loop .inv .2;
+      inside = at-loop .loop .inv .3;
+    }
+
 pub scan-rows-spec : {M : Type 1} → statement M
 scan-rows-spec =
     tie.close
@@ -25,12 +79,12 @@ scan-rows-spec =
     Inv-loop
     μ-loop
     (λ c κs. search needs)  -- rows-requires
-    (λ c. (search needs, (λ k h. absurd (omega arith)), rows-none (c .before .before .args .book .now), omega arith))  -- loop-holds
-    (λ c κs. (c .before .before .before .before .pre, (let e = c .before .before .rows .ensures in omega arith), c .before .loop .inv .2))  -- row-breaks-requires
-    (λ c. record { stopped = first-at _ _ _ (let e = c .before .before .before .before .rows .ensures in omega arith) (c .before .before .before .loop .inv .1) (sym (c .before .row-breaks .ensures) ∙ c .if1 .taken); summed = c .before .before .before .loop .inv .2; inside = c .before .before .before .loop .inv .3 })  -- returns
-    (λ c κs. (c .before .before .before .before .before .before .pre, (let e = c .before .before .before .before .rows .ensures in omega arith)))  -- row-count-requires
-    (λ c. let h = c .before .before .before .before .before .before .before .pre .smallPool in let k = c .before .before .before .before .loop .inv .3 in let l = c .row-count .ensures .1 in omega arith)  -- add-sum
+    loop-holds
+    row-breaks-requires
+    returns
+    row-count-requires
+    (λ c. omega arith)  -- add-sum
     (λ c. search needs)  -- add-row
     (λ c. search needs)  -- loop-less
-    (λ c. let p = row-passed (c .before .before .before .before .before .before .before .args .book .now) (c .before .before .before .before .loop .row) (c .before .before .before .before .loop .sum) (c .row-count .result) _ (c .before .before .row-breaks .ensures) (c .before .if1 .left) (c .before .before .before .before .loop .inv .2) (c .row-count .ensures .0) in (search needs, below-more _ _ (c .before .before .before .before .loop .inv .1) (sym (c .before .before .row-breaks .ensures) ∙ c .before .if1 .left), p .0, p .1))  -- loop-again
-    (λ c. record { stopped = first-end _ _ _ (let e = c .before .before .rows .ensures in omega arith) (c .before .loop .inv .1); summed = c .before .loop .inv .2; inside = c .before .loop .inv .3 }))  -- returns-2
+    loop-again
+    returns-2)

@@ -18,6 +18,64 @@ Inv-loop book before n sum₀ step₀ sum step = (step ≤ n) × ((k : ℕ) → 
 abbrev μ-loop : tie.MeasureT-loop
 μ-loop book before n sum₀ step₀ sum step = n - step
 
+loop-holds : tie.Need-loop-holds Inv-loop μ-loop
+loop-holds c =
+    let start : tie.Start Inv-loop μ-loop = search in (
+      search needs,
+      (λ k h. absurd (omega arith)),
+      steps-none (start .args .book .now) _ (start .pre .1),
+      start .pre .2,
+    )
+
+step-breaks-requires : tie.Need-step-breaks-requires Inv-loop μ-loop
+step-breaks-requires c κs =
+    let at-loop : tie.At-loop Inv-loop μ-loop = search in
+    let after-steps : tie.After-steps Inv-loop μ-loop = search in
+    let start : tie.Start Inv-loop μ-loop = search in
+    (start .pre .0, (let e = after-steps .steps .ensures in omega arith), at-loop .loop .inv .2)
+
+returns : tie.Need-returns Inv-loop μ-loop
+returns c =
+    let after-step-breaks : tie.After-step-breaks Inv-loop μ-loop = search in
+    let at-loop : tie.At-loop Inv-loop μ-loop = search in
+    let after-steps : tie.After-steps Inv-loop μ-loop = search in
+    record {
+      stopped = first-at _ _ _ (let e = after-steps .steps .ensures in omega arith) (at-loop .loop .inv .1)
+          (sym (after-step-breaks .step-breaks .ensures) ∙ c .if1 .taken);
+      summed = at-loop .loop .inv .2;
+      inside
+          = at-loop .loop .inv .3;
+    }
+
+step-count-requires : tie.Need-step-count-requires Inv-loop μ-loop
+step-count-requires c κs =
+    let after-steps : tie.After-steps Inv-loop μ-loop = search in
+    let start : tie.Start Inv-loop μ-loop = search in
+    (start .pre .0, (let e = after-steps .steps .ensures in omega arith))
+
+loop-again : tie.Need-loop-again Inv-loop μ-loop
+loop-again c =
+    let else1 : tie.Else1 Inv-loop μ-loop = search in
+    let after-step-breaks : tie.After-step-breaks Inv-loop μ-loop = search in
+    let at-loop : tie.At-loop Inv-loop μ-loop = search in
+    let p = step-passed _ _ _ _ _ (after-step-breaks .step-breaks .ensures) (else1 .if1 .left)
+    (at-loop .loop .inv .2) (c .step-count .ensures .0) in (
+      search needs,
+      below-more _ _ (at-loop .loop .inv .1) (sym (after-step-breaks .step-breaks .ensures) ∙ else1 .if1 .left),
+      p .0,
+      p .1,
+    )
+
+returns-2 : tie.Need-returns-2 Inv-loop μ-loop
+returns-2 c =
+    let at-loop : tie.At-loop Inv-loop μ-loop = search in
+    let after-steps : tie.After-steps Inv-loop μ-loop = search in
+    record {
+      stopped = first-end _ _ _ (let e = after-steps .steps .ensures in omega arith) (at-loop .loop .inv .1);
+      summed = at-loop .loop .inv .2;
+      inside = at-loop .loop .inv .3;
+    }
+
 pub scan-steps-spec : {M : Type 1} → statement M
 scan-steps-spec =
     tie.close
@@ -25,12 +83,12 @@ scan-steps-spec =
     Inv-loop
     μ-loop
     (λ c κs. search needs)  -- steps-requires
-    (λ c. (search needs, (λ k h. absurd (omega arith)), steps-none (c .before .before .args .book .now) _ (c .before .before .pre .1), c .before .before .pre .2))  -- loop-holds
-    (λ c κs. (c .before .before .before .before .pre .0, (let e = c .before .before .steps .ensures in omega arith), c .before .loop .inv .2))  -- step-breaks-requires
-    (λ c. record { stopped = first-at _ _ _ (let e = c .before .before .before .before .steps .ensures in omega arith) (c .before .before .before .loop .inv .1) (sym (c .before .step-breaks .ensures) ∙ c .if1 .taken); summed = c .before .before .before .loop .inv .2; inside = c .before .before .before .loop .inv .3 })  -- returns
-    (λ c κs. (c .before .before .before .before .before .before .pre .0, (let e = c .before .before .before .before .steps .ensures in omega arith)))  -- step-count-requires
-    (λ c. let h = c .before .before .before .before .before .before .before .pre .0 .smallPool in let k = c .before .before .before .before .loop .inv .3 in let l = c .step-count .ensures .1 in omega arith)  -- add-sum
+    loop-holds
+    step-breaks-requires
+    returns
+    step-count-requires
+    (λ c. omega arith)  -- add-sum
     (λ c. search needs)  -- add-step
     (λ c. search needs)  -- loop-less
-    (λ c. let p = step-passed (c .before .before .before .before .before .before .before .args .book .now) (c .before .before .before .before .loop .step) (c .before .before .before .before .loop .sum) (c .step-count .result) _ (c .before .before .step-breaks .ensures) (c .before .if1 .left) (c .before .before .before .before .loop .inv .2) (c .step-count .ensures .0) in (search needs, below-more _ _ (c .before .before .before .before .loop .inv .1) (sym (c .before .before .step-breaks .ensures) ∙ c .before .if1 .left), p .0, p .1))  -- loop-again
-    (λ c. record { stopped = first-end _ _ _ (let e = c .before .before .steps .ensures in omega arith) (c .before .loop .inv .1); summed = c .before .loop .inv .2; inside = c .before .loop .inv .3 }))  -- returns-2
+    loop-again
+    returns-2)

@@ -18,5 +18,5 @@ step-breaks-spec =
     (λ c κs. search needs)  -- step-count-requires
     (λ c κs. search needs)  -- step-first-requires
     (λ c κs. search needs)  -- rows-requires
-    (λ c κs. (c .before .before .before .before .before .before .before .before .before .before .before .pre .0, c .before .before .step-count .ensures .1, c .before .step-first .ensures .1))  -- list-breaks-requires
+    (λ c κs. search needs)  -- list-breaks-requires
     (λ c. search step-list))  -- returns-4

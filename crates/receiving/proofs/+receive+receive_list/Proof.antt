@@ -9,7 +9,7 @@ use Prim.Native.Nat.{_*_, _+_}
 use borrow.Author.Needs.{needs}
 use native.Mathlib.Omega.{arith}
 use Prim.Native.Nat.{ℕ, _<_}
-use borrow.Fn.Kinds.{In}
+use borrow.Fn.Kinds.{In, Out}
 use borrow.Fn.PlainCycle.{Measures, is, falls, and}
 use Rattle.receiving.proofs.receive.Reads as receive
 use Rattle.receiving.proofs.receive.Kinds as receive-kinds
@@ -53,42 +53,107 @@ receive-list-Inv-loop book here₀ bound first left log₀ out₀ place₀ next 
 abbrev receive-list-μ-loop : receive-list-lts.MeasureT-loop
 receive-list-μ-loop book here₀ bound first left log₀ out₀ place₀ next i₀ k₀ here log out place i k = k
 
-pub +receive+receive-list-spec : {M : Type 1} → statement M
-+receive+receive-list-spec = close μ-receive μ-receive-list (λ t. receive-lts.spec (
+abbrev receive-calls : ℕ → receive-lts.Claims
+receive-calls t = (
   settle-reads.Asked,
   settle-reads.Learnt,
   receive-list-below t,
   receive-list.Post,
 )
+
+-- a place or a need of `receive`, by its name
+abbrev in-receive : (receive-lts.Claims → In 3 receive-kinds.ps → Out 3 receive-kinds.ps receive-kinds.r → Type 0) → ℕ → Type 0
+in-receive P t = P (receive-calls t) (receive-at t) receive.Post
+
+abbrev receive-list-calls : ℕ → receive-list-lts.Claims
+receive-list-calls t = (
+  narrow-reads.Asked,
+  narrow-reads.Learnt,
+  entry-reads.Asked,
+  entry-reads.Learnt,
+  receive-below t,
+  receive.Post,
+)
+
+-- a place or a need of `receive_list`, by its name
+abbrev in-receive-list : (receive-list-lts.Claims → In 3 receive-list-kinds.ps → Out 3 receive-list-kinds.ps receive-list-kinds.r → receive-list-lts.InvT-loop → receive-list-lts.MeasureT-loop → Type 0) → ℕ → Type 0
+in-receive-list P t = P (receive-list-calls t) (receive-list-at t) receive-list.Post receive-list-Inv-loop receive-list-μ-loop
+
+receive-receive-list-requires : (t : ℕ) → in-receive receive-lts.Need-receive-list-requires t
+receive-receive-list-requires t c κs =
+    let after-settle : in-receive receive-lts.After-settle t = search in
+    let start : in-receive receive-lts.Start t = search in (
+      omega arith,
+      (
+        start .pre .1 .0,
+        omega arith,
+        after-settle .settle .ensures .span,
+        turn-room (after-settle .settle .ensures) (start .pre .1 .3),
+      ),
+    )
+
+receive-list-loop-holds : (t : ℕ) → in-receive-list receive-list-lts.Need-loop-holds t
+receive-list-loop-holds t c =
+    let after-narrow : in-receive-list receive-list-lts.After-narrow t = search in
+    let start : in-receive-list receive-list-lts.Start t = search in
+    going-start _ _ _ _ _ _ _ _ _ (start .pre .1 .2) (after-narrow .narrow .ensures) (search needs) (start .pre .1 .3)
+
+receive-list-receive-requires : (t : ℕ) → in-receive-list receive-list-lts.Need-receive-requires t
+receive-list-receive-requires t c κs =
+    let after-entry : in-receive-list receive-list-lts.After-entry t = search in
+    let in-loop : in-receive-list receive-list-lts.In-loop t = search in
+    let at-loop : in-receive-list receive-list-lts.At-loop t = search in
+    let start : in-receive-list receive-list-lts.Start t = search in (
+      omega arith,
+      (
+        start .pre .1 .0,
+        omega arith,
+        omega arith,
+        going-room _ (at-loop .loop .inv) (in-loop .loop-test .taken) (after-entry .entry .ensures .0),
+      ),
+    )
+
+receive-list-add-i : (t : ℕ) → in-receive-list receive-list-lts.Need-add-i t
+receive-list-add-i t c =
+    let start : in-receive-list receive-list-lts.Start t = search in
+    let h = valid-headed _ (start .pre .1 .0) in
+    omega arith
+
+receive-list-loop-again : (t : ℕ) → in-receive-list receive-list-lts.Need-loop-again t
+receive-list-loop-again t c =
+    let after-receive : in-receive-list receive-list-lts.After-receive t = search in
+    let after-entry : in-receive-list receive-list-lts.After-entry t = search in
+    let in-loop : in-receive-list receive-list-lts.In-loop t = search in
+    let at-loop : in-receive-list receive-list-lts.At-loop t = search in
+    going-on _ _ _ _ _ _ _ _ _ _ _ _ _ _ _ _ _ _ (at-loop .loop .inv) (in-loop .loop-test .taken)
+    (after-entry .entry .ensures .0) (after-receive .receive .ensures)
+
+pub +receive+receive-list-spec : {M : Type 1} → statement M
++receive+receive-list-spec = close μ-receive μ-receive-list (λ t. receive-lts.spec
+    (receive-calls t)
     (receive-at t)
     receive.Post
-    (λ c κs. (c .before .before .before .before .before .before .pre .1 .0, c .before .before .before .before .before .before .pre .1 .1, c .before .before .before .before .before .before .pre .1 .2, search needs))  -- receive-settle-requires
-    (λ c κs. let s = c .before .before .before .before .before .before .before .settle .ensures .span .few in let h = c .before .before .before .before .before .before .before .before .before .before .before .before .before .before .pre .1 .1 in (omega arith, (c .before .before .before .before .before .before .before .before .before .before .before .before .before .before .pre .1 .0, omega arith, c .before .before .before .before .before .before .before .settle .ensures .span, turn-room (c .before .before .before .before .before .before .before .settle .ensures) (c .before .before .before .before .before .before .before .before .before .before .before .before .before .before .pre .1 .3))))  -- receive-receive-list-requires
+    (λ c κs. search needs)  -- receive-settle-requires
+    (receive-receive-list-requires t)
     (λ c. search needs)  -- receive-same-length
     (λ c. search needs)  -- receive-same-length-2
-    (λ c. turn-doing (c .before .before .before .before .before .before .before .before .before .before .before .before .settle .ensures) (c .before .before .before .before .receive-list .ensures)))  -- receive-returns
-    λ t. receive-list-lts.spec (
-      narrow-reads.Asked,
-      narrow-reads.Learnt,
-      entry-reads.Asked,
-      entry-reads.Learnt,
-      receive-below t,
-      receive.Post,
-    )
+    (λ c. search turn-doing))  -- receive-returns
+    λ t. receive-list-lts.spec
+    (receive-list-calls t)
     (receive-list-at t)
     receive-list.Post
     receive-list-Inv-loop
     receive-list-μ-loop
-    (λ c κs. let s = c .before .before .before .pre .1 .2 .few in omega arith)  -- receive-list-narrow-requires
+    (λ c κs. omega arith)  -- receive-list-narrow-requires
     (λ c. search needs)  -- receive-list-add-next
-    (λ c. going-start _ _ _ _ _ _ _ _ _ (c .before .before .before .before .before .pre .1 .2) (c .before .narrow .ensures) (search needs) (c .before .before .before .before .before .pre .1 .3))  -- receive-list-loop-holds
-    (λ c κs. (c .before .before .before .before .before .before .before .pre .1 .0, c .before .loop .inv .span, c .loop-test .taken))  -- receive-list-entry-requires
-    (λ c κs. let e = c .before .before .entry .ensures .1 in let q = c .before .before .before .before .before .before .before .before .before .before .pre .1 .1 in let g = c .before .before .before .before .loop .inv .low in let r = c .before .before .before .before .loop .inv .room in let t = c .before .before .before .loop-test .taken in (omega arith, (c .before .before .before .before .before .before .before .before .before .before .pre .1 .0, omega arith, omega arith, going-room _ (c .before .before .before .before .loop .inv) (c .before .before .before .loop-test .taken) (c .before .before .entry .ensures .0))))  -- receive-list-receive-requires
+    (receive-list-loop-holds t)
+    (λ c κs. search needs)  -- receive-list-entry-requires
+    (receive-list-receive-requires t)
     (λ c. search needs)  -- receive-list-add-place
-    (λ c. let s = c .before .before .before .before .before .before .before .before .before .loop .inv .span .inside in let h = valid-headed _ (c .before .before .before .before .before .before .before .before .before .before .before .before .before .before .before .pre .1 .0) in let k = h .smallPool in omega arith)  -- receive-list-add-i
+    (receive-list-add-i t)
     (λ c. search needs)  -- receive-list-sub-k
     (λ c. search needs)  -- receive-list-loop-less
-    (λ c. going-on _ _ _ _ _ _ _ _ _ _ _ _ _ _ _ _ _ _ (c .before .before .before .before .before .before .before .before .before .loop .inv) (c .before .before .before .before .before .before .before .before .loop-test .taken) (c .before .before .before .before .before .before .before .entry .ensures .0) (c .before .before .before .before .receive .ensures))  -- receive-list-loop-again
-    (λ c. c .before .loop .inv .logs)  -- receive-list-same-length
-    (λ c. c .before .loop .inv .outs)  -- receive-list-same-length-2
-    (λ c. going-end _ _ _ _ _ _ _ _ _ _ _ _ _ _ (c .before .loop .inv) (c .loop-test .left))  -- receive-list-returns
+    (receive-list-loop-again t)
+    (λ c. search needs)  -- receive-list-same-length
+    (λ c. search needs)  -- receive-list-same-length-2
+    (λ c. search going-end)  -- receive-list-returns

@@ -5,11 +5,24 @@ use native.Mathlib.Omega.{arith}
 use Rattle.receiving.proofs.opens.Statement.{statement}
 use Rattle.receiving.proofs.opens.Tie as tie
 
+row-kind-requires : tie.Need-row-kind-requires
+row-kind-requires c κs = let start : tie.Start = search in (valid-headed _ (start .pre .0), start .pre .1)
+
+first-part-requires : tie.Need-first-part-requires
+first-part-requires c κs =
+    let after-row-kind : tie.After-row-kind = search in
+    let start : tie.Start = search in
+    (start .pre .0, start .pre .1, let e = after-row-kind .row-kind .ensures in let f = c .if1 .left in omega arith)
+
+can-open-requires : tie.Need-can-open-requires
+can-open-requires c κs = let start : tie.Start = search in (start .pre .0, omega arith)
+
 pub opens-spec : {M : Type 1} → statement M
 opens-spec =
-    tie.close (tie.spec
-    (λ c κs. (valid-headed _ (c .before .pre .0), c .before .pre .1))  -- row-kind-requires
-    (λ c. no-cipher (c .before .before .before .args .book .now) (c .before .before .before .args .entries .now) (c .before .before .before .pre .0) _ _ (c .before .before .before .pre .1) (c .before .row-kind .ensures) (c .if1 .taken))  -- returns
-    (λ c κs. (c .before .before .before .pre .0, c .before .before .before .pre .1, let e = c .before .row-kind .ensures in let f = c .if1 .left in omega arith))  -- first-part-requires
-    (λ c κs. let p = c .first-part .ensures .1 in let q = c .before .before .before .before .pre .1 in (c .before .before .before .before .pre .0, omega arith))  -- can-open-requires
-    (λ c. by-key (c .before .before .before .before .before .args .book .now) (c .before .before .before .before .before .args .entries .now) (c .before .before .before .before .before .pre .0) _ _ (c .before .before .before .before .before .pre .1) (c .before .before .before .row-kind .ensures) _ _ (c .before .before .if1 .left) (c .before .first-part .ensures .0) (c .can-open .ensures)))  -- returns-2
+    tie.close
+    (tie.spec
+    row-kind-requires
+    (λ c. search no-cipher)  -- returns
+    first-part-requires
+    can-open-requires
+    (λ c. search by-key))  -- returns-2

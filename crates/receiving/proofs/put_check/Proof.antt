@@ -5,8 +5,10 @@ use Rattle.receiving.proofs.put_check.Statement.{statement}
 use Rattle.receiving.proofs.put_check.Tie as tie
 
 pub put-check-spec : {M : Type 1} → statement M
-put-check-spec = tie.close (tie.spec
+put-check-spec =
+    tie.close
+    (tie.spec
     (λ c κs. search needs)  -- put2-requires
     (λ c κs. search needs)  -- write-image-requires
     (λ c. search needs)  -- same-length
-    (λ c. check-wrote (c .before .before .before .before .before .before .before .before .before .before .args .book .now) (c .before .before .before .before .before .before .before .before .before .before .args .entries .now) _ _ (c .before .before .before .before .before .before .put2 .ensures) (c .before .before .write-image .ensures)))  -- returns
+    (λ c. search check-wrote))  -- returns

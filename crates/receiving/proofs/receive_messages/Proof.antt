@@ -16,22 +16,43 @@ Inv-loop book here₀ bound first left log₀ out₀ place₀ next i₀ k₀ her
 abbrev μ-loop : tie.MeasureT-loop
 μ-loop book here₀ bound first left log₀ out₀ place₀ next i₀ k₀ here log out place i k = k
 
+loop-holds : tie.Need-loop-holds Inv-loop μ-loop
+loop-holds c =
+    let after-narrow : tie.After-narrow Inv-loop μ-loop = search in
+    let start : tie.Start Inv-loop μ-loop = search in
+    going-start _ _ _ _ _ _ _ _ _ (start .pre .2) (after-narrow .narrow .ensures) (search needs) (start .pre .3)
+
+add-i : tie.Need-add-i Inv-loop μ-loop
+add-i c =
+    let start : tie.Start Inv-loop μ-loop = search in
+    let h = valid-headed _ (start .pre .0) in
+    omega arith
+
+loop-again : tie.Need-loop-again Inv-loop μ-loop
+loop-again c =
+    let after-receive : tie.After-receive Inv-loop μ-loop = search in
+    let after-entry : tie.After-entry Inv-loop μ-loop = search in
+    let in-loop : tie.In-loop Inv-loop μ-loop = search in
+    let at-loop : tie.At-loop Inv-loop μ-loop = search in
+    going-on _ _ _ _ _ _ _ _ _ _ _ _ _ _ _ _ _ _ (at-loop .loop .inv) (in-loop .loop-test .taken)
+    (after-entry .entry .ensures .0) (after-receive .receive .ensures)
+
 pub receive-messages-spec : {M : Type 1} → statement M
 receive-messages-spec =
     tie.close
     (tie.spec
     Inv-loop
     μ-loop
-    (λ c κs. let s = c .before .before .before .pre .2 .few in omega arith)  -- narrow-requires
+    (λ c κs. omega arith)  -- narrow-requires
     (λ c. search needs)  -- add-next
-    (λ c. going-start _ _ _ _ _ _ _ _ _ (c .before .before .before .before .before .pre .2) (c .before .narrow .ensures) (search needs) (c .before .before .before .before .before .pre .3))  -- loop-holds
-    (λ c κs. (c .before .before .before .before .before .before .before .pre .0, c .before .loop .inv .span, c .loop-test .taken))  -- entry-requires
-    (λ c κs. let e = c .before .before .entry .ensures .1 in let q = c .before .before .before .before .before .before .before .before .before .before .pre .1 in let g = c .before .before .before .before .loop .inv .low in let r = c .before .before .before .before .loop .inv .room in let t = c .before .before .before .loop-test .taken in (c .before .before .before .before .before .before .before .before .before .before .pre .0, omega arith, omega arith, going-room _ (c .before .before .before .before .loop .inv) (c .before .before .before .loop-test .taken) (c .before .before .entry .ensures .0)))  -- receive-requires
+    loop-holds
+    (λ c κs. search needs)  -- entry-requires
+    (λ c κs. search (going-room, needs))  -- receive-requires
     (λ c. search needs)  -- add-place
-    (λ c. let s = c .before .before .before .before .before .before .before .before .before .loop .inv .span .inside in let h = valid-headed _ (c .before .before .before .before .before .before .before .before .before .before .before .before .before .before .before .pre .0) in let k = h .smallPool in omega arith)  -- add-i
+    add-i
     (λ c. search needs)  -- sub-k
     (λ c. search needs)  -- loop-less
-    (λ c. going-on _ _ _ _ _ _ _ _ _ _ _ _ _ _ _ _ _ _ (c .before .before .before .before .before .before .before .before .before .loop .inv) (c .before .before .before .before .before .before .before .before .loop-test .taken) (c .before .before .before .before .before .before .before .entry .ensures .0) (c .before .before .before .before .receive .ensures))  -- loop-again
-    (λ c. c .before .loop .inv .logs)  -- same-length
-    (λ c. c .before .loop .inv .outs)  -- same-length-2
+    loop-again
+    (λ c. search needs)  -- same-length
+    (λ c. search needs)  -- same-length-2
     (λ c. search going-end))  -- returns

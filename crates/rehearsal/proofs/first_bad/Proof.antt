@@ -18,6 +18,22 @@ Inv-loop schedule q i₀ i = (i ≤ length schedule) × ((k : ℕ) → k < i →
 abbrev μ-loop : tie.MeasureT-loop
 μ-loop schedule q i₀ i = length schedule - i
 
+loop-again : tie.Need-loop-again Inv-loop μ-loop
+loop-again c =
+    let in-loop : tie.In-loop Inv-loop μ-loop = search in
+    let at-loop : tie.At-loop Inv-loop μ-loop = search in
+    let start : tie.Start Inv-loop μ-loop = search in (
+      let t = in-loop .loop-test .taken in omega arith,
+      below-more _ _ (at-loop .loop .inv .1) (lt-leb (start .args .q) (getD (start .args .schedule .now) _ 0) (let t
+          = c .if1 .left in omega arith)),
+    )
+
+returns-2 : tie.Need-returns-2 Inv-loop μ-loop
+returns-2 c =
+    let at-loop : tie.At-loop Inv-loop μ-loop = search in
+    first-end _ _ _ (let t = c .loop-test .left in let h = at-loop .loop .inv .0 in omega arith)
+    (at-loop .loop .inv .1)
+
 pub first-bad-spec : {M : Type 1} → statement M
 first-bad-spec =
     tie.close
@@ -27,8 +43,8 @@ first-bad-spec =
     (λ c. (omega arith, λ k h. absurd (omega arith)))  -- loop-holds
     (λ c. search needs)  -- mul-if1
     (λ c. search needs)  -- shared-slice-read-if1
-    (λ c. first-at _ _ _ (c .before .before .loop-test .taken) (c .before .before .before .loop .inv .1) (le-leb (c .before .before .before .before .args .q) (getD (c .before .before .before .before .args .schedule .now) (c .before .before .before .loop .i) 0) (let t = c .if1 .taken in omega arith)))  -- returns
+    (λ c. search (first-at, le-leb, getD, needs))  -- returns
     (λ c. search needs)  -- add-i
     (λ c. search needs)  -- loop-less
-    (λ c. (let t = c .before .before .loop-test .taken in omega arith, below-more _ _ (c .before .before .before .loop .inv .1) (lt-leb (c .before .before .before .before .args .q) (getD (c .before .before .before .before .args .schedule .now) (c .before .before .before .loop .i) 0) (let t = c .if1 .left in omega arith))))  -- loop-again
-    (λ c. first-end _ _ _ (let t = c .loop-test .left in let h = c .before .loop .inv .0 in omega arith) (c .before .loop .inv .1)))  -- returns-2
+    loop-again
+    returns-2)

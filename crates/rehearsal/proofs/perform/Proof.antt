@@ -7,13 +7,25 @@ use borrow.Author.Needs.{needs}
 use Rattle.rehearsal.proofs.perform.Statement.{statement}
 use Rattle.rehearsal.proofs.perform.Tie as tie
 
+place-requires : tie.Need-place-requires
+place-requires c κs = let start : tie.Start = search in (start .pre .0 .valid, refl, refl, refl)
+
+play-requires : tie.Need-play-requires
+play-requires c κs = let start : tie.Start = search in (start .pre .0 .valid, start .pre .1, refl)
+
+write-counts-requires : tie.Need-write-counts-requires
+write-counts-requires c κs =
+    let start : tie.Start = search in
+    let f = valid-headed _ (start .pre .0 .valid) in
+    omega arith
+
 pub perform-spec : {M : Type 1} → statement M
 perform-spec =
     tie.close
     (tie.spec
-    (λ c κs. (c .before .before .before .before .before .before .pre .0 .valid, refl, refl, refl))  -- place-requires
-    (λ c κs. (c .before .before .before .before .before .before .before .before .before .before .before .pre .0 .valid, c .before .before .before .before .before .before .before .before .before .before .before .pre .1, refl))  -- play-requires
-    (λ c κs. valid-headed _ (c .before .before .before .before .before .before .before .before .before .before .before .before .before .pre .0 .valid))  -- parties-requires
-    (λ c κs. let f = valid-headed _ (c .before .before .before .before .before .before .before .before .before .before .before .before .before .before .before .pre .0 .valid) in let n = f .fewParties in let e = c .before .parties .ensures in omega arith)  -- write-counts-requires
+    place-requires
+    play-requires
+    (λ c κs. search valid-headed)  -- parties-requires
+    write-counts-requires
     (λ c. search needs)  -- same-length
-    (λ c. performed _ _ _ _ (c .before .before .before .before .before .before .before .before .before .before .before .place .ensures) (c .before .before .before .before .before .before .before .before .before .before .before .before .before .before .before .before .before .before .pre .0) _ (c .before .before .before .before .before .before .before .before .before .before .before .before .before .before .before .before .before .before .pre .1) _ (c .before .before .before .before .before .before .play .ensures) (c .before .before .before .before .parties .ensures) (c .before .before .write-counts .ensures)))  -- returns
+    (λ c. search performed))  -- returns

@@ -8,7 +8,6 @@ use lib.ListN.{length, take}
 use Prim.Native.Nat.{_-_, _≤_, _<_}
 use Rattle.rehearsal.proofs.Laws.{played-none, played-on, played-all}
 use borrow.Author.Needs.{needs}
-use native.Mathlib.Omega.{arith}
 use Rattle.rehearsal.proofs.play.Statement.{statement}
 use Rattle.rehearsal.proofs.play.Tie as tie
 
@@ -18,17 +17,28 @@ Inv-loop book sends receives ends schedule done₀ i₀ done i = (i ≤ length s
 abbrev μ-loop : tie.MeasureT-loop
 μ-loop book sends receives ends schedule done₀ i₀ done i = length schedule - i
 
+tick-requires : tie.Need-tick-requires Inv-loop μ-loop
+tick-requires c κs =
+    let in-loop : tie.In-loop Inv-loop μ-loop = search in
+    let at-loop : tie.At-loop Inv-loop μ-loop = search in
+    let start : tie.Start Inv-loop μ-loop = search in (
+      start .pre .0,
+      all-getD (λ q. q < parties (start .args .book .now)) (start .args .schedule .now) (start .pre .1) _
+          (in-loop .loop-test .taken),
+      at-loop .loop .inv .2,
+    )
+
 pub play-spec : {M : Type 1} → statement M
 play-spec =
     tie.close
     (tie.spec
     Inv-loop
     μ-loop
-    (λ c. (omega arith, played-none (c .before .before .args .book .now) (places (c .before .before .args .sends .now) (c .before .before .args .receives .now) (c .before .before .args .ends .now)) (c .before .before .args .schedule .now) (counts (c .before .before .args .done .now)), c .before .before .pre .2))  -- loop-holds
+    (λ c. search (played-none, places, counts, needs))  -- loop-holds
     (λ c. search needs)  -- mul-tick
     (λ c. search needs)  -- shared-slice-read-tick
-    (λ c κs. (c .before .before .before .before .before .before .pre .0, all-getD (λ q. q < parties (c .before .before .before .before .before .before .args .book .now)) (c .before .before .before .before .before .before .args .schedule .now) (c .before .before .before .before .before .before .pre .1) (c .before .before .before .loop .i) (c .before .before .loop-test .taken), c .before .before .before .loop .inv .2))  -- tick-requires
+    tick-requires
     (λ c. search needs)  -- add-i
     (λ c. search needs)  -- loop-less
-    (λ c. (let t = c .before .before .before .loop-test .taken in omega arith, played-on (c .before .before .before .before .before .before .before .args .book .now) (places (c .before .before .before .before .before .before .before .args .sends .now) (c .before .before .before .before .before .before .before .args .receives .now) (c .before .before .before .before .before .before .before .args .ends .now)) (c .before .before .before .before .before .before .before .args .schedule .now) (c .before .before .before .before .loop .i) (counts (c .before .before .before .before .before .before .before .args .done .now)) _ _ (c .before .before .before .loop-test .taken) (c .before .before .before .before .loop .inv .1) (c .tick .ensures .0), c .tick .ensures .1))  -- loop-again
-    (λ c. played-all (c .before .before .before .before .args .book .now) (places (c .before .before .before .before .args .sends .now) (c .before .before .before .before .args .receives .now) (c .before .before .before .before .args .ends .now)) (c .before .before .before .before .args .schedule .now) (c .before .loop .i) (counts (c .before .before .before .before .args .done .now)) _ (let t = c .loop-test .left in omega arith) (c .before .loop .inv .1)))  -- returns
+    (λ c. search (played-on, places, counts, needs))  -- loop-again
+    (λ c. search (played-all, places, counts, needs)))  -- returns

@@ -7,6 +7,12 @@ use borrow.Author.Needs.{needs}
 use Rattle.rehearsal.proofs.rehearse.Statement.{statement}
 use Rattle.rehearsal.proofs.rehearse.Tie as tie
 
+rehearse-accepted-requires : tie.Need-rehearse-accepted-requires
+rehearse-accepted-requires c κs =
+    let after-enum-told : tie.After-enum-told = search in
+    let after-accept : tie.After-accept = search in
+    accepted-plays _ .0 (sym (after-accept .accept .ensures) ∙ ap readingSays (after-enum-told .enum-told .given .1))
+
 pub rehearse-spec : {M : Type 1} → statement M
 rehearse-spec =
     tie.close
@@ -14,7 +20,7 @@ rehearse-spec =
     (λ c κs. search needs)  -- accept-requires
     (λ c. search needs)  -- enum-known-why
     (λ c. search needs)  -- enum-told
-    (λ c κs. accepted-plays (c .before .before .before .before .before .before .before .args .book .now) .0 (sym (c .before .before .before .accept .ensures) ∙ ap readingSays (c .before .enum-told .given .1)))  -- rehearse-accepted-requires
-    (λ c. refused (c .before .before .before .before .before .before .before .args .book .now) (c .before .before .before .before .before .before .before .args .schedule .now) _ _ _ (c .before .before .before .accept .ensures) (c .before .why .given .1))  -- returns
+    rehearse-accepted-requires
+    (λ c. search refused)  -- returns
     (λ c. search needs)  -- same-length
     (λ c. search needs))  -- returns-2

@@ -19,17 +19,32 @@ Inv-loop book sends receives done party n step₀ step = (step ≤ n) × ((k : �
 abbrev μ-loop : tie.MeasureT-loop
 μ-loop book sends receives done party n step₀ step = n - step
 
+waits-for-requires : tie.Need-waits-for-requires Inv-loop μ-loop
+waits-for-requires c κs =
+    let after-steps : tie.After-steps Inv-loop μ-loop = search in
+    let start : tie.Start Inv-loop μ-loop = search in
+    (start .pre .0, start .pre .1, let t = c .loop-test .taken in let e = after-steps .steps .ensures in omega arith)
+
+loop-again : tie.Need-loop-again Inv-loop μ-loop
+loop-again c =
+    let after-waits-for : tie.After-waits-for Inv-loop μ-loop = search in
+    let in-loop : tie.In-loop Inv-loop μ-loop = search in
+    let at-loop : tie.At-loop Inv-loop μ-loop = search in (
+      let t = in-loop .loop-test .taken in omega arith,
+      below-more _ _ (at-loop .loop .inv .1) (sym (after-waits-for .waits-for .ensures) ∙ c .if1 .left),
+    )
+
 pub waits-spec : {M : Type 1} → statement M
 waits-spec =
     tie.close
     (tie.spec
     Inv-loop
     μ-loop
-    (λ c κs. valid-headed _ (c .before .pre .0))  -- steps-requires
+    (λ c κs. search valid-headed)  -- steps-requires
     (λ c. (omega arith, λ k h. absurd (omega arith)))  -- loop-holds
-    (λ c κs. (c .before .before .before .before .pre .0, c .before .before .before .before .pre .1, let t = c .loop-test .taken in let e = c .before .before .steps .ensures in omega arith))  -- waits-for-requires
-    (λ c. some-step (c .before .before .before .before .before .before .args .book .now) (c .before .before .before .before .before .before .args .sends .now) (c .before .before .before .before .before .before .args .receives .now) (c .before .before .before .before .before .before .args .done .now) (c .before .before .before .before .before .before .args .party) _ _ _ (c .before .before .before .before .steps .ensures) (c .before .before .loop-test .taken) (c .before .waits-for .ensures) (c .if1 .taken))  -- returns
+    waits-for-requires
+    (λ c. search some-step)  -- returns
     (λ c. search needs)  -- add-step
     (λ c. search needs)  -- loop-less
-    (λ c. (let t = c .before .before .loop-test .taken in omega arith, below-more _ _ (c .before .before .before .loop .inv .1) (sym (c .before .waits-for .ensures) ∙ c .if1 .left)))  -- loop-again
-    (λ c. no-step (c .before .before .before .before .args .book .now) (c .before .before .before .before .args .sends .now) (c .before .before .before .before .args .receives .now) (c .before .before .before .before .args .done .now) (c .before .before .before .before .args .party) _ _ (c .before .before .steps .ensures) (let t = c .loop-test .left in omega arith) (c .before .loop .inv .1)))  -- returns-2
+    loop-again
+    (λ c. search no-step))  -- returns-2

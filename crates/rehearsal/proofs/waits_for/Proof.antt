@@ -7,24 +7,66 @@ use borrow.Author.Needs.{needs}
 use Rattle.rehearsal.proofs.waits_for.Statement.{statement}
 use Rattle.rehearsal.proofs.waits_for.Tie as tie
 
+element-copy-out-if2 : tie.Need-element-copy-out-if2
+element-copy-out-if2 c =
+    let start : tie.Start = search in
+    let f = valid-headed _ (start .pre .0) in
+    omega arith
+
+element-copy-out-if2-2 : tie.Need-element-copy-out-if2-2
+element-copy-out-if2-2 c =
+    let start : tie.Start = search in
+    let f = valid-headed _ (start .pre .0) in
+    omega arith
+
+element-copy-out-result : tie.Need-element-copy-out-result
+element-copy-out-result c =
+    let start : tie.Start = search in
+    let f = valid-headed _ (start .pre .0) in
+    let p = start .pre .0 .stepsKeep _ (start .pre .2) .sends in
+    omega arith
+
+element-copy-out-result-2 : tie.Need-element-copy-out-result-2
+element-copy-out-result-2 c =
+    let start : tie.Start = search in
+    let f = valid-headed _ (start .pre .0) in
+    omega arith
+
+returns-3 : tie.Need-returns-3
+returns-3 c =
+    let after-wide4 : tie.After-wide4 = search in
+    let after-wide3 : tie.After-wide3 = search in
+    let after-step-sender : tie.After-step-sender = search in
+    let else2 : tie.Else2 = search in
+    let after-wide2 : tie.After-wide2 = search in
+    let after-wide : tie.After-wide = search in
+    let else1 : tie.Else1 = search in
+    let after-step-receiver : tie.After-step-receiver = search in
+    let start : tie.Start = search in
+    by-send _ (start .args .sends .now) (start .args .receives .now) (start .args .done .now) _ _ _ _ _
+    (after-step-receiver .step-receiver .ensures) (else1 .if1 .left) (after-wide .wide .ensures .0)
+    (after-wide2 .wide2 .ensures .0) _ _
+    (after-wide3 .wide3 .ensures .0 ∙ after-step-sender .step-sender .ensures) (after-wide4 .wide4 .ensures .0)
+    (else2 .if2 .left)
+
 pub waits-for-spec : {M : Type 1} → statement M
 waits-for-spec =
     tie.close
     (tie.spec
-    (λ c κs. (valid-headed _ (c .before .pre .0), c .before .pre .2))  -- step-receiver-requires
-    (λ c. other-receiver (c .before .before .before .args .book .now) (c .before .before .before .args .sends .now) (c .before .before .before .args .receives .now) (c .before .before .before .args .done .now) (c .before .before .before .args .party) (c .before .before .before .args .step) _ (c .before .step-receiver .ensures) (c .if1 .taken))  -- returns
+    (λ c κs. search (valid-headed, needs))  -- step-receiver-requires
+    (λ c. search other-receiver)  -- returns
     (λ c κs. search needs)  -- wide-requires
     (λ c. search needs)  -- mul-if2
-    (λ c. let f = valid-headed _ (c .before .before .before .before .pre .0) in let n = f .fewSteps in let p = c .before .before .before .before .pre .2 in let w = c .wide .ensures .0 in omega arith)  -- element-copy-out-if2
+    element-copy-out-if2
     (λ c κs. search needs)  -- wide-requires-2
     (λ c. search needs)  -- mul-if2-2
-    (λ c. let f = valid-headed _ (c .before .before .before .before .before .before .pre .0) in let n = f .fewParties in let p = c .before .before .before .before .before .before .pre .1 in let w = c .wide2 .ensures .0 in omega arith)  -- element-copy-out-if2-2
-    (λ c. other-place (c .before .before .before .before .before .before .before .before .args .book .now) (c .before .before .before .before .before .before .before .before .args .sends .now) (c .before .before .before .before .before .before .before .before .args .receives .now) (c .before .before .before .before .before .before .before .before .args .done .now) (c .before .before .before .before .before .before .before .before .args .party) (c .before .before .before .before .before .before .before .before .args .step) _ _ _ (c .before .before .before .before .before .before .step-receiver .ensures) (c .before .before .before .before .before .if1 .left) (c .before .before .before .before .wide .ensures .0) (c .before .before .wide2 .ensures .0) (c .if2 .taken))  -- returns-2
-    (λ c κs. (valid-headed _ (c .before .before .before .before .before .before .before .before .pre .0), c .before .before .before .before .before .before .before .before .pre .2))  -- step-sender-requires
+    element-copy-out-if2-2
+    (λ c. search other-place)  -- returns-2
+    (λ c κs. search (valid-headed, needs))  -- step-sender-requires
     (λ c κs. search needs)  -- wide-requires-3
     (λ c. search needs)  -- mul-result
-    (λ c. let f = valid-headed _ (c .before .before .before .before .before .before .before .before .before .before .pre .0) in let n = f .fewParties in let p = c .before .before .before .before .before .before .before .before .before .before .pre .0 .stepsKeep _ (c .before .before .before .before .before .before .before .before .before .before .pre .2) .sends in let s = c .before .step-sender .ensures in let w = c .wide3 .ensures .0 in omega arith)  -- element-copy-out-result
+    element-copy-out-result
     (λ c κs. search needs)  -- wide-requires-4
     (λ c. search needs)  -- mul-result-2
-    (λ c. let f = valid-headed _ (c .before .before .before .before .before .before .before .before .before .before .before .before .pre .0) in let n = f .fewSteps in let p = c .before .before .before .before .before .before .before .before .before .before .before .before .pre .2 in let w = c .wide4 .ensures .0 in omega arith)  -- element-copy-out-result-2
-    (λ c. by-send (c .before .before .before .before .before .before .before .before .before .before .before .before .before .args .book .now) (c .before .before .before .before .before .before .before .before .before .before .before .before .before .args .sends .now) (c .before .before .before .before .before .before .before .before .before .before .before .before .before .args .receives .now) (c .before .before .before .before .before .before .before .before .before .before .before .before .before .args .done .now) (c .before .before .before .before .before .before .before .before .before .before .before .before .before .args .party) (c .before .before .before .before .before .before .before .before .before .before .before .before .before .args .step) _ _ _ (c .before .before .before .before .before .before .before .before .before .before .before .step-receiver .ensures) (c .before .before .before .before .before .before .before .before .before .before .if1 .left) (c .before .before .before .before .before .before .before .before .before .wide .ensures .0) (c .before .before .before .before .before .before .before .wide2 .ensures .0) _ _ (c .before .before .before .wide3 .ensures .0 ∙ c .before .before .before .before .step-sender .ensures) (c .before .wide4 .ensures .0) (c .before .before .before .before .before .if2 .left)))  -- returns-3
+    element-copy-out-result-2
+    returns-3)

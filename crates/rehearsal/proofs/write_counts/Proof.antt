@@ -17,19 +17,38 @@ Inv-loop done q out₀ at₀ party₀ out at party = (party ≤ q) × Wrote (val
 abbrev μ-loop : tie.MeasureT-loop
 μ-loop done q out₀ at₀ party₀ out at party = q - party
 
+loop-again : tie.Need-loop-again Inv-loop μ-loop
+loop-again c =
+    let after-put : tie.After-put Inv-loop μ-loop = search in
+    let after-wide : tie.After-wide Inv-loop μ-loop = search in
+    let in-loop : tie.In-loop Inv-loop μ-loop = search in
+    let at-loop : tie.At-loop Inv-loop μ-loop = search in
+    let start : tie.Start Inv-loop μ-loop = search in (
+      let t = in-loop .loop-test .taken in omega arith,
+      counts-on (counts (start .args .done .now)) (at-loop .loop .inv .1) (after-wide .wide .ensures .0) refl
+          (after-put .put .ensures),
+    )
+
+returns : tie.Need-returns Inv-loop μ-loop
+returns c =
+    let at-loop : tie.At-loop Inv-loop μ-loop = search in
+    let start : tie.Start Inv-loop μ-loop = search in
+    counts-all (counts (start .args .done .now)) (let t = c .loop-test .left in let h = at-loop .loop .inv .0 in
+    omega arith) (at-loop .loop .inv .1)
+
 pub write-counts-spec : {M : Type 1} → statement M
 write-counts-spec =
     tie.close
     (tie.spec
     Inv-loop
     μ-loop
-    (λ c. (omega arith, counts-none (counts (c .before .args .done .now))))  -- loop-holds
+    (λ c. search (counts-none, counts, needs))  -- loop-holds
     (λ c κs. search needs)  -- wide-requires
     (λ c. search needs)  -- mul-put
-    (λ c. let p = c .before .before .before .before .before .pre in let t = c .before .before .loop-test .taken in let w = c .wide .ensures .0 in omega arith)  -- element-copy-out-put
+    (λ c. omega arith)  -- element-copy-out-put
     (λ c κs. search needs)  -- put-requires
     (λ c. search needs)  -- add-party
     (λ c. search needs)  -- loop-less
-    (λ c. (let t = c .before .before .before .before .before .before .loop-test .taken in omega arith, counts-on (counts (c .before .before .before .before .before .before .before .before .before .args .done .now)) (c .before .before .before .before .before .before .before .loop .inv .1) (c .before .before .before .before .wide .ensures .0) refl (c .before .before .put .ensures)))  -- loop-again
-    (λ c. wrote-length (c .before .loop .inv .1))  -- same-length
-    (λ c. counts-all (counts (c .before .before .before .args .done .now)) (let t = c .loop-test .left in let h = c .before .loop .inv .0 in omega arith) (c .before .loop .inv .1)))  -- returns
+    loop-again
+    (λ c. search wrote-length)  -- same-length
+    returns)

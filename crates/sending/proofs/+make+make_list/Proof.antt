@@ -6,7 +6,7 @@ use Prim.Native.Nat.{_+_, _*_}
 use borrow.Author.Needs.{needs}
 use native.Mathlib.Omega.{arith}
 use Prim.Native.Nat.{ℕ, _<_}
-use borrow.Fn.Kinds.{In}
+use borrow.Fn.Kinds.{In, Out}
 use borrow.Fn.PlainCycle.{Measures, is, falls, and}
 use Rattle.sending.proofs.make.Reads as make
 use Rattle.sending.proofs.make.Kinds as make-kinds
@@ -43,8 +43,8 @@ abbrev make-list-below : ℕ → In 4 make-list-kinds.ps
 make-list-below t =
     and 4 make-list-kinds.ps (falls 4 make-list-kinds.ps _<_ μ-make-list t) make-list.Pre
 
-pub +make+make-list-spec : {M : Type 1} → statement M
-+make+make-list-spec = close μ-make μ-make-list (λ t. make-lts.spec (
+abbrev make-calls : ℕ → make-lts.Claims
+make-calls t = (
   wide-reads.Asked,
   wide-reads.Learnt,
   row-kind-reads.Asked,
@@ -60,40 +60,129 @@ pub +make+make-list-spec : {M : Type 1} → statement M
   make-list-below t,
   make-list.Post,
 )
+
+-- a place or a need of `make`, by its name
+abbrev in-make : (make-lts.Claims → In 4 make-kinds.ps → Out 4 make-kinds.ps make-kinds.r → Type 0) → ℕ → Type 0
+in-make P t = P (make-calls t) (make-at t) make.Post
+
+abbrev make-list-calls : ℕ → make-list-lts.Claims
+make-list-calls t = (
+  entry-reads.Asked,
+  entry-reads.Learnt,
+  make-below t,
+  make.Post,
+  make-list-below t,
+  make-list.Post,
+)
+
+-- a place or a need of `make_list`, by its name
+abbrev in-make-list : (make-list-lts.Claims → In 4 make-list-kinds.ps → Out 4 make-list-kinds.ps make-list-kinds.r → Type 0) → ℕ → Type 0
+in-make-list P t = P (make-list-calls t) (make-list-at t) make-list.Post
+
+make-mul-if1 : (t : ℕ) → in-make make-lts.Need-mul-if1 t
+make-mul-if1 t c =
+    let start : in-make make-lts.Start t = search in
+    let h = valid-headed _ (start .pre .1 .0) in
+    omega arith
+
+make-element-copy-out-if1 : (t : ℕ) → in-make make-lts.Need-element-copy-out-if1 t
+make-element-copy-out-if1 t c =
+    let start : in-make make-lts.Start t = search in
+    let h = valid-headed _ (start .pre .1 .0) in
+    omega arith
+
+make-mul-entries : (t : ℕ) → in-make make-lts.Need-mul-entries t
+make-mul-entries t c =
+    let start : in-make make-lts.Start t = search in
+    let h = valid-headed _ (start .pre .1 .0) in
+    omega arith
+
+make-element-write-entries : (t : ℕ) → in-make make-lts.Need-element-write-entries t
+make-element-write-entries t c =
+    let start : in-make make-lts.Start t = search in
+    let h = valid-headed _ (start .pre .1 .0) in
+    omega arith
+
+make-first-taken-requires : (t : ℕ) → in-make make-lts.Need-first-taken-requires t
+make-first-taken-requires t c κs =
+    let start : in-make make-lts.Start t = search in
+    let h = valid-headed _ (start .pre .1 .0) in
+    omega arith
+
+make-make-list-requires : (t : ℕ) → in-make make-lts.Need-make-list-requires t
+make-make-list-requires t c κs =
+    let after-row-count : in-make make-lts.After-row-count t = search in
+    let after-row-first : in-make make-lts.After-row-first t = search in
+    let start : in-make make-lts.Start t = search in
+    let s = span-row _ (start .pre .1 .0) _ _ _ (start .pre .1 .1) (after-row-first .row-first .ensures .0)
+    (after-row-count .row-count .ensures .0) in
+    (omega arith, (start .pre .1 .0, omega arith, s, start .pre .1 .2))
+
+make-list-entry-requires : (t : ℕ) → in-make-list make-list-lts.Need-entry-requires t
+make-list-entry-requires t c κs =
+    let else1 : in-make-list make-list-lts.Else1 t = search in
+    let start : in-make-list make-list-lts.Start t = search in
+    (start .pre .1 .0, start .pre .1 .2, let n = else1 .if1 .left in omega arith)
+
+make-list-make-requires : (t : ℕ) → in-make-list make-list-lts.Need-make-requires t
+make-list-make-requires t c κs =
+    let start : in-make-list make-list-lts.Start t = search in
+    (omega arith, (start .pre .1 .0, omega arith, start .pre .1 .3))
+
+make-list-add-make-list : (t : ℕ) → in-make-list make-list-lts.Need-add-make-list t
+make-list-add-make-list t c =
+    let start : in-make-list make-list-lts.Start t = search in
+    let h = valid-headed _ (start .pre .1 .0) in
+    omega arith
+
+make-list-make-list-requires : (t : ℕ) → in-make-list make-list-lts.Need-make-list-requires t
+make-list-make-list-requires t c κs =
+    let after-make : in-make-list make-list-lts.After-make t = search in
+    let else1 : in-make-list make-list-lts.Else1 t = search in
+    let start : in-make-list make-list-lts.Start t = search in
+    let s = span-tail _ _ _ _ (start .pre .1 .2) (let n = else1 .if1 .left in omega arith) in
+    (omega arith, (start .pre .1 .0, start .pre .1 .1, s, after-make .make .ensures .size))
+
+make-list-returns-2 : (t : ℕ) → in-make-list make-list-lts.Need-returns-2 t
+make-list-returns-2 t c =
+    let after-make-list : in-make-list make-list-lts.After-make-list t = search in
+    let after-make : in-make-list make-list-lts.After-make t = search in
+    let after-entry : in-make-list make-list-lts.After-entry t = search in
+    let else1 : in-make-list make-list-lts.Else1 t = search in
+    more-makes _ _ _ _ _ _ _ (let n = else1 .if1 .left in omega arith) (after-entry .entry .ensures .0)
+    (after-make .make .ensures) (after-make-list .make-list .ensures)
+
+pub +make+make-list-spec : {M : Type 1} → statement M
++make+make-list-spec = close μ-make μ-make-list (λ t. make-lts.spec
+    (make-calls t)
     (make-at t)
     make.Post
     (λ c κs. search needs)  -- make-wide-requires
-    (λ c. let h = valid-headed _ (c .before .before .before .pre .1 .0) in let k = h .fewRows in omega arith)  -- make-mul-if1
-    (λ c. let h = valid-headed _ (c .before .before .before .pre .1 .0) in let k = h .fewRows in omega arith)  -- make-element-copy-out-if1
-    (λ c. held-makes (c .before .before .before .before .before .args .book .now) (c .before .before .before .before .before .args .since .now) (c .before .before .before .before .before .args .entries .now) _ _ (c .before .before .before .before .before .pre .1 .0) (c .before .before .before .before .before .pre .1 .1) (c .before .before .before .before .before .args .m) (c .before .before .before .before .before .pre .1 .2) _ _ (c .before .before .wide .ensures .0) (let t = c .if1 .taken in λ z. absurd (omega arith)))  -- make-returns
-    (λ c κs. (valid-headed _ (c .before .before .before .before .before .pre .1 .0), c .before .before .before .before .before .pre .1 .1))  -- make-row-kind-requires
+    (make-mul-if1 t)
+    (make-element-copy-out-if1 t)
+    (λ c. search held-makes)  -- make-returns
+    (λ c κs. search (valid-headed, needs))  -- make-row-kind-requires
     (λ c κs. search needs)  -- make-wide-requires-2
-    (λ c. let h = valid-headed _ (c .before .before .before .before .before .before .before .before .pre .1 .0) in let k = h .fewRows in let e = c .wide2 .ensures .0 in omega arith)  -- make-mul-entries
-    (λ c. let h = valid-headed _ (c .before .before .before .before .before .before .before .before .pre .1 .0) in let k = h .fewRows in let e = c .wide2 .ensures .0 in let r = c .before .before .before .before .before .before .before .before .pre .1 .1 in omega arith)  -- make-element-write-entries
+    (make-mul-entries t)
+    (make-element-write-entries t)
     (λ c κs. search needs)  -- make-put2-requires
-    (λ c κs. let h = valid-headed _ (c .before .before .before .before .before .before .before .before .before .before .before .before .pre .1 .0) in let k = h .fewRows in let r = c .before .before .before .before .before .before .before .before .before .before .before .before .pre .1 .1 in omega arith)  -- make-first-taken-requires
+    (make-first-taken-requires t)
     (λ c. search needs)  -- make-same-length
-    (λ c. atom-makes (c .before .before .before .before .before .before .before .before .before .before .before .before .before .args .book .now) (c .before .before .before .before .before .before .before .before .before .before .before .before .before .args .since .now) (c .before .before .before .before .before .before .before .before .before .before .before .before .before .args .entries .now) _ _ (c .before .before .before .before .before .before .before .before .before .before .before .before .before .pre .1 .0) (c .before .before .before .before .before .before .before .before .before .before .before .before .before .pre .1 .1) (c .before .before .before .before .before .before .before .before .before .before .before .before .before .args .m) (c .before .before .before .before .before .before .before .before .before .before .before .before .before .pre .1 .2) _ _ _ _ _ _ _ (c .before .before .before .before .before .before .before .before .before .before .wide .ensures .0) (c .before .before .before .before .before .before .before .before .if1 .left) (c .before .before .before .before .before .before .before .row-kind .ensures) (c .before .before .before .before .before .before .if2 .taken) (c .before .before .before .before .before .wide2 .ensures .0) (c .before .before .before .put2 .ensures) (c .first-taken .ensures))  -- make-returns-2
-    (λ c κs. (valid-headed _ (c .before .before .before .before .before .before .before .before .pre .1 .0), c .before .before .before .before .before .before .before .before .pre .1 .1))  -- make-row-first-requires
-    (λ c κs. (valid-headed _ (c .before .before .before .before .before .before .before .before .before .pre .1 .0), c .before .before .before .before .before .before .before .before .before .pre .1 .1))  -- make-row-count-requires
-    (λ c κs. let q = c .before .before .before .before .before .before .before .before .before .before .before .pre .1 .1 in let s = span-row _ (c .before .before .before .before .before .before .before .before .before .before .before .pre .1 .0) _ _ _ (c .before .before .before .before .before .before .before .before .before .before .before .pre .1 .1) (c .before .before .row-first .ensures .0) (c .before .row-count .ensures .0) in let f = s .few in (omega arith, (c .before .before .before .before .before .before .before .before .before .before .before .pre .1 .0, omega arith, s, c .before .before .before .before .before .before .before .before .before .before .before .pre .1 .2)))  -- make-make-list-requires
+    (λ c. search atom-makes)  -- make-returns-2
+    (λ c κs. search (valid-headed, needs))  -- make-row-first-requires
+    (λ c κs. search (valid-headed, needs))  -- make-row-count-requires
+    (make-make-list-requires t)
     (λ c. search needs)  -- make-same-length-2
-    (λ c. parts-makes (c .before .before .before .before .before .before .before .before .before .before .before .before .before .before .args .book .now) (c .before .before .before .before .before .before .before .before .before .before .before .before .before .before .args .since .now) (c .before .before .before .before .before .before .before .before .before .before .before .before .before .before .args .entries .now) _ _ (c .before .before .before .before .before .before .before .before .before .before .before .before .before .before .pre .1 .0) (c .before .before .before .before .before .before .before .before .before .before .before .before .before .before .pre .1 .1) (c .before .before .before .before .before .before .before .before .before .before .before .before .before .before .args .m) (c .before .before .before .before .before .before .before .before .before .before .before .before .before .before .pre .1 .2) _ _ _ _ (c .before .before .before .before .before .before .before .before .before .before .before .wide .ensures .0) (c .before .before .before .before .before .before .before .before .before .if1 .left) (c .before .before .before .before .before .before .before .before .row-kind .ensures) (c .before .before .before .before .before .before .before .if2 .left) (c .before .before .before .before .before .row-first .ensures .0) (c .before .before .before .before .row-count .ensures .0) (c .before .before .make-list .ensures)))  -- make-returns-3
-    λ t. make-list-lts.spec (
-      entry-reads.Asked,
-      entry-reads.Learnt,
-      make-below t,
-      make.Post,
-      make-list-below t,
-      make-list.Post,
-    )
+    (λ c. search parts-makes))  -- make-returns-3
+    λ t. make-list-lts.spec
+    (make-list-calls t)
     (make-list-at t)
     make-list.Post
-    (λ c. none-makes _ _ _ _ _ _ _ _ (c .before .before .before .pre .1 .3) (c .if1 .taken))  -- make-list-returns
-    (λ c κs. (c .before .before .before .before .pre .1 .0, c .before .before .before .before .pre .1 .2, let n = c .before .if1 .left in omega arith))  -- make-list-entry-requires
-    (λ c κs. let p = c .before .entry .ensures .1 in let q = c .before .before .before .before .before .before .pre .1 .1 in (omega arith, (c .before .before .before .before .before .before .pre .1 .0, omega arith, c .before .before .before .before .before .before .pre .1 .3)))  -- make-list-make-requires
-    (λ c. let s = c .before .before .before .before .before .before .before .before .before .before .pre .1 .2 .inside in let h = valid-headed _ (c .before .before .before .before .before .before .before .before .before .before .pre .1 .0) in let k = h .smallPool in omega arith)  -- make-list-add-make-list
+    (λ c. search none-makes)  -- make-list-returns
+    (make-list-entry-requires t)
+    (make-list-make-requires t)
+    (make-list-add-make-list t)
     (λ c. search needs)  -- make-list-sub-make-list
-    (λ c κs. let s = span-tail _ _ _ _ (c .before .before .before .before .before .before .before .before .before .before .before .pre .1 .2) (let n = c .before .before .before .before .before .before .before .before .if1 .left in omega arith) in (omega arith, (c .before .before .before .before .before .before .before .before .before .before .before .pre .1 .0, c .before .before .before .before .before .before .before .before .before .before .before .pre .1 .1, s, c .before .before .before .before .make .ensures .size)))  -- make-list-make-list-requires
+    (make-list-make-list-requires t)
     (λ c. search needs)  -- make-list-same-length
-    (λ c. more-makes (c .before .before .before .before .before .before .before .before .before .before .before .before .before .before .args .book .now) (c .before .before .before .before .before .before .before .before .before .before .before .before .before .before .args .since .now) (c .before .before .before .before .before .before .before .before .before .before .before .before .before .before .args .entries .now) _ _ _ _ (let n = c .before .before .before .before .before .before .before .before .before .before .before .if1 .left in omega arith) (c .before .before .before .before .before .before .before .before .before .entry .ensures .0) (c .before .before .before .before .before .before .before .make .ensures) (c .before .before .make-list .ensures))  -- make-list-returns-2
+    (make-list-returns-2 t)

@@ -6,14 +6,28 @@ use borrow.Author.Needs.{needs}
 use Rattle.sending.proofs.send.Statement.{statement}
 use Rattle.sending.proofs.send.Tie as tie
 
+make-list-requires : tie.Need-make-list-requires
+make-list-requires c κs =
+    let after-rows : tie.After-rows = search in
+    let start : tie.Start = search in
+    let e = after-rows .rows .ensures in
+    (start .pre .0, omega arith, rw e (start .pre .1), start .pre .2)
+
+write-images-requires : tie.Need-write-images-requires
+write-images-requires c κs =
+    let after-rows : tie.After-rows = search in
+    let start : tie.Start = search in
+    let e = after-rows .rows .ensures in
+    (start .pre .0, omega arith, rw e (start .pre .1))
+
 pub send-spec : {M : Type 1} → statement M
 send-spec =
     tie.close
     (tie.spec
-    (λ c κs. valid-headed _ (c .before .before .pre .0))  -- rows-requires
-    (λ c κs. let e = c .before .before .rows .ensures in (c .before .before .before .before .before .pre .0, omega arith, rw e (c .before .before .before .before .before .pre .1), c .before .before .before .before .before .pre .2))  -- make-list-requires
+    (λ c κs. search valid-headed)  -- rows-requires
+    make-list-requires
     (λ c κs. search needs)  -- narrow-requires
     (λ c κs. search needs)  -- put3-requires
-    (λ c κs. let e = c .before .before .before .before .before .before .before .before .before .before .before .before .rows .ensures in (c .before .before .before .before .before .before .before .before .before .before .before .before .before .before .before .pre .0, omega arith, rw e (c .before .before .before .before .before .before .before .before .before .before .before .before .before .before .before .pre .1)))  -- write-images-requires
+    write-images-requires
     (λ c. search needs)  -- same-length
-    (λ c. sends (c .before .before .before .before .before .before .before .before .before .before .before .before .before .before .before .before .before .before .args .book .now) (c .before .before .before .before .before .before .before .before .before .before .before .before .before .before .before .before .before .before .args .since .now) (c .before .before .before .before .before .before .before .before .before .before .before .before .before .before .before .before .before .before .args .entries .now) _ _ _ _ _ (c .before .before .before .before .before .before .before .before .narrow .ensures) (c .before .before .before .before .before .before .before .before .before .before .before .before .make-list .ensures) (c .before .before .before .before .before .before .before .put3 .ensures) (c .before .before .write-images .ensures)))  -- returns
+    (λ c. search sends))  -- returns

@@ -11,6 +11,6 @@ accept-spec =
     (λ c κs. search needs)  -- read-requires
     (λ c. search needs)  -- enum-known-why
     (λ c. search needs)  -- enum-told
-    (λ c κs. accepted-book (c .before .before .before .before .args .book .now) _ (c .before .before .read .ensures) (c .enum-told .given .1))  -- accept-valid-requires
-    (λ c. refused-accept (c .before .before .before .before .before .args .book .now) _ _ (c .before .before .before .read .ensures) (c .before .why .given .1))  -- returns
+    (λ c κs. search accepted-book)  -- accept-valid-requires
+    (λ c. search refused-accept)  -- returns
     (λ c. search needs))  -- returns-2

@@ -11,7 +11,7 @@ translate-spec =
     (λ c κs. search needs)  -- read-requires
     (λ c. search needs)  -- enum-known-why
     (λ c. search needs)  -- enum-told
-    (λ c κs. accepted-book (c .before .before .before .before .before .before .args .book .now) _ (c .before .before .before .read .ensures) (c .before .enum-told .given .1))  -- write-valid-requires
-    (λ c. refused-came (c .before .before .before .before .before .before .args .book .now) _ _ (c .before .before .before .read .ensures) (c .before .why .given .1) _)  -- returns
+    (λ c κs. search accepted-book)  -- write-valid-requires
+    (λ c. search refused-came)  -- returns
     (λ c. search needs)  -- same-length
     (λ c. search needs))  -- returns-2

@@ -15,17 +15,26 @@ Inv-loop book since out₀ at n next₀ party₀ out next party = Laid book n pa
 abbrev μ-loop : tie.MeasureT-loop
 μ-loop book since out₀ at n next₀ party₀ out next party = n - party
 
+write-program-requires : tie.Need-write-program-requires Inv-loop μ-loop
+write-program-requires c κs =
+    let at-loop : tie.At-loop Inv-loop μ-loop = search in
+    let after-parties : tie.After-parties Inv-loop μ-loop = search in
+    let start : tie.Start Inv-loop μ-loop = search in
+    let e = after-parties .parties .ensures in
+    let l : at-loop .loop .party < parties (start .args .book .now) = omega arith in
+    (start .pre .0, start .pre .1, l, start .pre .2 _ l)
+
 pub write-bodies-spec : {M : Type 1} → statement M
 write-bodies-spec =
     tie.close
     (tie.spec
     Inv-loop
     μ-loop
-    (λ c κs. valid-headed _ (c .before .before .pre .0))  -- parties-requires
-    (λ c. bodies-start _ _ (c .parties .ensures) _ _)  -- loop-holds
-    (λ c κs. let e = c .before .before .before .parties .ensures in let l : c .before .before .loop .party < parties (c .before .before .before .before .before .before .args .book .now) = omega arith in (c .before .before .before .before .before .before .pre .0, c .before .before .before .before .before .before .pre .1, l, c .before .before .before .before .before .before .pre .2 _ l))  -- write-program-requires
+    (λ c κs. search valid-headed)  -- parties-requires
+    (λ c. search bodies-start)  -- loop-holds
+    write-program-requires
     (λ c. search needs)  -- add-party
     (λ c. search needs)  -- loop-less
-    (λ c. bodies-on _ _ (c .before .before .before .before .before .before .parties .ensures) _ (c .before .before .before .before .loop-test .taken) (c .before .before .before .before .before .loop .inv) (c .before .before .write-program .ensures))  -- loop-again
-    (λ c. wrote-length (c .before .loop .inv .wrote))  -- same-length
-    (λ c. bodies-end _ _ (c .before .before .parties .ensures) _ (c .loop-test .left) (c .before .loop .inv)))  -- returns
+    (λ c. search bodies-on)  -- loop-again
+    (λ c. search wrote-length)  -- same-length
+    (λ c. search bodies-end))  -- returns

@@ -15,25 +15,89 @@ Inv-loop book since out₀ at n next₀ end₀ all step₀ taken₀ party₀ out
 abbrev μ-loop : tie.MeasureT-loop
 μ-loop book since out₀ at n next₀ end₀ all step₀ taken₀ party₀ out next end step taken party = n - party
 
+loop-holds : tie.Need-loop-holds Inv-loop μ-loop
+loop-holds c =
+    let after-wide : tie.After-wide Inv-loop μ-loop = search in
+    let after-parties : tie.After-parties Inv-loop μ-loop = search in
+    heads-start _ _ (after-parties .parties .ensures) _ _ _ _ (let e = after-wide .wide .ensures .0 in omega arith)
+    (c .steps .ensures)
+
+narrow-requires : tie.Need-narrow-requires Inv-loop μ-loop
+narrow-requires c κs =
+    let in-loop : tie.In-loop Inv-loop μ-loop = search in
+    let at-loop : tie.At-loop Inv-loop μ-loop = search in
+    let after-parties : tie.After-parties Inv-loop μ-loop = search in
+    let start : tie.Start Inv-loop μ-loop = search in
+    let k = end-low _ _ (after-parties .parties .ensures) (start .pre .0) _ (in-loop .loop-test .taken)
+    (at-loop .loop .inv) in
+    omega arith
+
+narrow-requires-2 : tie.Need-narrow-requires-2 Inv-loop μ-loop
+narrow-requires-2 c κs =
+    let in-loop : tie.In-loop Inv-loop μ-loop = search in
+    let at-loop : tie.At-loop Inv-loop μ-loop = search in
+    let after-parties : tie.After-parties Inv-loop μ-loop = search in
+    let start : tie.Start Inv-loop μ-loop = search in
+    let k = end-low _ _ (after-parties .parties .ensures) (start .pre .0) _ (in-loop .loop-test .taken)
+    (at-loop .loop .inv) in
+    omega arith
+
+add-end-2 : tie.Need-add-end-2 Inv-loop μ-loop
+add-end-2 c =
+    let in-loop : tie.In-loop Inv-loop μ-loop = search in
+    let at-loop : tie.At-loop Inv-loop μ-loop = search in
+    let after-parties : tie.After-parties Inv-loop μ-loop = search in
+    let start : tie.Start Inv-loop μ-loop = search in
+    let k = end-low _ _ (after-parties .parties .ensures) (start .pre .0) _ (in-loop .loop-test .taken)
+    (at-loop .loop .inv) in
+    omega arith
+
+loop-again : tie.Need-loop-again Inv-loop μ-loop
+loop-again c =
+    let after-put2 : tie.After-put2 Inv-loop μ-loop = search in
+    let after-narrow2 : tie.After-narrow2 Inv-loop μ-loop = search in
+    let after-narrow : tie.After-narrow Inv-loop μ-loop = search in
+    let after-measure : tie.After-measure Inv-loop μ-loop = search in
+    let in-loop : tie.In-loop Inv-loop μ-loop = search in
+    let at-loop : tie.At-loop Inv-loop μ-loop = search in
+    let after-parties : tie.After-parties Inv-loop μ-loop = search in
+    elim (c .if1 .came) [
+      | inl j ↦ heads-off _ _ (after-parties .parties .ensures) _ _ _ _ _ _ _
+          (in-loop .loop-test .taken) (at-loop .loop .inv) (after-measure .measure .ensures .2)
+          (after-measure .measure .ensures .0) (after-measure .measure .ensures .1) (after-narrow .narrow .ensures)
+          (after-narrow2 .narrow2 .ensures) (after-put2 .put2 .ensures) (j .0 .taken) (j .1) (j .2)
+      | inr j ↦ heads-on
+          _ _ (after-parties .parties .ensures) _ _ _ _ _ _ _ (in-loop .loop-test .taken) (at-loop .loop .inv)
+          (after-measure .measure .ensures .2) (after-measure .measure .ensures .0)
+          (after-measure .measure .ensures .1) (after-narrow .narrow .ensures) (after-narrow2 .narrow2 .ensures)
+          (after-put2 .put2 .ensures) (j .0 .left) (j .1) (j .2)
+    ]
+
+returns : tie.Need-returns Inv-loop μ-loop
+returns c =
+    let at-loop : tie.At-loop Inv-loop μ-loop = search in
+    let after-parties : tie.After-parties Inv-loop μ-loop = search in
+    heads-end _ _ (after-parties .parties .ensures) _ (c .loop-test .left) (at-loop .loop .inv)
+
 pub write-heads-spec : {M : Type 1} → statement M
 write-heads-spec =
     tie.close
     (tie.spec
     Inv-loop
     μ-loop
-    (λ c κs. valid-headed _ (c .before .before .pre .0))  -- parties-requires
+    (λ c κs. search valid-headed)  -- parties-requires
     (λ c κs. search needs)  -- wide-requires
-    (λ c. let e = c .wide .ensures in omega arith)  -- mul-end
-    (λ c. let e = c .wide .ensures in omega arith)  -- add-end
-    (λ c κs. valid-headed _ (c .before .before .before .before .pre .0))  -- steps-requires
-    (λ c. heads-start _ _ (c .before .before .parties .ensures) _ _ _ _ (let e = c .before .wide .ensures .0 in omega arith) (c .steps .ensures))  -- loop-holds
-    (λ c κs. (c .before .before .before .before .before .before .before .pre .0, c .before .before .before .before .before .before .before .pre .1, let e = c .before .before .before .before .parties .ensures in omega arith, let s = c .before .before .steps .ensures in let w = among-within (c .before .before .before .before .before .before .before .args .book .now) (c .before .loop .inv .found) in omega arith))  -- measure-requires
-    (λ c κs. let k = end-low _ _ (c .before .before .before .before .before .before .parties .ensures) (c .before .before .before .before .before .before .before .before .before .pre .0) _ (c .before .before .loop-test .taken) (c .before .before .before .loop .inv) in let m = c .before .measure .ensures .1 in omega arith)  -- narrow-requires
-    (λ c κs. let k = end-low _ _ (c .before .before .before .before .before .before .before .parties .ensures) (c .before .before .before .before .before .before .before .before .before .before .pre .0) _ (c .before .before .before .loop-test .taken) (c .before .before .before .before .loop .inv) in let m = c .before .before .measure .ensures .1 in omega arith)  -- narrow-requires-2
+    (λ c. omega arith)  -- mul-end
+    (λ c. omega arith)  -- add-end
+    (λ c κs. search valid-headed)  -- steps-requires
+    loop-holds
+    (λ c κs. search (among-within, needs))  -- measure-requires
+    narrow-requires
+    narrow-requires-2
     (λ c κs. search needs)  -- put2-requires
-    (λ c. let k = end-low _ _ (c .before .before .before .before .before .before .before .before .before .before .before .before .parties .ensures) (c .before .before .before .before .before .before .before .before .before .before .before .before .before .before .before .pre .0) _ (c .before .before .before .before .before .before .before .before .loop-test .taken) (c .before .before .before .before .before .before .before .before .before .loop .inv) in let m = c .before .before .before .before .before .before .before .measure .ensures .1 in omega arith)  -- add-end-2
+    add-end-2
     (λ c. search needs)  -- add-party
     (λ c. search needs)  -- loop-less
-    (λ c. elim (c .if1 .came) [ inl j ↦ heads-off _ _ (c .before .before .before .before .before .before .before .before .before .before .before .before .before .before .parties .ensures) _ _ _ _ _ _ _ (c .before .before .before .before .before .before .before .before .before .before .loop-test .taken) (c .before .before .before .before .before .before .before .before .before .before .before .loop .inv) (c .before .before .before .before .before .before .before .before .before .measure .ensures .2) (c .before .before .before .before .before .before .before .before .before .measure .ensures .0) (c .before .before .before .before .before .before .before .before .before .measure .ensures .1) (c .before .before .before .before .before .before .before .narrow .ensures) (c .before .before .before .before .before .before .narrow2 .ensures) (c .before .before .before .before .before .put2 .ensures) (j .0 .taken) (j .1) (j .2) | inr j ↦ heads-on _ _ (c .before .before .before .before .before .before .before .before .before .before .before .before .before .before .parties .ensures) _ _ _ _ _ _ _ (c .before .before .before .before .before .before .before .before .before .before .loop-test .taken) (c .before .before .before .before .before .before .before .before .before .before .before .loop .inv) (c .before .before .before .before .before .before .before .before .before .measure .ensures .2) (c .before .before .before .before .before .before .before .before .before .measure .ensures .0) (c .before .before .before .before .before .before .before .before .before .measure .ensures .1) (c .before .before .before .before .before .before .before .narrow .ensures) (c .before .before .before .before .before .before .narrow2 .ensures) (c .before .before .before .before .before .put2 .ensures) (j .0 .left) (j .1) (j .2) ])  -- loop-again
-    (λ c. c .before .loop .inv .same)  -- same-length
-    (λ c. heads-end _ _ (c .before .before .before .before .parties .ensures) _ (c .loop-test .left) (c .before .loop .inv)))  -- returns
+    loop-again
+    (λ c. search needs)  -- same-length
+    returns)

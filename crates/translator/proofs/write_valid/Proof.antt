@@ -5,16 +5,47 @@ use borrow.Author.Needs.{needs}
 use Rattle.translator.proofs.write_valid.Statement.{statement}
 use Rattle.translator.proofs.write_valid.Tie as tie
 
+returns-2 : tie.Need-returns-2
+returns-2 c =
+    let else1 : tie.Else1 = search in
+    let after-survey : tie.After-survey = search in
+    let start : tie.Start = search in
+    room-came _ (start .pre) _ _ (after-survey .survey .ensures .1) _ (else1 .if1 .left) _
+    ((after-survey .survey .ensures .0 (else1 .if1 .left)) .1) (c .if2 .taken)
+
+write-listing-requires : tie.Need-write-listing-requires
+write-listing-requires c κs =
+    let else1 : tie.Else1 = search in
+    let after-survey : tie.After-survey = search in
+    let after-claims : tie.After-claims = search in
+    let start : tie.Start = search in (
+      start .pre,
+      after-claims .claims .ensures,
+      among-nobody _ (after-survey .survey .ensures .1) (else1 .if1 .left),
+      (after-survey .survey .ensures .0 (else1 .if1 .left)) .0,
+    )
+
+returns-3 : tie.Need-returns-3
+returns-3 c =
+    let after-write-listing : tie.After-write-listing = search in
+    let else2 : tie.Else2 = search in
+    let else1 : tie.Else1 = search in
+    let after-survey : tie.After-survey = search in
+    let start : tie.Start = search in
+    output-came _ (start .pre) _ _ (after-survey .survey .ensures .1) _ (else1 .if1 .left) _
+    ((after-survey .survey .ensures .0 (else1 .if1 .left)) .1) _ _ (else2 .if2 .left)
+    (after-write-listing .write-listing .ensures)
+
 pub write-valid-spec : {M : Type 1} → statement M
 write-valid-spec =
     tie.close
     (tie.spec
-    (λ c κs. c .before .before .pre)  -- claims-requires
-    (λ c κs. (c .before .before .before .before .pre, c .before .claims .ensures))  -- survey-requires
+    (λ c κs. search needs)  -- claims-requires
+    (λ c κs. search needs)  -- survey-requires
     (λ c. search needs)  -- sub-t10
-    (λ c. taken-came _ (c .before .before .before .before .before .before .before .before .pre) _ _ (c .before .before .before .survey .ensures .1) _ (c .before .if1 .taken))  -- returns
-    (λ c. room-came _ (c .before .before .before .before .before .before .before .before .before .pre) _ _ (c .before .before .before .before .survey .ensures .1) _ (c .before .before .if1 .left) _ ((c .before .before .before .before .survey .ensures .0 (c .before .before .if1 .left)) .1) (c .if2 .taken))  -- returns-2
+    (λ c. search taken-came)  -- returns
+    returns-2
     (λ c. search needs)  -- slice-aggregate-write-listing
-    (λ c κs. (c .before .before .before .before .before .before .before .before .before .before .before .before .before .pre, c .before .before .before .before .before .before .before .before .before .before .claims .ensures, among-nobody _ (c .before .before .before .before .before .before .before .before .survey .ensures .1) (c .before .before .before .before .before .before .if1 .left), (c .before .before .before .before .before .before .before .before .survey .ensures .0 (c .before .before .before .before .before .before .if1 .left)) .0))  -- write-listing-requires
+    write-listing-requires
     (λ c. search needs)  -- same-length
-    (λ c. output-came _ (c .before .before .before .before .before .before .before .before .before .before .before .before .before .before .before .before .pre) _ _ (c .before .before .before .before .before .before .before .before .before .before .before .survey .ensures .1) _ (c .before .before .before .before .before .before .before .before .before .if1 .left) _ ((c .before .before .before .before .before .before .before .before .before .before .before .survey .ensures .0 (c .before .before .before .before .before .before .before .before .before .if1 .left)) .1) _ _ (c .before .before .before .before .before .before .before .if2 .left) (c .before .before .write-listing .ensures)))  -- returns-3
+    returns-3)

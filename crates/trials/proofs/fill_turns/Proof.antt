@@ -15,6 +15,23 @@ Inv-loop out₀ parties times back i₀ out i = (i ≤ length out₀) × (length
 abbrev μ-loop : tie.MeasureT-loop
 μ-loop out₀ parties times back i₀ out i = length out₀ - i
 
+loop-again : tie.Need-loop-again Inv-loop μ-loop
+loop-again c =
+    let at-loop : tie.At-loop Inv-loop μ-loop = search in
+    let start : tie.Start Inv-loop μ-loop = search in (
+      search needs,
+      search needs,
+      filled-more (turn (start .args .parties) (start .args .times) (start .args .back)) (at-loop .loop .out) _ _
+          (omega arith) (c .turn-of .ensures) (at-loop .loop .inv .2),
+    )
+
+returns : tie.Need-returns Inv-loop μ-loop
+returns c =
+    let at-loop : tie.At-loop Inv-loop μ-loop = search in
+    let start : tie.Start Inv-loop μ-loop = search in
+    filled-all (turn (start .args .parties) (start .args .times) (start .args .back)) (at-loop .loop .out)
+    (length (start .args .out .now)) (at-loop .loop .inv .1) (λ k l. at-loop .loop .inv .2 k (omega arith))
+
 pub fill-turns-spec : {M : Type 1} → statement M
 fill-turns-spec =
     tie.close
@@ -27,6 +44,6 @@ fill-turns-spec =
     (λ c. search needs)  -- slice-write-out
     (λ c. search needs)  -- add-i
     (λ c. search needs)  -- loop-less
-    (λ c. (search needs, search needs, filled-more (turn (c .before .before .before .before .args .parties) (c .before .before .before .before .args .times) (c .before .before .before .before .args .back)) (c .before .before .loop .out) (c .before .before .loop .i) (c .turn-of .result) (omega arith) (c .turn-of .ensures) (c .before .before .loop .inv .2)))  -- loop-again
+    loop-again
     (λ c. search needs)  -- same-length
-    (λ c. filled-all (turn (c .before .before .before .args .parties) (c .before .before .before .args .times) (c .before .before .before .args .back)) (c .before .loop .out) (length (c .before .before .before .args .out .now)) (c .before .loop .inv .1) (λ k l. c .before .loop .inv .2 k (omega arith))))  -- returns
+    returns)

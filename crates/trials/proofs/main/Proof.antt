@@ -13,6 +13,18 @@ Inv-loop words₀ books₀ t4 words books = (books ≤ 65536) × (length words �
 abbrev μ-loop : tie.MeasureT-loop
 μ-loop words₀ books₀ t4 words books = 65536 - books
 
+array-share-prefix-words : tie.Need-array-share-prefix-words Inv-loop μ-loop
+array-share-prefix-words c =
+    let after-n : tie.After-n Inv-loop μ-loop = search in
+    let after-read-book : tie.After-read-book Inv-loop μ-loop = search in
+    omega (arith, rw (after-n .n .given .1) at (after-read-book .read-book .ensures))
+
+slice-aggregate-trial : tie.Need-slice-aggregate-trial Inv-loop μ-loop
+slice-aggregate-trial c =
+    let after-n : tie.After-n Inv-loop μ-loop = search in
+    let after-read-book : tie.After-read-book Inv-loop μ-loop = search in
+    simp length-take (omega (arith, rw (after-n .n .given .1) at (after-read-book .read-book .ensures)))
+
 pub main-spec : {M : Type 1} → statement M
 main-spec =
     tie.close
@@ -25,8 +37,8 @@ main-spec =
     (λ c. search needs)  -- enum-known-n
     (λ c. search needs)  -- enum-told
     (λ c. search needs)  -- returns
-    (λ c. omega (arith, rw (c .before .n .given .1) at (c .before .before .before .before .read-book .ensures)))  -- array-share-prefix-words
-    (λ c. simp length-take (omega (arith, rw (c .before .before .n .given .1) at (c .before .before .before .before .before .read-book .ensures))))  -- slice-aggregate-trial
+    array-share-prefix-words
+    slice-aggregate-trial
     (λ c κs. search needs)  -- trial-requires
     (λ c. search needs)  -- add-books
     (λ c. search needs)  -- loop-less

@@ -5,11 +5,19 @@ use Rattle.trials.specs.Turns.Laws.{no-word, seats-below, seats-above, s
 use Rattle.trials.proofs.seats_of.Statement.{statement}
 use Rattle.trials.proofs.seats_of.Tie as tie
 
+returns : tie.Need-returns
+returns c =
+    let start : tie.Start = search in (
+      seats-below (start .args .book .now) (omega (arith, no-word (start .args .book .now) 2 (omega arith))),
+      search needs,
+    )
+
 pub seats-of-spec : {M : Type 1} → statement M
 seats-of-spec =
-    tie.close (tie.spec
-    (λ c. (seats-below (c .before .args .book .now) (omega (arith, no-word (c .before .args .book .now) 2 (omega arith))), search needs))  -- returns
+    tie.close
+    (tie.spec
+    returns
     (λ c. search needs)  -- shared-slice-read-parties
-    (λ c. (seats-below (c .before .before .before .args .book .now) (omega arith), search needs))  -- returns-2
-    (λ c. (seats-above (c .before .before .before .before .args .book .now) (omega arith) (omega arith), search needs))  -- returns-3
-    (λ c. (seats-own (c .before .before .before .before .args .book .now) (omega arith) (omega arith), (omega arith, omega arith))))  -- returns-4
+    (λ c. (seats-below _ (omega arith), search needs))  -- returns-2
+    (λ c. (seats-above _ (omega arith) (omega arith), search needs))  -- returns-3
+    (λ c. (seats-own _ (omega arith) (omega arith), (omega arith, omega arith))))  -- returns-4

@@ -6,6 +6,25 @@ use Rattle.trials.specs.Turns.Laws.{turn-below, turn-on, turn-back}
 use Rattle.trials.proofs.turn_of.Statement.{statement}
 use Rattle.trials.proofs.turn_of.Tie as tie
 
+cast-party : tie.Need-cast-party
+cast-party c =
+    let start : tie.Start = search in
+    omega (
+      arith,
+      turn-below (start .args .parties) (start .args .times) (start .args .i) (start .args .back) _ _
+          (c .wide .ensures .0) refl (omega arith),
+    )
+
+sub-result-2 : tie.Need-sub-result-2
+sub-result-2 c =
+    let after-wide : tie.After-wide = search in
+    let start : tie.Start = search in
+    omega (
+      arith,
+      turn-below (start .args .parties) (start .args .times) (start .args .i) (start .args .back) _ _
+          (after-wide .wide .ensures .0) refl (omega arith),
+    )
+
 pub turn-of-spec : {M : Type 1} → statement M
 turn-of-spec =
     tie.close
@@ -13,8 +32,8 @@ turn-of-spec =
     (λ c. search needs)  -- div-party
     (λ c κs. search needs)  -- wide-requires
     (λ c. search needs)  -- rem-party
-    (λ c. omega (arith, turn-below (c .before .args .parties) (c .before .args .times) (c .before .args .i) (c .before .args .back) (c .wide .result) _ (c .wide .ensures .0) refl (omega arith)))  -- cast-party
+    cast-party
     (λ c. search needs)  -- sub-result
-    (λ c. omega (arith, turn-below (c .before .before .args .parties) (c .before .before .args .times) (c .before .before .args .i) (c .before .before .args .back) (c .before .wide .result) _ (c .before .wide .ensures .0) refl (omega arith)))  -- sub-result-2
-    (λ c. turn-back (c .before .before .args .parties) (c .before .before .args .times) (c .before .before .args .i) (c .before .before .args .back) (c .before .wide .result) _ (c .before .wide .ensures .0) refl (c .if1 .taken))  -- returns
-    (λ c. turn-on (c .before .before .args .parties) (c .before .before .args .times) (c .before .before .args .i) (c .before .before .args .back) (c .before .wide .result) _ (c .before .wide .ensures .0) refl (c .if1 .left)))  -- returns-2
+    sub-result-2
+    (λ c. search turn-back)  -- returns
+    (λ c. search turn-on))  -- returns-2

@@ -7,24 +7,44 @@ use borrow.Author.Needs.{needs}
 use Rattle.walking.proofs.act.Statement.{statement}
 use Rattle.walking.proofs.act.Tie as tie
 
+receive-messages-requires : tie.Need-receive-messages-requires
+receive-messages-requires c κs =
+    let after-rows : tie.After-rows = search in
+    let then2 : tie.Then2 = search in
+    let after-step-receiver : tie.After-step-receiver = search in
+    let else1 : tie.Else1 = search in
+    let after-step-sender : tie.After-step-sender = search in
+    let after-step-count : tie.After-step-count = search in
+    let after-step-first : tie.After-step-first = search in
+    let start : tie.Start = search in (
+      start .pre .0,
+      let e = after-rows .rows .ensures in omega arith,
+      let e = after-rows .rows .ensures in rw e
+          (span-step _ (start .pre .0) _ _ _ (start .pre .1) (after-step-first .step-first .ensures .0)
+          (after-step-count .step-count .ensures .0)),
+      turn-fits _ (start .args .since .now) _ _ (start .args .before) _ _ (after-step-first .step-first .ensures .0)
+          (after-step-count .step-count .ensures .0) _ _ (after-step-sender .step-sender .ensures) (else1 .if1 .left)
+          (after-step-receiver .step-receiver .ensures) (then2 .if2 .taken) (start .pre .2),
+    )
+
 pub act-spec : {M : Type 1} → statement M
 act-spec =
     tie.close
     (tie.spec
-    (λ c κs. (valid-headed _ (c .before .before .before .pre .0), c .before .before .before .pre .1))  -- step-first-requires
-    (λ c κs. (valid-headed _ (c .before .before .before .before .pre .0), c .before .before .before .before .pre .1))  -- step-count-requires
-    (λ c κs. (valid-headed _ (c .before .before .before .before .before .pre .0), c .before .before .before .before .before .pre .1))  -- step-sender-requires
-    (λ c κs. (c .before .before .before .before .before .before .before .before .before .pre .0, (span-step (c .before .before .before .before .before .before .before .before .before .args .book .now) (c .before .before .before .before .before .before .before .before .before .pre .0) _ _ _ (c .before .before .before .before .before .before .before .before .before .pre .1) (c .before .before .before .before .before .step-first .ensures .0) (c .before .before .before .before .step-count .ensures .0)), search needs))  -- send-requires
+    (λ c κs. search (valid-headed, needs))  -- step-first-requires
+    (λ c κs. search (valid-headed, needs))  -- step-count-requires
+    (λ c κs. search (valid-headed, needs))  -- step-sender-requires
+    (λ c κs. search (span-step, needs))  -- send-requires
     (λ c. search needs)  -- same-length
-    (λ c. acts-send (c .before .before .before .before .before .before .before .before .before .before .before .before .args .book .now) (c .before .before .before .before .before .before .before .before .before .before .before .before .args .since .now) (c .before .before .before .before .before .before .before .before .before .before .before .before .args .party) (c .before .before .before .before .before .before .before .before .before .before .before .before .args .step) (c .before .before .before .before .before .before .before .before .before .before .before .before .args .before) _ _ (c .before .before .before .before .before .before .before .before .step-first .ensures .0) (c .before .before .before .before .before .before .before .step-count .ensures .0) _ (c .before .before .before .before .before .before .step-sender .ensures) (c .before .before .before .before .before .if1 .taken) (c .before .before .send .ensures))  -- returns
-    (λ c κs. (valid-headed _ (c .before .before .before .before .before .before .before .pre .0), c .before .before .before .before .before .before .before .pre .1))  -- step-receiver-requires
-    (λ c κs. let c = c .before .before .before .before .before .step-count .ensures .1 in omega arith)  -- narrow-requires
+    (λ c. search acts-send)  -- returns
+    (λ c κs. search (valid-headed, needs))  -- step-receiver-requires
+    (λ c κs. omega arith)  -- narrow-requires
     (λ c κs. search needs)  -- put4-requires
     (λ c. search needs)  -- same-length-2
-    (λ c. acts-empty (c .before .before .before .before .before .before .before .before .before .before .before .before .before .before .before .args .book .now) (c .before .before .before .before .before .before .before .before .before .before .before .before .before .before .before .args .since .now) (c .before .before .before .before .before .before .before .before .before .before .before .before .before .before .before .args .party) (c .before .before .before .before .before .before .before .before .before .before .before .before .before .before .before .args .step) (c .before .before .before .before .before .before .before .before .before .before .before .before .before .before .before .args .before) _ _ (c .before .before .before .before .before .before .before .before .before .before .before .step-first .ensures .0) (c .before .before .before .before .before .before .before .before .before .before .step-count .ensures .0) _ _ (c .before .before .before .before .before .before .before .before .before .step-sender .ensures) (c .before .before .before .before .before .before .before .before .if1 .left) (c .before .before .before .before .before .before .before .step-receiver .ensures) (c .before .before .before .before .before .before .if2 .taken) (c .before .before .before .before .narrow .ensures) (c .if3 .taken) (c .before .before .before .put4 .ensures))  -- returns-2
-    (λ c κs. valid-headed _ (c .before .before .before .before .before .before .before .before .before .before .before .before .before .before .before .pre .0))  -- rows-requires
-    (λ c κs. (c .before .before .before .before .before .before .before .before .before .before .before .before .before .before .before .before .before .before .pre .0, let e = c .before .before .rows .ensures in omega arith, let e = c .before .before .rows .ensures in rw e (span-step (c .before .before .before .before .before .before .before .before .before .before .before .before .before .before .before .before .before .before .args .book .now) (c .before .before .before .before .before .before .before .before .before .before .before .before .before .before .before .before .before .before .pre .0) _ _ _ (c .before .before .before .before .before .before .before .before .before .before .before .before .before .before .before .before .before .before .pre .1) (c .before .before .before .before .before .before .before .before .before .before .before .before .before .before .step-first .ensures .0) (c .before .before .before .before .before .before .before .before .before .before .before .before .before .step-count .ensures .0)), turn-fits (c .before .before .before .before .before .before .before .before .before .before .before .before .before .before .before .before .before .before .args .book .now) (c .before .before .before .before .before .before .before .before .before .before .before .before .before .before .before .before .before .before .args .since .now) (c .before .before .before .before .before .before .before .before .before .before .before .before .before .before .before .before .before .before .args .party) (c .before .before .before .before .before .before .before .before .before .before .before .before .before .before .before .before .before .before .args .step) (c .before .before .before .before .before .before .before .before .before .before .before .before .before .before .before .before .before .before .args .before) _ _ (c .before .before .before .before .before .before .before .before .before .before .before .before .before .before .step-first .ensures .0) (c .before .before .before .before .before .before .before .before .before .before .before .before .before .step-count .ensures .0) _ _ (c .before .before .before .before .before .before .before .before .before .before .before .before .step-sender .ensures) (c .before .before .before .before .before .before .before .before .before .before .before .if1 .left) (c .before .before .before .before .before .before .before .before .before .before .step-receiver .ensures) (c .before .before .before .before .before .before .before .before .before .if2 .taken) (c .before .before .before .before .before .before .before .before .before .before .before .before .before .before .before .before .before .before .pre .2)))  -- receive-messages-requires
+    (λ c. search acts-empty)  -- returns-2
+    (λ c κs. search valid-headed)  -- rows-requires
+    receive-messages-requires
     (λ c. search needs)  -- same-length-3
     (λ c. search needs)  -- same-length-4
-    (λ c. acts-receive (c .before .before .before .before .before .before .before .before .before .before .before .before .before .before .before .before .before .before .before .before .before .before .before .args .book .now) (c .before .before .before .before .before .before .before .before .before .before .before .before .before .before .before .before .before .before .before .before .before .before .before .args .since .now) (c .before .before .before .before .before .before .before .before .before .before .before .before .before .before .before .before .before .before .before .before .before .before .before .args .party) (c .before .before .before .before .before .before .before .before .before .before .before .before .before .before .before .before .before .before .before .before .before .before .before .args .step) (c .before .before .before .before .before .before .before .before .before .before .before .before .before .before .before .before .before .before .before .before .before .before .before .args .before) _ _ (c .before .before .before .before .before .before .before .before .before .before .before .before .before .before .before .before .before .before .before .step-first .ensures .0) (c .before .before .before .before .before .before .before .before .before .before .before .before .before .before .before .before .before .before .step-count .ensures .0) _ _ (c .before .before .before .before .before .before .before .before .before .before .before .before .before .before .before .before .before .step-sender .ensures) (c .before .before .before .before .before .before .before .before .before .before .before .before .before .before .before .before .if1 .left) (c .before .before .before .before .before .before .before .before .before .before .before .before .before .before .before .step-receiver .ensures) (c .before .before .before .before .before .before .before .before .before .before .before .before .before .before .if2 .taken) (c .before .before .before .before .before .before .before .before .before .before .before .before .narrow .ensures) (c .before .before .before .before .before .before .before .before .before .before .before .put4 .ensures) (c .before .before .before .before .receive-messages .ensures))  -- returns-3
-    (λ c. acts-idle (c .before .before .before .before .before .before .before .before .before .args .book .now) (c .before .before .before .before .before .before .before .before .before .args .since .now) (c .before .before .before .before .before .before .before .before .before .args .party) (c .before .before .before .before .before .before .before .before .before .args .step) (c .before .before .before .before .before .before .before .before .before .args .before) _ _ (c .before .before .before .before .before .step-first .ensures .0) (c .before .before .before .before .step-count .ensures .0) _ _ (c .before .before .before .step-sender .ensures) (c .before .before .if1 .left) (c .before .step-receiver .ensures) (c .if2 .left)))  -- returns-4
+    (λ c. search acts-receive)  -- returns-3
+    (λ c. search acts-idle))  -- returns-4

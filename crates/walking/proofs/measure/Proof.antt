@@ -5,6 +5,32 @@ use borrow.Author.Needs.{needs}
 use Rattle.walking.proofs.measure.Statement.{statement}
 use Rattle.walking.proofs.measure.Tie as tie
 
+add-t10 : tie.Need-add-t10
+add-t10 c =
+    let after-walk : tie.After-walk = search in
+    let start : tie.Start = search in
+    let w = few-words _ (start .pre .0) _ (after-walk .walk .ensures) in
+    let k = few-kept _ (start .pre .0) _ (after-walk .walk .ensures) in
+    omega arith
+
+add-t15 : tie.Need-add-t15
+add-t15 c =
+    let after-walk : tie.After-walk = search in
+    let start : tie.Start = search in
+    let w = few-words _ (start .pre .0) _ (after-walk .walk .ensures) in
+    let k = few-kept _ (start .pre .0) _ (after-walk .walk .ensures) in
+    omega arith
+
+returns : tie.Need-returns
+returns c =
+    let after-walk : tie.After-walk = search in
+    let start : tie.Start = search in (
+      measured _ (start .pre .0) _ (start .pre .2) (after-walk .walk .ensures),
+      let w = few-words _ (start .pre .0) _ (after-walk .walk .ensures) in let k = few-kept _ (start .pre .0) _
+          (after-walk .walk .ensures) in omega arith,
+      after-walk .walk .ensures .found,
+    )
+
 pub measure-spec : {M : Type 1} → statement M
 measure-spec =
     tie.close
@@ -15,7 +41,7 @@ measure-spec =
     (λ c. search needs)  -- sub-walk-2
     (λ c. search needs)  -- part-out-start
     (λ c. search needs)  -- part-out-end
-    (λ c κs. c .before .before .before .pre)  -- walk-requires
-    (λ c. let w = few-words (c .before .before .before .before .before .before .before .args .book .now) (c .before .before .before .before .before .before .before .pre .0) (c .before .before .before .before .before .before .before .args .party) (c .before .before .before .walk .ensures) in let k = few-kept (c .before .before .before .before .before .before .before .args .book .now) (c .before .before .before .before .before .before .before .pre .0) (c .before .before .before .before .before .before .before .args .party) (c .before .before .before .walk .ensures) in omega arith)  -- add-t10
-    (λ c. let w = few-words (c .before .before .before .before .before .before .before .before .args .book .now) (c .before .before .before .before .before .before .before .before .pre .0) (c .before .before .before .before .before .before .before .before .args .party) (c .before .before .before .before .walk .ensures) in let k = few-kept (c .before .before .before .before .before .before .before .before .args .book .now) (c .before .before .before .before .before .before .before .before .pre .0) (c .before .before .before .before .before .before .before .before .args .party) (c .before .before .before .before .walk .ensures) in omega arith)  -- add-t15
-    (λ c. (measured (c .before .before .before .before .before .before .before .before .args .book .now) (c .before .before .before .before .before .before .before .before .pre .0) (c .before .before .before .before .before .before .before .before .args .party) (c .before .before .before .before .before .before .before .before .pre .2) (c .before .before .before .before .walk .ensures), let w = few-words (c .before .before .before .before .before .before .before .before .args .book .now) (c .before .before .before .before .before .before .before .before .pre .0) (c .before .before .before .before .before .before .before .before .args .party) (c .before .before .before .before .walk .ensures) in let k = few-kept (c .before .before .before .before .before .before .before .before .args .book .now) (c .before .before .before .before .before .before .before .before .pre .0) (c .before .before .before .before .before .before .before .before .args .party) (c .before .before .before .before .walk .ensures) in omega arith, c .before .before .before .before .walk .ensures .found)))  -- returns
+    (λ c κs. search needs)  -- walk-requires
+    add-t10
+    add-t15
+    returns)

@@ -21,24 +21,98 @@ Inv-loop book since party upto kept log₀ out₀ at here₀ i₀ log out here i
 abbrev μ-loop : tie.MeasureT-loop
 μ-loop book since party upto kept log₀ out₀ at here₀ i₀ log out here i = upto - i
 
+loop-holds : tie.Need-loop-holds Inv-loop μ-loop
+loop-holds c =
+    let after-new : tie.After-new Inv-loop μ-loop = search in
+    let after-start : tie.After-start Inv-loop μ-loop = search in (
+      c .next-own .ensures .within,
+      along-skip (c .next-own .ensures) (along-start _ _ _ _ _ _ _ _ _ (after-start .start .ensures)
+          (after-new .new .ensures) refl),
+      unrefused-skip (c .next-own .ensures) (λ k l. absurd (omega arith)),
+    )
+
+act-requires : tie.Need-act-requires Inv-loop μ-loop
+act-requires c κs =
+    let in-loop : tie.In-loop Inv-loop μ-loop = search in
+    let at-loop : tie.At-loop Inv-loop μ-loop = search in
+    let start : tie.Start Inv-loop μ-loop = search in (
+      start .pre .0,
+      (let u = start .pre .3 in let t = in-loop .loop-test .taken in omega arith),
+      along-fits (start .args .book .now) (start .args .party) _ _ _ _ _ (at-loop .loop .inv .1)
+          (let i = at-loop .loop .i in let u = start .pre .3 in let t = in-loop .loop-test .taken in let w
+          = all-within (start .args .book .now) (start .pre .0) (rowOf (start .args .book .now)) (start .args .party)
+          (i + 1) (omega arith) in let x = w .given in omega arith),
+    )
+
+same-length : tie.Need-same-length Inv-loop μ-loop
+same-length c =
+    let after-act : tie.After-act Inv-loop μ-loop = search in
+    let at-loop : tie.At-loop Inv-loop μ-loop = search in
+    wrote-length ((along-on _ _ _ _ _ _ _ _ (at-loop .loop .inv .1) (after-act .act .ensures)) .keeps)
+
+same-length-2 : tie.Need-same-length-2 Inv-loop μ-loop
+same-length-2 c =
+    let after-act : tie.After-act Inv-loop μ-loop = search in
+    let at-loop : tie.At-loop Inv-loop μ-loop = search in
+    wrote-length ((along-on _ _ _ _ _ _ _ _ (at-loop .loop .inv .1) (after-act .act .ensures)) .wrote)
+
+returns : tie.Need-returns Inv-loop μ-loop
+returns c =
+    let after-act : tie.After-act Inv-loop μ-loop = search in
+    let in-loop : tie.In-loop Inv-loop μ-loop = search in
+    let at-loop : tie.At-loop Inv-loop μ-loop = search in
+    let start : tie.Start Inv-loop μ-loop = search in
+    walk-stops _ _ _ _ _ _ _ (let u = start .pre .3 in let t = in-loop .loop-test .taken in omega arith)
+    (along-on _ _ _ _ _ _ _ _ (at-loop .loop .inv .1) (after-act .act .ensures))
+    (found-here _ _ _ _ (after-act .act .ensures .found ∙ found-exact _ _ (let u = start .pre .3 in let t =
+    in-loop .loop-test .taken in omega arith) _ _ _ (start .pre .1) (start .pre .2)
+    (at-loop .loop .inv .1 .holds)) (in-loop .loop-test .taken) (at-loop .loop .inv .2) (c .if1 .taken))
+    (c .if1 .taken)
+
+add-next-own : tie.Need-add-next-own Inv-loop μ-loop
+add-next-own c =
+    let start : tie.Start Inv-loop μ-loop = search in
+    let f = valid-headed _ (start .pre .0) .fewSteps in
+    omega arith
+
+next-own-requires-2 : tie.Need-next-own-requires-2 Inv-loop μ-loop
+next-own-requires-2 c κs =
+    let in-loop : tie.In-loop Inv-loop μ-loop = search in
+    let start : tie.Start Inv-loop μ-loop = search in
+    (start .pre .0, (let u = start .pre .3 in let t = in-loop .loop-test .taken in omega arith))
+
+loop-again : tie.Need-loop-again Inv-loop μ-loop
+loop-again c =
+    let start : tie.Start Inv-loop μ-loop = search in
+    let else1 : tie.Else1 Inv-loop μ-loop = search in
+    let after-act : tie.After-act Inv-loop μ-loop = search in
+    let in-loop : tie.In-loop Inv-loop μ-loop = search in
+    let at-loop : tie.At-loop Inv-loop μ-loop = search in (
+      c .next-own2 .ensures .within,
+      along-skip (c .next-own2 .ensures) (along-on _ _ _ _ _ _ _ _ (at-loop .loop .inv .1) (after-act .act .ensures)),
+      unrefused-skip (c .next-own2 .ensures) (unrefused-on _ _ _ _ (after-act .act .ensures .found ∙ found-exact _ _
+          (let u = start .pre .3 in let t = in-loop .loop-test .taken in omega arith) _ _ _ (start .pre .1)
+          (start .pre .2) (at-loop .loop .inv .1 .holds)) (at-loop .loop .inv .2) (else1 .if1 .left)),
+    )
+
 pub walk-spec : {M : Type 1} → statement M
 walk-spec =
     tie.close
     (tie.spec
     Inv-loop
     μ-loop
-    (λ c κs. (c .before .before .before .pre .0, c .before .before .before .pre .2))  -- start-requires
+    (λ c κs. search needs)  -- start-requires
     (λ c κs. search needs)  -- new-requires
-    (λ c κs. (c .before .before .before .before .before .pre .0, omega arith))  -- next-own-requires
-    (λ c. (c .next-own .ensures .within, along-skip (c .next-own .ensures) (along-start (c .before .before .before .before .before .before .args .book .now) (c .before .before .before .before .before .before .args .party) _ _ _ _ _ _ _ (c .before .before .start .ensures) (c .before .new .ensures) refl), unrefused-skip (c .next-own .ensures) (λ k l. absurd (omega arith))))  -- loop-holds
-    (λ c κs. (c .before .before .before .before .before .before .before .before .before .before .pre .0, (let u = c .before .before .before .before .before .before .before .before .before .before .pre .3 in let t = c .before .before .loop-test .taken in omega arith), along-fits (c .before .before .before .before .before .before .before .before .before .before .args .book .now) (c .before .before .before .before .before .before .before .before .before .before .args .party) _ _ _ _ _ (c .before .before .before .loop .inv .1) (let i = c .before .before .before .loop .i in let u = c .before .before .before .before .before .before .before .before .before .before .pre .3 in let t = c .before .before .loop-test .taken in let w = all-within (c .before .before .before .before .before .before .before .before .before .before .args .book .now) (c .before .before .before .before .before .before .before .before .before .before .pre .0) (rowOf (c .before .before .before .before .before .before .before .before .before .before .args .book .now)) (c .before .before .before .before .before .before .before .before .before .before .args .party) (i + 1) (omega arith) in let x = w .given in omega arith)))  -- act-requires
-    (λ c. wrote-length ((along-on (c .before .before .before .before .before .before .before .before .before .before .before .before .before .before .before .before .before .before .args .book .now) (c .before .before .before .before .before .before .before .before .before .before .before .before .before .before .before .before .before .before .args .party) _ _ _ _ _ (c .before .before .before .before .before .before .before .before .before .before .before .before .before .before .before .before .before .before .args .since .now) (c .before .before .before .before .before .before .before .before .before .before .before .loop .inv .1) (c .before .before .before .before .before .before .before .act .ensures)) .keeps))  -- same-length
-    (λ c. wrote-length ((along-on (c .before .before .before .before .before .before .before .before .before .before .before .before .before .before .before .before .before .before .args .book .now) (c .before .before .before .before .before .before .before .before .before .before .before .before .before .before .before .before .before .before .args .party) _ _ _ _ _ (c .before .before .before .before .before .before .before .before .before .before .before .before .before .before .before .before .before .before .args .since .now) (c .before .before .before .before .before .before .before .before .before .before .before .loop .inv .1) (c .before .before .before .before .before .before .before .act .ensures)) .wrote))  -- same-length-2
-    (λ c. walk-stops (c .before .before .before .before .before .before .before .before .before .before .before .before .before .before .before .before .before .before .args .book .now) (c .before .before .before .before .before .before .before .before .before .before .before .before .before .before .before .before .before .before .args .party) _ _ _ _ _ (let u = c .before .before .before .before .before .before .before .before .before .before .before .before .before .before .before .before .before .before .pre .3 in let t = c .before .before .before .before .before .before .before .before .before .before .loop-test .taken in omega arith) (along-on (c .before .before .before .before .before .before .before .before .before .before .before .before .before .before .before .before .before .before .args .book .now) (c .before .before .before .before .before .before .before .before .before .before .before .before .before .before .before .before .before .before .args .party) _ _ _ _ _ (c .before .before .before .before .before .before .before .before .before .before .before .before .before .before .before .before .before .before .args .since .now) (c .before .before .before .before .before .before .before .before .before .before .before .loop .inv .1) (c .before .before .before .before .before .before .before .act .ensures)) (found-here (c .before .before .before .before .before .before .before .before .before .before .before .before .before .before .before .before .before .before .args .book .now) (c .before .before .before .before .before .before .before .before .before .before .before .before .before .before .before .before .before .before .args .party) _ _ (c .before .before .before .before .before .before .before .act .ensures .found ∙ found-exact (c .before .before .before .before .before .before .before .before .before .before .before .before .before .before .before .before .before .before .args .book .now) _ (let u = c .before .before .before .before .before .before .before .before .before .before .before .before .before .before .before .before .before .before .pre .3 in let t = c .before .before .before .before .before .before .before .before .before .before .loop-test .taken in omega arith) (c .before .before .before .before .before .before .before .before .before .before .before .before .before .before .before .before .before .before .args .since .now) (c .before .before .before .before .before .before .before .before .before .before .before .before .before .before .before .before .before .before .args .party) _ (c .before .before .before .before .before .before .before .before .before .before .before .before .before .before .before .before .before .before .pre .1) (c .before .before .before .before .before .before .before .before .before .before .before .before .before .before .before .before .before .before .pre .2) (c .before .before .before .before .before .before .before .before .before .before .before .loop .inv .1 .holds)) (c .before .before .before .before .before .before .before .before .before .before .loop-test .taken) (c .before .before .before .before .before .before .before .before .before .before .before .loop .inv .2) (c .if1 .taken)) (c .if1 .taken))  -- returns
-    (λ c. let f = valid-headed (c .before .before .before .before .before .before .before .before .before .before .before .before .before .before .before .before .before .before .args .book .now) (c .before .before .before .before .before .before .before .before .before .before .before .before .before .before .before .before .before .before .pre .0) .fewSteps in let u = c .before .before .before .before .before .before .before .before .before .before .before .before .before .before .before .before .before .before .pre .3 in let t = c .before .before .before .before .before .before .before .before .before .before .loop-test .taken in omega arith)  -- add-next-own
-    (λ c κs. (c .before .before .before .before .before .before .before .before .before .before .before .before .before .before .before .before .before .before .pre .0, (let u = c .before .before .before .before .before .before .before .before .before .before .before .before .before .before .before .before .before .before .pre .3 in let t = c .before .before .before .before .before .before .before .before .before .before .loop-test .taken in omega arith)))  -- next-own-requires-2
-    (λ c. let w = c .next-own2 .ensures .from in let t = c .before .before .before .before .before .before .before .before .before .before .before .loop-test .taken in omega arith)  -- loop-less
-    (λ c. (c .next-own2 .ensures .within, along-skip (c .next-own2 .ensures) (along-on (c .before .before .before .before .before .before .before .before .before .before .before .before .before .before .before .before .before .before .before .args .book .now) (c .before .before .before .before .before .before .before .before .before .before .before .before .before .before .before .before .before .before .before .args .party) _ _ _ _ _ (c .before .before .before .before .before .before .before .before .before .before .before .before .before .before .before .before .before .before .before .args .since .now) (c .before .before .before .before .before .before .before .before .before .before .before .before .loop .inv .1) (c .before .before .before .before .before .before .before .before .act .ensures)), unrefused-skip (c .next-own2 .ensures) (unrefused-on (c .before .before .before .before .before .before .before .before .before .before .before .before .before .before .before .before .before .before .before .args .book .now) (c .before .before .before .before .before .before .before .before .before .before .before .before .before .before .before .before .before .before .before .args .party) _ _ (c .before .before .before .before .before .before .before .before .act .ensures .found ∙ found-exact (c .before .before .before .before .before .before .before .before .before .before .before .before .before .before .before .before .before .before .before .args .book .now) _ (let u = c .before .before .before .before .before .before .before .before .before .before .before .before .before .before .before .before .before .before .before .pre .3 in let t = c .before .before .before .before .before .before .before .before .before .before .before .loop-test .taken in omega arith) (c .before .before .before .before .before .before .before .before .before .before .before .before .before .before .before .before .before .before .before .args .since .now) (c .before .before .before .before .before .before .before .before .before .before .before .before .before .before .before .before .before .before .before .args .party) _ (c .before .before .before .before .before .before .before .before .before .before .before .before .before .before .before .before .before .before .before .pre .1) (c .before .before .before .before .before .before .before .before .before .before .before .before .before .before .before .before .before .before .before .pre .2) (c .before .before .before .before .before .before .before .before .before .before .before .before .loop .inv .1 .holds)) (c .before .before .before .before .before .before .before .before .before .before .before .before .loop .inv .2) (c .before .if1 .left))))  -- loop-again
-    (λ c. wrote-length (c .before .loop .inv .1 .keeps))  -- same-length-3
-    (λ c. wrote-length (c .before .loop .inv .1 .wrote))  -- same-length-4
-    (λ c. walk-ends (c .before .before .before .before .before .before .before .before .args .book .now) (c .before .before .before .before .before .before .before .before .args .party) _ _ _ _ _ (c .loop-test .left) (c .before .loop .inv .0) (c .before .loop .inv .1) (c .before .loop .inv .2)))  -- returns-2
+    (λ c κs. search needs)  -- next-own-requires
+    loop-holds
+    act-requires
+    same-length
+    same-length-2
+    returns
+    add-next-own
+    next-own-requires-2
+    (λ c. omega arith)  -- loop-less
+    loop-again
+    (λ c. search wrote-length)  -- same-length-3
+    (λ c. search wrote-length)  -- same-length-4
+    (λ c. search walk-ends))  -- returns-2

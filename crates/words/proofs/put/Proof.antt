@@ -1,5 +1,4 @@
 -- `words::put` meets its contract: past the end `set` does nothing (`set-out`). Assumes nothing.
-use mathlib.Core.Path.{sym}
 use lib.Seq.{set-out}
 use borrow.Author.Needs.{needs}
 use Rattle.words.proofs.put.Statement.{statement}
@@ -15,5 +14,5 @@ put-spec =
     (λ c. search needs)  -- same-length
     (λ c. search needs)  -- returns
     (λ c. search needs)  -- add-result
-    (λ c. record { list = sym (set-out _ _ _ (c .before .if1 .left)); next = search needs; room = search needs })  -- returns-2
-    (λ c. record { list = sym (set-out _ _ _ (c .before .if1 .left)); next = search needs; room = search needs }))  -- returns-3
+    (λ c. search (set-out, needs))  -- returns-2
+    (λ c. search (set-out, needs)))  -- returns-3

@@ -5,4 +5,10 @@ use Rattle.words.proofs.put4.Statement.{statement}
 use Rattle.words.proofs.put4.Tie as tie
 
 pub put4-spec : {M : Type 1} → statement M
-put4-spec = tie.close (tie.spec (λ c κs. search needs) (λ c κs. search needs) (λ c. search needs) (λ c. search wrote-cons))
+put4-spec =
+    tie.close
+    (tie.spec
+    (λ c κs. search needs)  -- put-requires
+    (λ c κs. search needs)  -- put3-requires
+    (λ c. search needs)  -- same-length
+    (λ c. search wrote-cons))  -- returns

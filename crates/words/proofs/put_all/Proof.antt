@@ -17,18 +17,39 @@ Inv-loop out₀ at from n next₀ i₀ out next i = (i ≤ n) × Wrote (take i f
 abbrev μ-loop : tie.MeasureT-loop
 μ-loop out₀ at from n next₀ i₀ out next i = n - i
 
+loop-again : tie.Need-loop-again Inv-loop μ-loop
+loop-again c =
+    let after-put : tie.After-put Inv-loop μ-loop = search in
+    let in-loop : tie.In-loop Inv-loop μ-loop = search in
+    let at-loop : tie.At-loop Inv-loop μ-loop = search in
+    let start : tie.Start Inv-loop μ-loop = search in (
+      let t = in-loop .loop-test .taken in omega arith,
+      wrote-as (wrote-then (at-loop .loop .inv .1) (after-put .put .ensures))
+          (ap (λ k. take k (start .args .from .now)) (add-one (at-loop .loop .i)) ∙ take-suc (start .args .from .now)
+          (at-loop .loop .i) 0 (let p = start .pre in let t = in-loop .loop-test .taken in omega arith)),
+    )
+
+returns : tie.Need-returns Inv-loop μ-loop
+returns c =
+    let at-loop : tie.At-loop Inv-loop μ-loop = search in
+    let start : tie.Start Inv-loop μ-loop = search in
+    let t = c .loop-test .left in
+    let h = at-loop .loop .inv .0 in
+    let e : (at-loop .loop .i) ≡ (start .args .n) = omega arith in
+    rw e at (at-loop .loop .inv .1)
+
 pub put-all-spec : {M : Type 1} → statement M
 put-all-spec =
     tie.close
     (tie.spec
     Inv-loop
     μ-loop
-    (λ c. (omega arith, wrote-none))  -- loop-holds
+    (λ c. search (wrote-none, needs))  -- loop-holds
     (λ c. search needs)  -- mul-put
-    (λ c. let p = c .before .before .before .before .before .before .pre in let t = c .before .before .loop-test .taken in omega arith)  -- shared-slice-read-put
+    (λ c. omega arith)  -- shared-slice-read-put
     (λ c κs. search needs)  -- put-requires
     (λ c. search needs)  -- add-i
     (λ c. search needs)  -- loop-less
-    (λ c. (let t = c .before .before .before .before .before .loop-test .taken in omega arith, wrote-as (wrote-then (c .before .before .before .before .before .before .loop .inv .1) (c .before .before .put .ensures)) (ap (λ k. take k (c .before .before .before .before .before .before .before .before .before .args .from .now)) (add-one (c .before .before .before .before .before .before .loop .i)) ∙ take-suc (c .before .before .before .before .before .before .before .before .before .args .from .now) (c .before .before .before .before .before .before .loop .i) 0 (let p = c .before .before .before .before .before .before .before .before .before .pre in let t = c .before .before .before .before .before .loop-test .taken in omega arith))))  -- loop-again
-    (λ c. wrote-length (c .before .loop .inv .1))  -- same-length
-    (λ c. let t = c .loop-test .left in let h = c .before .loop .inv .0 in let e : (c .before .loop .i) ≡ (c .before .before .before .before .args .n) = omega arith in rw e at (c .before .loop .inv .1)))  -- returns
+    loop-again
+    (λ c. search wrote-length)  -- same-length
+    returns)

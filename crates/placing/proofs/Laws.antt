@@ -46,6 +46,13 @@ counts-as f e = rw e f
 abbrev received : List ℕ → Counted → ℕ → ℕ → Did
 received b x f n = let ts = terms (table b) (listAt b f n) in let k = x .dictionary .next in receiveAll ts k (view b (x .dictionary .entries)) (k + count ts)
 
+-- what a received step took: two words of the log a stored term, and a placeholder each; all of which is few
+pub record Took (b : List ℕ) (x : Counted) (f n : ℕ) (y : Received) : Type 0 where
+  pub kept : y .dictionary .kept ≡ x .dictionary .kept + 2 * length (received b x f n .stored)
+  pub next : y .dictionary .next ≡ x .dictionary .next + (length (received b x f n .events) + length (received b x f n .stored))
+  pub events : x .events + 1 + length (received b x f n .events) ≤ mostEvents
+  pub stored : length (received b x f n .stored) ≤ stepSize
+
 module _ (b : List ℕ) (v : Valid b) (s : ℕ) (h : s < steps b) (x : Counted) (f n : ℕ) (df : f ≡ stepFirst b s) (dn : n ≡ stepCount b s) where
   said : terms (table b) (listAt b f n) ≡ terms (table b) (messages b s)
   said = rw (df, dn)
@@ -173,6 +180,9 @@ module _ (b : List ℕ) (v : Valid b) (s : ℕ) (h : s < steps b) (x : Counted) 
           let z = few-said in
           let r = receiveAll-stored ts k (view b (x .dictionary .entries)) (k + count ts) in
           (omega arith, omega arith)
+
+      pub took : Took b x f n y
+      took = record { kept = took-kept; next = took-next; events = took-few .0; stored = took-few .1 }
 
 -- ---- a party's part in one step
 module _ (b : List ℕ) (v : Valid b) (p i : ℕ) (h : i < steps b) where

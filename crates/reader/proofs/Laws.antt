@@ -146,6 +146,10 @@ module _ (b : List ℕ) (keep : RowsKeep b) (k : ℕ) (l : k < rows b) (f n : �
       go (suc (suc zero)) h = omega arith
       go (suc (suc (suc c))) h = omega arith
 
+-- the same as a loop over the parts of a row k, up to the row r, has it
+pub part-reach : (b : List ℕ) → RowsKeep b → (r k f n n' j : ℕ) → r < rows b → k ≤ r → f ≡ rowFirst b k → n' ≡ rowCount b k → n' ≡ n → j ≤ n → (j ≡ n → ⊥) → f + j < pool b
+part-reach b keep r k f n n' j l m d e h i z = part-inside b keep k (omega arith) f n' d e j (omega arith)
+
 -- ---- two rows agree
 runs-equal : (b : List ℕ) (x y n m : ℕ) → n ≡ m → ((j : ℕ) → j < n → getD b (x + j) 0 ≡ getD b (y + j) 0) → run b x n ≡ run b y m
 runs-equal b x y n m e h =
@@ -153,33 +157,35 @@ runs-equal b x y n m e h =
     let q = run-length b y m in
     ext-getD 0 _ _ (omega arith) (λ i l. run-getD b x n i (omega arith) ∙ h i (omega arith) ∙ sym (run-getD b y m i (omega arith)))
 
-module _ (b : List ℕ) (r k f g n c t : ℕ) (ec : c ≡ kind b r) (et : t ≡ tag b r) (ef : f ≡ rowFirst b r) (en : n ≡ rowCount b r) where
-  pub agree-all : (c' t' n' : ℕ) → c' ≡ kind b k → c' ≡ c → t' ≡ tag b k → t' ≡ t → n' ≡ rowCount b k → n' ≡ n → g ≡ rowFirst b k
-      → (j : ℕ) → j ≡ n → ((i : ℕ) → i < j → pooled b g i ≡ pooled b f i) → agrees b r k ≡ true
-  agree-all c' t' n' a a' d d' h h' y j z p =
-      agrees-exact b r k .1
-      (record {
-        kinds = sym a ∙ a' ∙ ec;
-        tags = sym d ∙ d' ∙ et;
-        partss = runs-equal b (begins b 3 + rowFirst b k) (begins b 3 + rowFirst b r) (rowCount b k) (rowCount b r) (sym h ∙ h' ∙ en)
-            (λ i l. ap (λ x. pooled b x i) (sym y) ∙ p i (omega arith) ∙ ap (λ x. pooled b x i) ef);
-      })
+-- what was read of the row r and of the row k decides. Each law asks only for what it uses, in the order of the code, so that `search` finds it
+module _ (b : List ℕ) (r k : ℕ) where
+  pub agree-kind : (c c' : ℕ) → c ≡ kind b r → c' ≡ kind b k → (c' ≡ c → ⊥) → agrees b r k ≡ false
+  agree-kind c c' e a n = not-agrees b r k (λ x. n (a ∙ x .kinds ∙ sym e))
 
-  pub agree-kind : (c' : ℕ) → c' ≡ kind b k → (c' ≡ c → ⊥) → agrees b r k ≡ false
-  agree-kind c' a n' = not-agrees b r k (λ x. n' (a ∙ x .kinds ∙ sym ec))
+  pub agree-tag : (t t' : ℕ) → t ≡ tag b r → t' ≡ tag b k → (t' ≡ t → ⊥) → agrees b r k ≡ false
+  agree-tag t t' e a n = not-agrees b r k (λ x. n (a ∙ x .tags ∙ sym e))
 
-  pub agree-tag : (t' : ℕ) → t' ≡ tag b k → (t' ≡ t → ⊥) → agrees b r k ≡ false
-  agree-tag t' a n' = not-agrees b r k (λ x. n' (a ∙ x .tags ∙ sym et))
+  pub agree-count : (n n' : ℕ) → n ≡ rowCount b r → n' ≡ rowCount b k → (n' ≡ n → ⊥) → agrees b r k ≡ false
+  agree-count n n' e a m =
+      not-agrees b r k (λ x. m (a ∙ sym (run-length b (begins b 3 + rowFirst b k) (rowCount b k)) ∙ ap length (x .partss) ∙ run-length b (begins b 3 + rowFirst b r) (rowCount b r) ∙ sym e))
 
-  pub agree-count : (n' : ℕ) → n' ≡ rowCount b k → (n' ≡ n → ⊥) → agrees b r k ≡ false
-  agree-count n' a m =
-      not-agrees b r k (λ x. m (a ∙ sym (run-length b (begins b 3 + rowFirst b k) (rowCount b k)) ∙ ap length (x .partss) ∙ run-length b (begins b 3 + rowFirst b r) (rowCount b r) ∙ sym en))
+  module _ (f n g n' : ℕ) (ef : f ≡ rowFirst b r) (en : n ≡ rowCount b r) (a : n' ≡ rowCount b k) (d : n' ≡ n) (y : g ≡ rowFirst b k) (j : ℕ) where
+    pub agree-part : (p q : ℕ) → j ≤ n → (j ≡ n → ⊥) → p ≡ pooled b g j → q ≡ pooled b f j → (p ≡ q → ⊥) → agrees b r k ≡ false
+    agree-part p q l z hp hq m =
+        not-agrees b r k
+        (λ x. m (hp ∙ ap (λ w. pooled b w j) y ∙ sym (run-getD b (begins b 3 + rowFirst b k) (rowCount b k) j (omega arith))
+        ∙ ap (λ (w : List ℕ). getD w j 0) (x .partss) ∙ run-getD b (begins b 3 + rowFirst b r) (rowCount b r) j (omega arith) ∙ ap (λ w. pooled b w j) (sym ef) ∙ sym hq))
 
-  pub agree-part : (j p q : ℕ) → g ≡ rowFirst b k → j < n → rowCount b k ≡ n → p ≡ pooled b g j → q ≡ pooled b f j → (p ≡ q → ⊥) → agrees b r k ≡ false
-  agree-part j p q y l z hp hq m =
-      not-agrees b r k
-      (λ x. m (hp ∙ ap (λ w. pooled b w j) y ∙ sym (run-getD b (begins b 3 + rowFirst b k) (rowCount b k) j (omega arith))
-      ∙ ap (λ (w : List ℕ). getD w j 0) (x .partss) ∙ run-getD b (begins b 3 + rowFirst b r) (rowCount b r) j (omega arith) ∙ ap (λ w. pooled b w j) (sym ef) ∙ sym hq))
+    pub agree-all : (c c' t t' : ℕ) → c ≡ kind b r → c' ≡ kind b k → c' ≡ c → t ≡ tag b r → t' ≡ tag b k → t' ≡ t
+        → j ≡ n → ((i : ℕ) → i < j → pooled b g i ≡ pooled b f i) → agrees b r k ≡ true
+    agree-all c c' t t' ec h h' et u u' z p =
+        agrees-exact b r k .1
+        (record {
+          kinds = sym h ∙ h' ∙ ec;
+          tags = sym u ∙ u' ∙ et;
+          partss = runs-equal b (begins b 3 + rowFirst b k) (begins b 3 + rowFirst b r) (rowCount b k) (rowCount b r) (sym a ∙ d ∙ en)
+              (λ i l. ap (λ x. pooled b x i) (sym y) ∙ p i (omega arith) ∙ ap (λ x. pooled b x i) ef);
+        })
 
 -- ---- the hunt for a row's twin: rows up to one of the row's parts don't agree with it, since their own parts are before them
 pub before-part : (b : List ℕ) → RowsKeep b → (r : ℕ) → r < rows b → (f n j p : ℕ) → f ≡ rowFirst b r → n ≡ rowCount b r → j < n → p ≡ pooled b f j → (k : ℕ) → k < p + 1 → agrees b r k ≡ false

@@ -11,7 +11,7 @@ use Rattle.terms.specs.Term.{count, listed, partner}
 use Rattle.terms.specs.Term.Laws.{count-listed}
 use Rattle.terms.specs.Image.{words}
 use Rattle.terms.specs.Table.{term, terms}
-use Rattle.book.specs.Layout.{table, rows, kind, rowFirst, rowCount, listAt}
+use Rattle.book.specs.Layout.{table, rows, pool, kind, rowFirst, rowCount, listAt}
 use Rattle.book.specs.Valid.{Valid}
 use Rattle.book.specs.Headed.Laws.{valid-headed}
 use Rattle.translation.specs.Dictionary.{buildable, image, enter}
@@ -65,6 +65,15 @@ open-wrote b e v r p n c q x h k d g y f u w = wrote-as (wrote-then f (wrote-the
 empty-span : (b : List ℕ) (r : ℕ) → Span b r 0 0
 empty-span b r = record { inside = omega arith; below = rw (list-none b 0 0 (omega arith)) tt; few = omega arith }
 
+pub few-rows : (b : List ℕ) → Valid b → rows b ≤ 1024
+few-rows b v = valid-headed b v .fewRows
+
+pub small-pool : (b : List ℕ) → Valid b → pool b ≤ 8192
+small-pool b v = valid-headed b v .smallPool
+
+pub opens-kind : (b e : List ℕ) (r : ℕ) (u : Bool) → Valid b → r < rows b → u ≡ canOpen (view b e) (term (table b) r) → u ≡ true → kind b r ≡ 2
+opens-kind b e r u v h d y = opens-cipher b v r h (view b e) (sym d ∙ y)
+
 module _ (b e : List ℕ) (v : Valid b) (r p n k : ℕ) (h : r < rows b) (z : length e ≡ 1024) (t : Bool) (dt : t ≡ buildable (view b e) (term (table b) r)) where
   pub settle-compare : t ≡ true → {l o s : List ℕ} {a j : ℕ} → Wrote (programWords (rowOf b) (compared (term (table b) r) p (view b e) .events)) o a s j
       → Settling b r p n k e e l l a o s (record { first = 0; left = 0; kept = k; at = j })
@@ -78,15 +87,12 @@ module _ (b e : List ℕ) (v : Valid b) (r p n k : ℕ) (h : r < rows b) (z : le
       }
 
   module _ (u : Bool) (q : t ≡ false) (du : u ≡ canOpen (view b e) (term (table b) r)) where
-    pub opens-kind : u ≡ true → kind b r ≡ 2
-    opens-kind y = opens-cipher b v r h (view b e) (sym du ∙ y)
-
     pub settle-unlock : u ≡ true → (f c : ℕ) → f ≡ rowFirst b r → c ≡ rowCount b r → {l o s : List ℕ} {a j : ℕ} → Wrote (programWords (rowOf b) (unlocked (term (table b) r) p (view b e) n .events)) o a s j
         → Settling b r p n k e e l l a o s (record { first = f + 1; left = c - 1; kept = k; at = j })
     unfolding pairWords inside
     settle-unlock y f c df dc x =
         let w = unlocked-rest (term (table b) r) p (view b e) n in
-        let i : kind b r ≡ 2 = opens-kind y in
+        let i : kind b r ≡ 2 = opens-kind b e r u v h du y in
         let s = first-part b v r h (omega arith) in
         record {
           doing = doing-as (record {

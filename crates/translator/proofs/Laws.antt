@@ -47,6 +47,9 @@ module _ (b : List ℕ) where
       ap parts z ∙ values-last (partWords b) 0 q ∙ ap (λ k. parts q ++ partWords b k ∷ []) y
 
 -- ---- the loop over the parties' heads
+pub few-parties : (b : List ℕ) → Valid b → parties b ≤ 16
+few-parties b v = valid-headed b v .fewParties
+
 -- while nothing is found, the heads and the length are those of the programs; the numbers fit in any case
 pub record Measuring (b : List ℕ) (n q : ℕ) (old : List ℕ) (at : ℕ) (new : List ℕ) (next end step taken : ℕ) : Type 0 where
   pub few : q ≤ n

@@ -16,9 +16,11 @@ use Rattle.words.specs.Overlay.Laws.{wrote-none, wrote-then, wrote-as, wrote-ta
 use Rattle.terms.specs.Term.{count, gathered, listed}
 use Rattle.terms.specs.Term.Laws.{count-gathered}
 use Rattle.terms.specs.Table.{term, terms}
-use Rattle.book.specs.Layout.{table, parties, steps, sender, receiver, stepFirst, stepCount, known, messages, listAt}
+use Rattle.book.specs.Layout.{table, rows, parties, steps, sender, receiver, stepFirst, stepCount, known, messages, listAt}
 use Rattle.book.specs.Headed.Laws.{valid-headed}
 use Rattle.book.specs.Valid.{Valid}
+use Rattle.holding.specs.Span.{Span}
+use Rattle.holding.specs.Span.Laws.{span-step}
 use Rattle.translation.specs.Dictionary.{start}
 use Rattle.translation.specs.Build.{buildAll}
 use Rattle.translation.specs.Receive.{Did, Event, nothing, followed, receiveAll}
@@ -115,6 +117,15 @@ module _ (b l : List ℕ) (p s : ℕ) (x : Received) (f n : ℕ) (df : f ≡ ste
       }
 
 -- ---- all steps
+-- the same by what the code has read, so that `search` finds it
+pub step-span : (b : List ℕ) → Valid b → (d s f n : ℕ) → d ≡ rows b → s < steps b → f ≡ stepFirst b s → n ≡ stepCount b s → Span b d f n
+step-span b v d s f n e h df dn = rw e (span-step b v f n s h df dn)
+
+pub step-fits : (b : List ℕ) (p s : ℕ) (x : Received) (f n z y : ℕ) → f ≡ stepFirst b s → n ≡ stepCount b s → z ≡ sender b s → (z ≡ p → ⊥) → y ≡ receiver b s → y ≡ p
+    → x .dictionary .next + length (stepDid b p s (view b (x .dictionary .entries)) (x .dictionary .next) .given) ≤ limit
+    → x .dictionary .next + length (inTurn (terms (table b) (listAt b f n)) (view b (x .dictionary .entries)) (x .dictionary .next) .given) ≤ limit
+step-fits b p s x f n z y df dn = turn-fits b [] p s x f n df dn z y
+
 module _ (b : List ℕ) (p i k : ℕ) (log : List ℕ) (a : ℕ) (out : List ℕ) where
   -- one step more
   pub along-on : (l : List ℕ) {middle logAfter between outAfter : List ℕ} {x : Received} {r : Acted} → Along b p i k log middle a out between x → Acting b l p i x middle logAfter between outAfter r

@@ -1,5 +1,5 @@
 -- `receiving::receive` and `receiving::receive_list` meet their contracts: a row is settled and its contents follow; in the loop, whatever ends the rest ends the whole. Assumes nothing.
-use Rattle.receiving.proofs.Laws.{turn-room, turn-doing, going-room, Going, going-start, going-on, going-end}
+use Rattle.receiving.proofs.Laws.{small-pool, turn-room, turn-doing, going-room, Going, going-start, going-on, going-end}
 use Rattle.receiving.specs.Turn.{inTurn}
 use Rattle.holding.specs.View.{view}
 use Rattle.terms.specs.Table.{terms}
@@ -79,45 +79,11 @@ receive-list-calls t = (
 abbrev in-receive-list : (receive-list-lts.Claims → In 3 receive-list-kinds.ps → Out 3 receive-list-kinds.ps receive-list-kinds.r → receive-list-lts.InvT-loop → receive-list-lts.MeasureT-loop → Type 0) → ℕ → Type 0
 in-receive-list P t = P (receive-list-calls t) (receive-list-at t) receive-list.Post receive-list-Inv-loop receive-list-μ-loop
 
-receive-receive-list-requires : (t : ℕ) → in-receive receive-lts.Need-receive-list-requires t
-receive-receive-list-requires t c κs =
-    let after-settle : in-receive receive-lts.After-settle t = search in
-    let start : in-receive receive-lts.Start t = search in (
-      omega arith,
-      (
-        start .pre .1 .0,
-        omega arith,
-        after-settle .settle .ensures .span,
-        turn-room (after-settle .settle .ensures) (start .pre .1 .3),
-      ),
-    )
-
 receive-list-loop-holds : (t : ℕ) → in-receive-list receive-list-lts.Need-loop-holds t
 receive-list-loop-holds t c =
     let after-narrow : in-receive-list receive-list-lts.After-narrow t = search in
     let start : in-receive-list receive-list-lts.Start t = search in
     going-start _ _ _ _ _ _ _ _ _ (start .pre .1 .2) (after-narrow .narrow .ensures) (search needs) (start .pre .1 .3)
-
-receive-list-receive-requires : (t : ℕ) → in-receive-list receive-list-lts.Need-receive-requires t
-receive-list-receive-requires t c κs =
-    let after-entry : in-receive-list receive-list-lts.After-entry t = search in
-    let in-loop : in-receive-list receive-list-lts.In-loop t = search in
-    let at-loop : in-receive-list receive-list-lts.At-loop t = search in
-    let start : in-receive-list receive-list-lts.Start t = search in (
-      omega arith,
-      (
-        start .pre .1 .0,
-        omega arith,
-        omega arith,
-        going-room _ (at-loop .loop .inv) (in-loop .loop-test .taken) (after-entry .entry .ensures .0),
-      ),
-    )
-
-receive-list-add-i : (t : ℕ) → in-receive-list receive-list-lts.Need-add-i t
-receive-list-add-i t c =
-    let start : in-receive-list receive-list-lts.Start t = search in
-    let h = valid-headed _ (start .pre .1 .0) in
-    omega arith
 
 receive-list-loop-again : (t : ℕ) → in-receive-list receive-list-lts.Need-loop-again t
 receive-list-loop-again t c =
@@ -134,7 +100,7 @@ pub +receive+receive-list-spec : {M : Type 1} → statement M
     (receive-at t)
     receive.Post
     (λ c κs. search needs)  -- receive-settle-requires
-    (receive-receive-list-requires t)
+    (λ c κs. (omega arith, (search needs, omega arith, search needs, search turn-room)))  -- receive-receive-list-requires
     (λ c. search needs)  -- receive-same-length
     (λ c. search needs)  -- receive-same-length-2
     (λ c. search turn-doing))  -- receive-returns
@@ -148,9 +114,9 @@ pub +receive+receive-list-spec : {M : Type 1} → statement M
     (λ c. search needs)  -- receive-list-add-next
     (receive-list-loop-holds t)
     (λ c κs. search needs)  -- receive-list-entry-requires
-    (receive-list-receive-requires t)
+    (λ c κs. (omega arith, (search needs, omega arith, omega arith, search going-room)))  -- receive-list-receive-requires
     (λ c. search needs)  -- receive-list-add-place
-    (receive-list-add-i t)
+    (λ c. omega (arith, small-pool))  -- receive-list-add-i
     (λ c. search needs)  -- receive-list-sub-k
     (λ c. search needs)  -- receive-list-loop-less
     (receive-list-loop-again t)

@@ -3,7 +3,7 @@ use mathlib.Core.Logic.{inl, inr}
 use Prim.Native.Nat.{_-_}
 use Rattle.book.specs.Headed.Laws.{valid-headed}
 use Rattle.translator.specs.Found.Laws.{among-within}
-use Rattle.translator.proofs.Laws.{Measuring, heads-start, end-low, heads-on, heads-off, heads-end}
+use Rattle.translator.proofs.Laws.{Measuring, heads-start, few-parties, heads-on, heads-off, heads-end}
 use borrow.Author.Needs.{needs}
 use native.Mathlib.Omega.{arith}
 use Rattle.translator.proofs.write_heads.Statement.{statement}
@@ -17,41 +17,10 @@ abbrev μ-loop : tie.MeasureT-loop
 
 loop-holds : tie.Need-loop-holds Inv-loop μ-loop
 loop-holds c =
-    let after-wide : tie.After-wide Inv-loop μ-loop = search in
     let after-parties : tie.After-parties Inv-loop μ-loop = search in
-    heads-start _ _ (after-parties .parties .ensures) _ _ _ _ (let e = after-wide .wide .ensures .0 in omega arith)
-    (c .steps .ensures)
+    heads-start _ _ (after-parties .parties .ensures) _ _ _ _ (omega arith) (c .steps .ensures)
 
-narrow-requires : tie.Need-narrow-requires Inv-loop μ-loop
-narrow-requires c κs =
-    let in-loop : tie.In-loop Inv-loop μ-loop = search in
-    let at-loop : tie.At-loop Inv-loop μ-loop = search in
-    let after-parties : tie.After-parties Inv-loop μ-loop = search in
-    let start : tie.Start Inv-loop μ-loop = search in
-    let k = end-low _ _ (after-parties .parties .ensures) (start .pre .0) _ (in-loop .loop-test .taken)
-    (at-loop .loop .inv) in
-    omega arith
-
-narrow-requires-2 : tie.Need-narrow-requires-2 Inv-loop μ-loop
-narrow-requires-2 c κs =
-    let in-loop : tie.In-loop Inv-loop μ-loop = search in
-    let at-loop : tie.At-loop Inv-loop μ-loop = search in
-    let after-parties : tie.After-parties Inv-loop μ-loop = search in
-    let start : tie.Start Inv-loop μ-loop = search in
-    let k = end-low _ _ (after-parties .parties .ensures) (start .pre .0) _ (in-loop .loop-test .taken)
-    (at-loop .loop .inv) in
-    omega arith
-
-add-end-2 : tie.Need-add-end-2 Inv-loop μ-loop
-add-end-2 c =
-    let in-loop : tie.In-loop Inv-loop μ-loop = search in
-    let at-loop : tie.At-loop Inv-loop μ-loop = search in
-    let after-parties : tie.After-parties Inv-loop μ-loop = search in
-    let start : tie.Start Inv-loop μ-loop = search in
-    let k = end-low _ _ (after-parties .parties .ensures) (start .pre .0) _ (in-loop .loop-test .taken)
-    (at-loop .loop .inv) in
-    omega arith
-
+-- a party has no find, or has one
 loop-again : tie.Need-loop-again Inv-loop μ-loop
 loop-again c =
     let after-put2 : tie.After-put2 Inv-loop μ-loop = search in
@@ -92,10 +61,10 @@ write-heads-spec =
     (λ c κs. search valid-headed)  -- steps-requires
     loop-holds
     (λ c κs. search (among-within, needs))  -- measure-requires
-    narrow-requires
-    narrow-requires-2
+    (λ c κs. omega (arith, few-parties))  -- narrow-requires
+    (λ c κs. omega (arith, few-parties))  -- narrow-requires-2
     (λ c κs. search needs)  -- put2-requires
-    add-end-2
+    (λ c. omega (arith, few-parties))  -- add-end-2
     (λ c. search needs)  -- add-party
     (λ c. search needs)  -- loop-less
     loop-again

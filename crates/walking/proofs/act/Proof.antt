@@ -1,31 +1,28 @@
 -- `walking::act` meets its contract: by who the party is in the step. Assumes nothing.
 use Rattle.book.specs.Headed.Laws.{valid-headed}
 use Rattle.holding.specs.Span.Laws.{span-step}
-use Rattle.walking.proofs.Laws.{acts-send, acts-receive, acts-empty, acts-idle, turn-fits}
+use Rattle.walking.proofs.Laws.{acts-send, acts-receive, acts-empty, acts-idle, step-span, step-fits}
 use native.Mathlib.Omega.{arith}
 use borrow.Author.Needs.{needs}
 use Rattle.walking.proofs.act.Statement.{statement}
 use Rattle.walking.proofs.act.Tie as tie
 
 receive-messages-requires : tie.Need-receive-messages-requires
-receive-messages-requires c κs =
-    let after-rows : tie.After-rows = search in
-    let then2 : tie.Then2 = search in
-    let after-step-receiver : tie.After-step-receiver = search in
-    let else1 : tie.Else1 = search in
-    let after-step-sender : tie.After-step-sender = search in
-    let after-step-count : tie.After-step-count = search in
-    let after-step-first : tie.After-step-first = search in
-    let start : tie.Start = search in (
-      start .pre .0,
-      let e = after-rows .rows .ensures in omega arith,
-      let e = after-rows .rows .ensures in rw e
-          (span-step _ (start .pre .0) _ _ _ (start .pre .1) (after-step-first .step-first .ensures .0)
-          (after-step-count .step-count .ensures .0)),
-      turn-fits _ (start .args .since .now) _ _ (start .args .before) _ _ (after-step-first .step-first .ensures .0)
-          (after-step-count .step-count .ensures .0) _ _ (after-step-sender .step-sender .ensures) (else1 .if1 .left)
-          (after-step-receiver .step-receiver .ensures) (then2 .if2 .taken) (start .pre .2),
-    )
+receive-messages-requires c κs = (
+  search needs,
+  omega arith,
+  search step-span,
+  let then2 : tie.Then2 = search in
+      let after-step-receiver : tie.After-step-receiver = search in
+      let else1 : tie.Else1 = search in
+      let after-step-sender : tie.After-step-sender = search in
+      let after-step-count : tie.After-step-count = search in
+      let after-step-first : tie.After-step-first = search in
+      let start : tie.Start = search in
+      step-fits _ _ _ (start .args .before) _ _ _ _ (after-step-first .step-first .ensures .0)
+      (after-step-count .step-count .ensures .0) (after-step-sender .step-sender .ensures) (else1 .if1 .left)
+      (after-step-receiver .step-receiver .ensures) (then2 .if2 .taken) (start .pre .2),
+)
 
 pub act-spec : {M : Type 1} → statement M
 act-spec =

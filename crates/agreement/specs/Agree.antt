@@ -12,7 +12,7 @@ use lib.ListN.{length, getElem?}
 use Rattle.terms.specs.Term.{Term, Terms}
 use Rattle.translation.specs.Receive.{Event}
 use Rattle.translation.specs.Build.Laws.{NoRepeat}
-use Rattle.translation.specs.Program.{own, walked}
+use Rattle.translation.specs.Program.{actsOf, walked}
 use Rattle.translation.specs.Narration.{Narration, knownTo}
 use Rattle.translation.specs.Taken.{Nobodys, stepOf}
 use Rattle.agreement.specs.Machine.{Effect, effect, System, Move, move}
@@ -21,7 +21,7 @@ pub mod Laws
 -- ---- the narration's side
 -- the terms that the narration has at party p's placeholders, from 0 on
 unfoldable pub meant : Narration → ℕ → List Term
-meant N p = walked (knownTo N p) (own p 0 (N .says)) .given
+meant N p = walked (knownTo N p) (actsOf p 0 (N .says)) .given
 
 unfoldable pub receiverOf : Narration → ℕ → ℕ
 receiverOf N s = stepOf N s .receiver

@@ -17,9 +17,9 @@ use Rattle.terms.specs.Image.{Image, Images}
 use Rattle.translation.specs.Dictionary.{enter, start, buildable, imageOr, image}
 use Rattle.translation.specs.Build.{builtOr, build}
 use Rattle.translation.specs.Receive.{Event, canOpen, rule, byRule, receive}
-use Rattle.translation.specs.Program.{Step, own, act, walk, walked, program}
+use Rattle.translation.specs.Program.{Step, actsOf, act, walk, walked, program}
 use Rattle.translation.specs.Narration.{Narration, knownTo, programOf}
-use Rattle.translation.specs.Taken.{joined, said, claimed, occursInOne, taken, Taken, stepOf, holdsBefore, madeAt, takenAt, unplayable}
+use Rattle.translation.specs.Taken.{joined, allMessages, claimed, occursInOne, taken, Taken, stepOf, holdsBefore, madeAt, takenAt, unplayable}
 use Rattle.translation.specs.Spelling.{then}
 use Rattle.agreement.specs.View.{holds, value, change, bind}
 use Rattle.agreement.specs.Machine.{sending, comparing, contents, opening, effect, takes, next, turn, handed, delivered, System, sentAfter, madeAfter, Move, move, begin, Reach}
@@ -36,15 +36,15 @@ pub record Breaks (N : Narration) (programs : ℕ → List Event) (Clause : Syst
 -- what the definitions give: a party's program, what the narration has at its placeholders, whether a step is refused, the state
 -- after some moves
 unfoldable pub right : Narration → ℕ → List Event
-unfolding ℕ-discrete pick choose same count listed partner enter start buildable imageOr image builtOr build canOpen rule byRule receive own act walk walked program stepOf knownTo programOf
+unfolding ℕ-discrete pick choose same count listed partner enter start buildable imageOr image builtOr build canOpen rule byRule receive actsOf act walk walked program stepOf knownTo programOf
 right N p = programOf N p
 
 unfoldable pub there : Narration → ℕ → List Term
-unfolding ℕ-discrete pick choose same count listed partner enter start buildable imageOr image builtOr build canOpen rule byRule receive own act walk walked knownTo meant
+unfolding ℕ-discrete pick choose same count listed partner enter start buildable imageOr image builtOr build canOpen rule byRule receive actsOf act walk walked knownTo meant
 there N p = meant N p
 
 unfoldable pub refused : Narration → ℕ → Bool
-unfolding ℕ-discrete pick choose same count listed partner enter start buildable imageOr image builtOr build canOpen rule byRule receive own act walk walked first firstFrom any occurs joined said claimed occursInOne taken knownTo stepOf holdsBefore madeAt takenAt unplayable
+unfolding ℕ-discrete pick choose same count listed partner enter start buildable imageOr image builtOr build canOpen rule byRule receive actsOf act walk walked first firstFrom any occurs joined allMessages claimed occursInOne taken knownTo stepOf holdsBefore madeAt takenAt unplayable
 refused N s = unplayable N s
 
 unfoldable pub after : Narration → (ℕ → List Event) → List Move → System

@@ -9,7 +9,7 @@ use mathlib.Core.Path.{_≡_, refl, sym, subst}
 use lib.ListN.{length}
 use Rattle.translation.specs.Build.Laws.{NoRepeat}
 use Rattle.translation.specs.Receive.{Event}
-use Rattle.translation.specs.Program.{own}
+use Rattle.translation.specs.Program.{actsOf}
 use Rattle.translation.specs.Narration.{Narration, knownTo, programOf}
 use Rattle.translation.specs.Taken.{Nobodys, stepOf, Playable}
 use Rattle.agreement.specs.Machine.{System, begin, Reach}
@@ -62,7 +62,7 @@ module _ (N : Narration) (Q : ℕ) (programs : ℕ → List Event) (v : Played N
       }
     where
       safe : (q : ℕ) → Safe N (meant N q) (programOf N q) (knownTo N q) []
-      safe q = unfold programOf meant in program-safe N _ (knownTo N q) (own q 0 (N .says)) (parts-said N q (own-parts N q)) refl
+      safe q = unfold programOf meant in program-safe N _ (knownTo N q) (actsOf q 0 (N .says)) (parts-said N q (own-parts N q)) refl
 
   start-flow : Flow N Q starting
   unfolding begin

@@ -96,21 +96,21 @@ unfoldable pub sizeBreaks : List ℕ → ℕ → Bool
 sizeBreaks b r = ltb 1024 (rowSize (table b) r)
 
 -- "Two rows that aren't atoms never agree in kind, tag and parts"
-pub record Agree (b : List ℕ) (r k : ℕ) : Type 0 where
+pub record Alike (b : List ℕ) (r k : ℕ) : Type 0 where
   pub kinds : kind b k ≡ kind b r
   pub tags : tag b k ≡ tag b r
   pub partss : parts b k ≡ parts b r
 
-unfoldable pub agrees : List ℕ → ℕ → ℕ → Bool
-agrees b r k =
+unfoldable pub alike : List ℕ → ℕ → ℕ → Bool
+alike b r k =
     not (oneOf (differs (kind b k) (kind b r) ∷ differs (tag b k) (tag b r) ∷ not (sameWords (parts b k) (parts b r)) ∷ []))
 
 abbrev pub SingleRule : List ℕ → ℕ → Type 0
-SingleRule b r = (kind b r ≡ 0 → ⊥) → (k : ℕ) → k < r → Agree b r k → ⊥
+SingleRule b r = (kind b r ≡ 0 → ⊥) → (k : ℕ) → k < r → Alike b r k → ⊥
 
 -- "a row repeats an earlier one"
 unfoldable pub repeats : List ℕ → ℕ → Bool
-repeats b r = pick (eqb (kind b r) 0) false (any (agrees b r) r)
+repeats b r = pick (eqb (kind b r) 0) false (any (alike b r) r)
 
 -- ---- a party
 pub record PartyRule (b : List ℕ) (p : ℕ) : Type 0 where

@@ -1,7 +1,9 @@
 use words::wide;
 ghost use mathlib.Core.Path.{_≡_};
-ghost use Prim.Native.Nat.{_+_, _^_, _<_};
+ghost use Prim.Native.Nat.{_+_, _^_, _≤_, _<_};
 ghost use Rattle.book.specs.Headed.{Headed};
+ghost use Rattle.book.specs.Span.{entry as entryAt, Span};
+ghost use Rattle.book.specs.Valid.{Valid};
 ghost use Rattle.book.specs.Layout.{rows as rowsOf, parties as partiesOf, steps as stepsOf, pool as poolOf, field, pooled as pooledAt};
 ghost use Rattle.book.specs.Layout.{kind, tag, rowFirst, rowCount, name, partyFirst, partyCount, sender, receiver, stepFirst, stepCount};
 
@@ -219,4 +221,21 @@ pub fn step_count(book: &[u32], step: u32) -> usize
     ensures { λ r. ⌜ (r ≡ stepCount (now (book .entry)) step) × (r < 2 ^ 32) ⌝ }
 {
     wide(step_word(book, step, 3))
+}
+
+// The row that stands at a place of the pool, of a list that goes on there.
+pub fn entry(book: &[u32], first: usize, n: usize, bound: u32) -> u32
+    requires { ⌜ Valid (now book) × Span (now book) bound first n × (0 < n) ⌝ }
+    ensures { λ r. ⌜ (r ≡ entryAt (now (book .entry)) first) × (r < bound) ⌝ }
+{
+    pooled(book, first, 0)
+}
+
+// A row's first part: a cipher's key, a half's part.
+pub fn first_part(book: &[u32], row: u32) -> u32
+    requires { ⌜ Valid (now book) × (row < rowsOf (now book)) × (2 ≤ kind (now book) row) ⌝ }
+    ensures { λ r. ⌜ (r ≡ entryAt (now (book .entry)) (rowFirst (now (book .entry)) row)) × (r < row) ⌝ }
+{
+    let first = row_first(book, row);
+    pooled(book, first, 0)
 }

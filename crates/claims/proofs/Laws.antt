@@ -12,7 +12,7 @@ use Rattle.book.specs.Layout.{rows, parties, pool, kind, table, rowFirst, rowCo
 use Rattle.book.specs.Valid.{Valid}
 use Rattle.translation.specs.Narration.{narration}
 use Rattle.translation.specs.Taken.{joined}
-use Rattle.holding.specs.Span.{entry}
+use Rattle.book.specs.Span.{entry}
 use Rattle.claims.specs.Marked.{Marked, Ready}
 use Rattle.claims.specs.Marked.Laws.{marked-none, marked-new, marked-old, marked-atom, marked-row, marked-end, marked-more, marked-value, marked-joined, marked-pooled, seen-none, seen-marked, seen-more, marked-seen}
 use Rattle.claims.specs.Claims.{ClaimsBefore}

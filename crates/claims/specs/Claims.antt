@@ -7,7 +7,7 @@ use lib.ListN.{length, getD}
 use Rattle.words.specs.Run.{values}
 use Rattle.translation.specs.Narration.{Narration, narration, stepAt}
 use Rattle.translation.specs.Taken.{taken}
-use Rattle.holding.specs.Since.{takenIn}
+use Rattle.claims.specs.Since.{takenIn}
 pub mod Laws
 
 -- the table l says of every step and every row what the narration says

@@ -1,4 +1,5 @@
 use book::Kind;
+use book::entry;
 use book::parties;
 use book::party_count;
 use book::party_first;
@@ -11,7 +12,6 @@ use book::rows;
 use book::step_count;
 use book::step_first;
 use book::steps;
-use holding::entry;
 use words::wide;
 ghost use mathlib.Core.Path.{_≡_};
 ghost use mathlib.Core.List.{[], _∷_, map};
@@ -23,7 +23,7 @@ ghost use Rattle.book.specs.Layout.{rows as rowsOf, parties as partiesOf, table
 ghost use Rattle.book.specs.Valid.{Valid};
 ghost use Rattle.translation.specs.Narration.{narration};
 ghost use Rattle.translation.specs.Taken.{joined};
-ghost use Rattle.holding.specs.Span.{Span};
+ghost use Rattle.book.specs.Span.{Span};
 ghost use Rattle.claims.specs.Marked.{Marked, Ready};
 ghost use Rattle.claims.specs.Claims.{Claims, ClaimsBefore};
 

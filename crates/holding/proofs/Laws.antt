@@ -10,26 +10,17 @@ use Rattle.words.specs.Choice.{pick}
 use Rattle.words.specs.Run.Laws.{zeros}
 use Rattle.words.specs.Overlay.{Wrote}
 use Rattle.words.specs.Overlay.Laws.{wrote-then, wrote-as, wrote-none}
-use Rattle.book.specs.Layout.{table, rows, parties, pool, kind, rowFirst, rowCount, partyFirst, partyCount, known, pooled, listAt}
+use Rattle.book.specs.Layout.{table, rows, parties, kind, rowFirst, rowCount, partyFirst, partyCount, known, pooled, listAt}
 use Rattle.terms.specs.Term.{Term}
 use Rattle.terms.specs.Table.{term}
 use Rattle.book.specs.Valid.{Valid}
 use Rattle.translation.specs.Dictionary.{free, itself, enter, start}
 use Rattle.holding.specs.View.{heldOf, rowOf, view}
 use Rattle.holding.specs.View.Laws.{view-set}
-use Rattle.holding.specs.Span.{entry, Span}
-use Rattle.holding.specs.Span.Laws.{list-none, list-more, span-row, span-tail, span-index}
+use Rattle.book.specs.Span.{entry, Span}
+use Rattle.book.specs.Span.Laws.{list-none, list-more, span-row, span-tail}
 use Rattle.holding.specs.AtRow.{canAt, allTrue, imageAt, imagesAt, headWords, entryWords}
 use Rattle.holding.specs.AtRow.Laws.{can-held, can-atom, can-parts, all-on, all-off, all-done, image-held, image-free, images-none, images-more}
-use Rattle.holding.specs.Half.Laws.{first-part, part-low}
-
--- ---- a row's first part
-module _ (b : List ℕ) (v : Valid b) (r f : ℕ) (h : r < rows b) (k : 2 ≤ kind b r) (d : f ≡ rowFirst b r) where
-  pub part-index : f + 0 < pool b
-  part-index = span-index b r f (rowCount b r) (span-row b v f (rowCount b r) r h d refl) (first-part b v r h k)
-
-  pub part-at : (p : ℕ) → p ≡ pooled b f 0 → (p ≡ entry b (rowFirst b r)) × (p < r)
-  part-at p e = let l = part-low b v r h k in let z : p ≡ entry b (rowFirst b r) = e ∙ ap (entry b) d in (z, omega arith)
 
 -- ---- buildable: the loop over a row's parts; what is left of the parts decides
 pub record Going (b e : List ℕ) (r f n : ℕ) : Type 0 where

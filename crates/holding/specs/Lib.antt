@@ -1,6 +1,4 @@
 pub mod View
-pub mod Span
 pub mod AtRow
 pub mod Half
-pub mod Since
 pub mod Doing

@@ -1,4 +1,6 @@
 use book::Kind;
+use book::entry;
+use book::first_part;
 use book::party_count;
 use book::party_first;
 use book::pooled;
@@ -7,6 +9,7 @@ use book::row_first;
 use book::row_kind;
 use book::row_tag;
 use book::rows;
+use words::narrow;
 use words::put;
 use words::put2;
 use words::put3;
@@ -23,7 +26,7 @@ ghost use Rattle.book.specs.Layout.{rows as rowsOf, parties as partiesOf, kind,
 ghost use Rattle.book.specs.Valid.{Valid};
 ghost use Rattle.translation.specs.Dictionary.{start as startOf, buildable as buildableFrom, image};
 ghost use Rattle.holding.specs.View.{rowOf, view};
-ghost use Rattle.holding.specs.Span.{entry as entryAt, Span};
+ghost use Rattle.book.specs.Span.{entry as entryAt, Span};
 ghost use Rattle.holding.specs.AtRow.{imageAt, imagesAt, headWords, entryWords};
 ghost use Rattle.holding.specs.Half.{half, isHalf};
 
@@ -40,23 +43,6 @@ pub fn start(book: &[u32], party: u32) -> [u32; 1024]
         entries[wide(pooled(book, first, left))] = 1;
     }
     entries
-}
-
-// The row that stands at a place of the pool, of a list that goes on there.
-pub fn entry(book: &[u32], first: usize, n: usize, bound: u32) -> u32
-    requires { ⌜ Valid (now book) × Span (now book) bound first n × (0 < n) ⌝ }
-    ensures { λ r. ⌜ (r ≡ entryAt (now (book .entry)) first) × (r < bound) ⌝ }
-{
-    pooled(book, first, 0)
-}
-
-// A row's first part: a cipher's key, a half's part.
-pub fn first_part(book: &[u32], row: u32) -> u32
-    requires { ⌜ Valid (now book) × (row < rowsOf (now book)) × (2 ≤ kind (now book) row) ⌝ }
-    ensures { λ r. ⌜ (r ≡ entryAt (now (book .entry)) (rowFirst (now (book .entry)) row)) × (r < row) ⌝ }
-{
-    let first = row_first(book, row);
-    pooled(book, first, 0)
 }
 
 // The row is in the dictionary, or it isn't an atom and all its parts are buildable.
@@ -145,14 +131,6 @@ fn put_head(book: &[u32], row: u32, out: &mut [u32], at: usize) -> usize
         return put(out, at, 5);
     }
     put2(out, at, 0, row)
-}
-
-// A count as a word.
-pub fn narrow(n: usize) -> u32
-    requires { ⌜ n ≤ 4294967295 ⌝ }
-    ensures { λ r. ⌜ r ≡ n ⌝ }
-{
-    n as u32
 }
 
 // The image of a row that is held: itself, or its placeholder.

@@ -23,23 +23,23 @@ decimal x = digits 10 (places x) x
 unfoldable pub spaced : ℕ → List ℕ
 spaced x = decimal x ++ 32 ∷ []
 
-unfoldable pub spelled : List ℕ → List ℕ
-spelled [] = []
-spelled (x ∷ xs) = spaced x ++ spelled xs
+unfoldable pub spacedAll : List ℕ → List ℕ
+spacedAll [] = []
+spacedAll (x ∷ xs) = spaced x ++ spacedAll xs
 
 -- a newline in the last space's place
 unfoldable pub ended : List ℕ → List ℕ
 ended t = take (length t - 1) t ++ 10 ∷ []
 
 unfoldable pub listingLine : List ℕ → List ℕ
-listingLine words = ended (spelled words)
+listingLine words = ended (spacedAll words)
 
 -- the word "refused" and a space
 abbrev pub refused : List ℕ
 refused = 114 ∷ 101 ∷ 102 ∷ 117 ∷ 115 ∷ 101 ∷ 100 ∷ 32 ∷ []
 
 unfoldable pub refusalLine : Said → List ℕ
-refusalLine s = ended (refused ++ spelled (s .number ∷ s .values))
+refusalLine s = ended (refused ++ spacedAll (s .number ∷ s .values))
 
 -- a refusal as the program prints it
 abbrev pub toldSays : Told → Said

@@ -8,7 +8,7 @@ ghost use Prim.Native.Nat.{_+_, _*_, _^_, _<_, _≤_};
 ghost use lib.ListN.{length, take};
 ghost use Rattle.io.specs.Counts.{Counts};
 ghost use Rattle.book.specs.Said.{refusalSays};
-ghost use Rattle.line.specs.Line.{spaced, spelled, ended, refused, toldSays, listingLine, refusalLine, Put};
+ghost use Rattle.line.specs.Line.{spaced, spacedAll, ended, refused, toldSays, listingLine, refusalLine, Put};
 
 // What a line takes at most: of a listing of 16,384 words, and of a refusal.
 struct Most {}
@@ -74,7 +74,7 @@ fn put_number(line: &mut [u8], at: usize, x: u64) -> usize
 // The same for words, from the line's start.
 fn put_words(line: &mut [u8], words: &[u32]) -> usize
     requires { ⌜ 11 * length (now words) + 10 ≤ length (now line) ⌝ }
-    ensures { λ r. ⌜ (take r (now (line .exit)) ≡ spelled (now (words .entry))) × (r ≤ 11 * length (now (words .entry))) ⌝ }
+    ensures { λ r. ⌜ (take r (now (line .exit)) ≡ spacedAll (now (words .entry))) × (r ≤ 11 * length (now (words .entry))) ⌝ }
 {
     let mut at = 0;
     let mut i = 0;
@@ -88,7 +88,7 @@ fn put_words(line: &mut [u8], words: &[u32]) -> usize
 // The same for a refusal.
 fn put_told(line: &mut [u8], told: Told) -> usize
     requires { ⌜ 71 ≤ length (now line) ⌝ }
-    ensures { λ r. ⌜ (take r (now (line .exit)) ≡ refused ++ spelled (toldSays told .number ∷ toldSays told .values)) × (r ≤ 71) ⌝ }
+    ensures { λ r. ⌜ (take r (now (line .exit)) ≡ refused ++ spacedAll (toldSays told .number ∷ toldSays told .values)) × (r ≤ 71) ⌝ }
 {
     let start = put_text(line, 0, b"refused ");
     match told {

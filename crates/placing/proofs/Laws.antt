@@ -27,11 +27,11 @@ use Rattle.receiving.specs.declared.Dictionary.{Dictionary}
 use Rattle.receiving.specs.declared.Received.{Received}
 use Rattle.receiving.specs.Bound.{limit}
 use Rattle.receiving.specs.Turn.{inTurn}
-use Rattle.receiving.specs.Walk.{Walked}
-use Rattle.walking.specs.Walk.{before}
-use Rattle.walking.specs.Walk.Laws.{followed-nothing, step-sends, step-receives, step-idle, before-none, before-more}
-use Rattle.walking.specs.Long.{stepSize, mostEvents}
-use Rattle.walking.specs.Long.Laws.{step-sizes, news-words, receiveAll-given, receiveAll-stored, pairs-length, given-room, stored-room}
+use Rattle.receiving.specs.Receiving.{Led}
+use Rattle.translation.specs.Steps.Laws.{followed-nothing, step-sends, step-receives, step-idle, before-none, before-more}
+use Rattle.translation.specs.Steps.{before}
+use Rattle.translation.specs.Long.{stepSize, mostEvents}
+use Rattle.translation.specs.Long.Laws.{step-sizes, news-words, receiveAll-given, receiveAll-stored, pairs-length, given-room, stored-room}
 use Rattle.placing.specs.declared.Counted.{Counted}
 use Rattle.placing.specs.Placed.{Placed}
 use Rattle.placing.specs.Placed.Laws.{send-place, receive-place, end-place, few-events}
@@ -116,7 +116,7 @@ module _ (b : List ℕ) (v : Valid b) (s : ℕ) (h : s < steps b) (x : Counted) 
         omega arith
 
     module _ {log logAfter out outAfter : List ℕ} {y : Received}
-        (w : Walked b (inTurn (terms (table b) (listAt b f n)) (view b (x .dictionary .entries)) (x .dictionary .next)) (record { dictionary = x .dictionary; at = 0 }) log logAfter out outAfter y) where
+        (w : Led b (inTurn (terms (table b) (listAt b f n)) (view b (x .dictionary .entries)) (x .dictionary .next)) (record { dictionary = x .dictionary; at = 0 }) log logAfter out outAfter y) where
       -- a stored term took two words of the log
       pub took-kept : y .dictionary .kept ≡ x .dictionary .kept + 2 * length (received b x f n .stored)
       unfolding inTurn

@@ -7,7 +7,7 @@ use Rattle.book.specs.Layout.{steps, sender, receiver}
 use Rattle.translation.specs.Receive.{Did}
 use Rattle.translation.specs.Places.{placesOf}
 use Rattle.holding.specs.View.{view}
-use Rattle.walking.specs.Walk.{before}
+use Rattle.translation.specs.Steps.{before}
 use Rattle.placing.specs.declared.Counted.{Counted}
 pub mod Laws
 

@@ -17,11 +17,11 @@ use Rattle.words.specs.Run.{run}
 use Rattle.words.specs.Run.Laws.{run-length, run-getD, all-run}
 use Rattle.words.specs.Sum.{sum}
 use Rattle.words.specs.Sum.Laws.{sum-none, sum-same, sum-more}
-use Rattle.terms.specs.Table.{own, rowSize}
+use Rattle.terms.specs.Table.{ownSize, rowSize}
 use Rattle.terms.specs.Table.Laws.{size-row, total-run}
 use Rattle.book.specs.Layout.{at, header, least, most, counted, begins, offset, rows, parties, steps, pool, kind, tag, rowFirst, rowCount, name, partyFirst, partyCount, sender, receiver, stepFirst, stepCount, pooled, rowsBefore, partiesBefore, stepsBefore, table}
-use Rattle.book.specs.Rules.{oneOf, outside, Agree, CountRule, countBreaks, stated, offsetBreaks, ListRule, listBreaks, fewest, largest, largestTag, rowBreaks, sizeBreaks, agrees, repeats, partyBreaks, stepBreaks, totalBreaks}
-use Rattle.book.specs.Rules.Laws.{count-exact, offset-exact, outside-in, differs-same, differs-true, list-exact, row-exact, size-exact, agrees-exact, not-agrees, party-exact, step-exact}
+use Rattle.book.specs.Rules.{oneOf, outside, Alike, CountRule, countBreaks, stated, offsetBreaks, ListRule, listBreaks, fewest, largest, largestTag, rowBreaks, sizeBreaks, alike, repeats, partyBreaks, stepBreaks, totalBreaks}
+use Rattle.book.specs.Rules.Laws.{count-exact, offset-exact, outside-in, differs-same, differs-true, list-exact, row-exact, size-exact, alike-exact, not-agrees, party-exact, step-exact}
 use Rattle.book.specs.Headed.{Headed}
 use Rattle.book.specs.Headed.Laws.{rules-headed}
 use Rattle.book.specs.Said.{Said, said, accepted}
@@ -78,8 +78,8 @@ tag-other zero b = refl
 tag-other (suc zero) b = absurd (b refl)
 tag-other (suc (suc k)) b = refl
 
-pub own-other : (k : ℕ) → (k ≡ 0 → ⊥) → (k ≡ 1 → ⊥) → (k ≡ 2 → ⊥) → 1 ≡ own k
-unfolding own
+pub own-other : (k : ℕ) → (k ≡ 0 → ⊥) → (k ≡ 1 → ⊥) → (k ≡ 2 → ⊥) → 1 ≡ ownSize k
+unfolding ownSize
 own-other zero a b c = absurd (a refl)
 own-other (suc zero) a b c = absurd (b refl)
 own-other (suc (suc zero)) a b c = absurd (c refl)
@@ -113,17 +113,17 @@ pub tag-1 : (k : ℕ) → k ≡ 1 → 65535 ≡ largestTag k
 unfolding largestTag
 tag-1 k e = ap largestTag (sym e)
 
-pub own-0 : (k : ℕ) → k ≡ 0 → 2 ≡ own k
-unfolding own
-own-0 k e = ap own (sym e)
+pub own-0 : (k : ℕ) → k ≡ 0 → 2 ≡ ownSize k
+unfolding ownSize
+own-0 k e = ap ownSize (sym e)
 
-pub own-1 : (k : ℕ) → k ≡ 1 → 3 ≡ own k
-unfolding own
-own-1 k e = ap own (sym e)
+pub own-1 : (k : ℕ) → k ≡ 1 → 3 ≡ ownSize k
+unfolding ownSize
+own-1 k e = ap ownSize (sym e)
 
-pub own-2 : (k : ℕ) → k ≡ 2 → 2 ≡ own k
-unfolding own
-own-2 k e = ap own (sym e)
+pub own-2 : (k : ℕ) → k ≡ 2 → 2 ≡ ownSize k
+unfolding ownSize
+own-2 k e = ap ownSize (sym e)
 
 -- ---- a row's list lies in the pool
 module _ (b : List ℕ) (keep : RowsKeep b) (k : ℕ) (l : k < rows b) (f n : ℕ) (d : f ≡ rowFirst b k) (e : n ≡ rowCount b k) where
@@ -159,27 +159,27 @@ runs-equal b x y n m e h =
 
 -- what was read of the row r and of the row k decides. Each law asks only for what it uses, in the order of the code, so that `search` finds it
 module _ (b : List ℕ) (r k : ℕ) where
-  pub agree-kind : (c c' : ℕ) → c ≡ kind b r → c' ≡ kind b k → (c' ≡ c → ⊥) → agrees b r k ≡ false
+  pub agree-kind : (c c' : ℕ) → c ≡ kind b r → c' ≡ kind b k → (c' ≡ c → ⊥) → alike b r k ≡ false
   agree-kind c c' e a n = not-agrees b r k (λ x. n (a ∙ x .kinds ∙ sym e))
 
-  pub agree-tag : (t t' : ℕ) → t ≡ tag b r → t' ≡ tag b k → (t' ≡ t → ⊥) → agrees b r k ≡ false
+  pub agree-tag : (t t' : ℕ) → t ≡ tag b r → t' ≡ tag b k → (t' ≡ t → ⊥) → alike b r k ≡ false
   agree-tag t t' e a n = not-agrees b r k (λ x. n (a ∙ x .tags ∙ sym e))
 
-  pub agree-count : (n n' : ℕ) → n ≡ rowCount b r → n' ≡ rowCount b k → (n' ≡ n → ⊥) → agrees b r k ≡ false
+  pub agree-count : (n n' : ℕ) → n ≡ rowCount b r → n' ≡ rowCount b k → (n' ≡ n → ⊥) → alike b r k ≡ false
   agree-count n n' e a m =
       not-agrees b r k (λ x. m (a ∙ sym (run-length b (begins b 3 + rowFirst b k) (rowCount b k)) ∙ ap length (x .partss) ∙ run-length b (begins b 3 + rowFirst b r) (rowCount b r) ∙ sym e))
 
   module _ (f n g n' : ℕ) (ef : f ≡ rowFirst b r) (en : n ≡ rowCount b r) (a : n' ≡ rowCount b k) (d : n' ≡ n) (y : g ≡ rowFirst b k) (j : ℕ) where
-    pub agree-part : (p q : ℕ) → j ≤ n → (j ≡ n → ⊥) → p ≡ pooled b g j → q ≡ pooled b f j → (p ≡ q → ⊥) → agrees b r k ≡ false
+    pub agree-part : (p q : ℕ) → j ≤ n → (j ≡ n → ⊥) → p ≡ pooled b g j → q ≡ pooled b f j → (p ≡ q → ⊥) → alike b r k ≡ false
     agree-part p q l z hp hq m =
         not-agrees b r k
         (λ x. m (hp ∙ ap (λ w. pooled b w j) y ∙ sym (run-getD b (begins b 3 + rowFirst b k) (rowCount b k) j (omega arith))
         ∙ ap (λ (w : List ℕ). getD w j 0) (x .partss) ∙ run-getD b (begins b 3 + rowFirst b r) (rowCount b r) j (omega arith) ∙ ap (λ w. pooled b w j) (sym ef) ∙ sym hq))
 
     pub agree-all : (c c' t t' : ℕ) → c ≡ kind b r → c' ≡ kind b k → c' ≡ c → t ≡ tag b r → t' ≡ tag b k → t' ≡ t
-        → j ≡ n → ((i : ℕ) → i < j → pooled b g i ≡ pooled b f i) → agrees b r k ≡ true
+        → j ≡ n → ((i : ℕ) → i < j → pooled b g i ≡ pooled b f i) → alike b r k ≡ true
     agree-all c c' t t' ec h h' et u u' z p =
-        agrees-exact b r k .1
+        alike-exact b r k .1
         (record {
           kinds = sym h ∙ h' ∙ ec;
           tags = sym u ∙ u' ∙ et;
@@ -188,10 +188,10 @@ module _ (b : List ℕ) (r k : ℕ) where
         })
 
 -- ---- the hunt for a row's twin: rows up to one of the row's parts don't agree with it, since their own parts are before them
-pub before-part : (b : List ℕ) → RowsKeep b → (r : ℕ) → r < rows b → (f n j p : ℕ) → f ≡ rowFirst b r → n ≡ rowCount b r → j < n → p ≡ pooled b f j → (k : ℕ) → k < p + 1 → agrees b r k ≡ false
+pub before-part : (b : List ℕ) → RowsKeep b → (r : ℕ) → r < rows b → (f n j p : ℕ) → f ≡ rowFirst b r → n ≡ rowCount b r → j < n → p ≡ pooled b f j → (k : ℕ) → k < p + 1 → alike b r k ≡ false
 before-part b keep r l f n j p d e z h k m = not-agrees b r k (λ x. go x)
   where
-    go : Agree b r k → ⊥
+    go : Alike b r k → ⊥
     go x =
         let c : rowCount b k ≡ rowCount b r =
         sym (run-length b (begins b 3 + rowFirst b k) (rowCount b k)) ∙ ap length (x .partss) ∙ run-length b (begins b 3 + rowFirst b r) (rowCount b r) in
@@ -204,11 +204,11 @@ before-part b keep r l f n j p d e z h k m = not-agrees b r k (λ x. go x)
 
 -- ---- a row's size
 pub size-sum : (b : List ℕ) → RowsKeep b → (r : ℕ) → r < rows b → (s : List ℕ) → ((k : ℕ) → k < r → getD s k 0 ≡ rowSize (table b) k)
-    → (f : ℕ) → f ≡ rowFirst b r → own (kind b r) + sum (λ j. getD s (pooled b f j) 0) (rowCount b r) ≡ rowSize (table b) r
+    → (f : ℕ) → f ≡ rowFirst b r → ownSize (kind b r) + sum (λ j. getD s (pooled b f j) 0) (rowCount b r) ≡ rowSize (table b) r
 unfolding table
 size-sum b keep r l s h f d =
     sym (size-row (table b) (rows b) (λ q m. all-run (λ p. p < q) b (begins b 3 + rowFirst b q) (rowCount b q) (keep q m .listed .each)) r l
-    ∙ ap (λ x. own (kind b r) + x)
+    ∙ ap (λ x. ownSize (kind b r) + x)
     (total-run (rowSize (table b)) b (begins b 3 + rowFirst b r) (rowCount b r)
     ∙ sum-same _ _ (rowCount b r) (λ j m. sym (h (pooled b (rowFirst b r) j) (keep r l .listed .each j m)) ∙ ap (λ x. getD s (pooled b x j) 0) (sym d))))
 
@@ -377,7 +377,7 @@ module _ (b : List ℕ) (r k : ℕ) (d : k ≡ kind b r) where
   unfolding repeats
   repeats-atom e = sym (pick-true _ _ _ (eq-eqb (kind b r) 0 (omega arith)))
 
-  pub repeats-twin : (k ≡ 0 → ⊥) → (t : ℕ) → t ≡ first (agrees b r) r → ltb t r ≡ repeats b r
+  pub repeats-twin : (k ≡ 0 → ⊥) → (t : ℕ) → t ≡ first (alike b r) r → ltb t r ≡ repeats b r
   unfolding repeats any
   repeats-twin n t e = ap (λ x. ltb x r) e ∙ sym (pick-false _ _ _ (ne-eqb (kind b r) 0 (λ z. n (d ∙ z))))
 

@@ -26,12 +26,12 @@ ghost use Prim.Native.Nat.{ℕ, _+_, _-_, _*_, _^_, _≤_, _<_, min};
 ghost use lib.Dec.{leb, eqb};
 ghost use lib.ListN.{length, getD, drop};
 ghost use Rattle.words.specs.First.{first, any};
-ghost use Rattle.terms.specs.Table.{own, rowSize};
+ghost use Rattle.terms.specs.Table.{ownSize, rowSize};
 ghost use Rattle.book.specs.Headed.{Headed};
 ghost use Rattle.book.specs.Layout.{rows as rowsOf, parties as partiesOf, steps as stepsOf, pool as poolOf, pooled as pooledAt};
 ghost use Rattle.book.specs.Layout.{name, rowsBefore, partiesBefore, stepsBefore, table};
 ghost use Rattle.book.specs.Rules.{outside as outsideOf, countBreaks, offsetBreaks, listBreaks, fewest as fewestOf, largest as largestOf, largestTag};
-ghost use Rattle.book.specs.Rules.{rowBreaks, sizeBreaks, agrees, repeats, partyBreaks, stepBreaks};
+ghost use Rattle.book.specs.Rules.{rowBreaks, sizeBreaks, alike, repeats, partyBreaks, stepBreaks};
 ghost use Rattle.book.specs.Said.{readingSays, accepted};
 ghost use Rattle.book.specs.Refusals.{firstOf, readingTable, verdict};
 ghost use Rattle.reader.specs.Scanned.{Counted, Scanned, RowsKeep};
@@ -222,7 +222,7 @@ fn scan_rows(book: &[u32]) -> Scan
 
 // What a kind adds to its parts' sizes.
 fn own_size(kind: u32) -> u32
-    ensures { λ r. ⌜ (r ≡ own kind) × (r ≤ 3) ⌝ }
+    ensures { λ r. ⌜ (r ≡ ownSize kind) × (r ≤ 3) ⌝ }
 {
     match kind {
         Kind::ATOM => 2,
@@ -270,7 +270,7 @@ fn oversize(book: &[u32]) -> u32
 // Where the hunt for a row's twin begins: behind the row's parts, since they stand before the twin as well.
 fn hunt_from(book: &[u32], row: u32) -> u32
     requires { ⌜ Headed (now book) × RowsKeep (now book) × (row < rowsOf (now book)) ⌝ }
-    ensures { λ r. ⌜ ((k : ℕ) → k < r → agrees (now (book .entry)) row k ≡ false) × (r ≤ row) ⌝ }
+    ensures { λ r. ⌜ ((k : ℕ) → k < r → alike (now (book .entry)) row k ≡ false) × (r ≤ row) ⌝ }
 {
     let first = row_first(book, row);
     let n = row_count(book, row);
@@ -289,7 +289,7 @@ fn hunt_from(book: &[u32], row: u32) -> u32
 // The first row before this one that agrees with it in kind, tag and parts, or the row itself.
 fn twin(book: &[u32], row: u32) -> u32
     requires { ⌜ Headed (now book) × RowsKeep (now book) × (row < rowsOf (now book)) ⌝ }
-    ensures { λ r. ⌜ r ≡ first (agrees (now (book .entry)) row) row ⌝ }
+    ensures { λ r. ⌜ r ≡ first (alike (now (book .entry)) row) row ⌝ }
 {
     let kind = row_kind(book, row);
     let tag = row_tag(book, row);

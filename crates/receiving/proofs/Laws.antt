@@ -19,17 +19,16 @@ use Rattle.translation.specs.Receive.{Did, followed, canOpen, compared, receive
 use Rattle.translation.specs.Listing.{pairWords, eventWords, programWords}
 use Rattle.holding.specs.View.{heldOf, rowOf, view}
 use Rattle.holding.specs.View.Laws.{row-of, view-set}
-use Rattle.holding.specs.Span.{entry, Span}
-use Rattle.holding.specs.Span.Laws.{list-none, span-row, span-tail}
+use Rattle.book.specs.Span.{entry, Span}
+use Rattle.book.specs.Span.Laws.{list-none, span-row, span-tail, some-part}
 use Rattle.holding.specs.AtRow.{imageAt}
-use Rattle.holding.specs.Half.Laws.{first-part}
 use Rattle.holding.specs.Doing.{Doing}
 use Rattle.receiving.specs.declared.Received.{Received}
 use Rattle.receiving.specs.declared.Settled.{Settled}
 use Rattle.receiving.specs.Bound.{limit}
-use Rattle.receiving.specs.Turn.{inTurn, unlocked, settled, inside, contents}
+use Rattle.receiving.specs.Turn.{inTurn, unlocked, settled, contentsOf, nextTerms}
 use Rattle.receiving.specs.Turn.Laws.{receive-turn, settled-compare, settled-unlock, settled-store, contents-compare, contents-unlock, contents-store, opens-not, opens-cipher, cipher-row, unlocked-rest, terms-none, terms-count, all-none, all-more}
-use Rattle.receiving.specs.Walk.{Walked, Settling}
+use Rattle.receiving.specs.Receiving.{Led, Settling}
 use Rattle.holding.specs.Doing.Laws.{doing-as, doing-none, doing-then}
 
 -- ---- opens
@@ -89,11 +88,11 @@ module _ (b e : List ℕ) (v : Valid b) (r p n k : ℕ) (h : r < rows b) (z : le
   module _ (u : Bool) (q : t ≡ false) (du : u ≡ canOpen (view b e) (term (table b) r)) where
     pub settle-unlock : u ≡ true → (f c : ℕ) → f ≡ rowFirst b r → c ≡ rowCount b r → {l o s : List ℕ} {a j : ℕ} → Wrote (programWords (rowOf b) (unlocked (term (table b) r) p (view b e) n .events)) o a s j
         → Settling b r p n k e e l l a o s (record { first = f + 1; left = c - 1; kept = k; at = j })
-    unfolding pairWords inside
+    unfolding pairWords contentsOf
     settle-unlock y f c df dc x =
         let w = unlocked-rest (term (table b) r) p (view b e) n in
         let i : kind b r ≡ 2 = opens-kind b e r u v h du y in
-        let s = first-part b v r h (omega arith) in
+        let s = some-part b v r h (omega arith) in
         record {
           doing = doing-as (record {
             holds = sym (w .0);
@@ -101,7 +100,7 @@ module _ (b e : List ℕ) (v : Valid b) (r p n k : ℕ) (h : r < rows b) (z : le
             wrote = x;
             keeps = wrote-as wrote-none (ap (pairWords (rowOf b)) (w .2));
           }) (settled-unlock (term (table b) r) p (view b e) n (sym dt ∙ q) (sym du ∙ y));
-          names = rw (df, dc) (sym (contents-unlock (view b e) (term (table b) r) (sym dt ∙ q) (sym du ∙ y) ∙ ap inside (cipher-row b v r h i)));
+          names = rw (df, dc) (sym (contents-unlock (view b e) (term (table b) r) (sym dt ∙ q) (sym du ∙ y) ∙ ap contentsOf (cipher-row b v r h i)));
           span = span-tail b r f c (span-row b v f c r h df dc) (omega arith);
           size = z;
         }
@@ -127,7 +126,7 @@ module _ (b e : List ℕ) (v : Valid b) (r p n k : ℕ) (h : r < rows b) (z : le
 
 -- ---- receive: settled, and then the contents in turn
 module _ {b : List ℕ} {r p n k : ℕ} {e e′ l m : List ℕ} {a : ℕ} {o s : List ℕ} {q : Settled} (x : Settling b r p n k e e′ l m a o s q) where
-  same-turn : inTurn (contents (view b e) (term (table b) r)) (settled (term (table b) r) p (view b e) n .dictionary) n ≡ inTurn (terms (table b) (listAt b (q .first) (q .left))) (view b e′) n
+  same-turn : inTurn (nextTerms (view b e) (term (table b) r)) (settled (term (table b) r) p (view b e) n .dictionary) n ≡ inTurn (terms (table b) (listAt b (q .first) (q .left))) (view b e′) n
   same-turn = ap₂ (λ ts δ. inTurn ts δ n) (sym (x .names)) (sym (x .doing .holds))
 
   is-turn : receive (term (table b) r) p (view b e) n ≡ followed (settled (term (table b) r) p (view b e) n) (inTurn (terms (table b) (listAt b (q .first) (q .left))) (view b e′) n)
@@ -151,7 +150,7 @@ pub record Going (W : Did) (N K : ℕ) (L O : List ℕ) (A : ℕ) (b : List ℕ)
   pub span : Span b bound i k
   pub low : p + k ≤ x .dictionary .next
   pub room : x .dictionary .next + length (rest-of b i k p x .given) ≤ limit
-  pub rest : (m s : List ℕ) (y : Received) → Walked b (rest-of b i k p x) x log m out s y
+  pub rest : (m s : List ℕ) (y : Received) → Led b (rest-of b i k p x) x log m out s y
       → Doing b W N K L m A O s (y .dictionary .entries) (y .dictionary .next) (y .dictionary .kept) (y .at)
   pub logs : length log ≡ length L
   pub outs : length out ≡ length O
@@ -190,7 +189,7 @@ module _ (b : List ℕ) (i k p r : ℕ) (x : Received) (h : 0 < k) (d : r ≡ en
       let c = length-append (head-of .given) (receiveAll (terms (table b) (listAt b (i + 1) (k - 1))) (p + 1) (head-of .dictionary) (x .dictionary .next + length (head-of .given)) .given) in
       omega arith
 
-  module _ {l m o s : List ℕ} {y : Received} (w : Walked b head-of x l m o s y) where
+  module _ {l m o s : List ℕ} {y : Received} (w : Led b head-of x l m o s y) where
     after : rest-of b i k p x ≡ followed head-of (rest-of b (i + 1) (k - 1) (p + 1) y)
     after = splits ∙ ap (followed head-of) (ap₂ (receiveAll (terms (table b) (listAt b (i + 1) (k - 1))) (p + 1)) (sym (w .holds)) (sym (w .goes)))
 
@@ -201,7 +200,7 @@ module _ (b : List ℕ) (i k p r : ℕ) (x : Received) (h : 0 < k) (d : r ≡ en
         let n = w .goes in
         omega arith
 
-    tail-walked : {m′ s′ : List ℕ} {z : Received} → Walked b (rest-of b (i + 1) (k - 1) (p + 1) y) y m m′ s s′ z → Walked b (rest-of b i k p x) x l m′ o s′ z
+    tail-walked : {m′ s′ : List ℕ} {z : Received} → Led b (rest-of b (i + 1) (k - 1) (p + 1) y) y m m′ s s′ z → Led b (rest-of b i k p x) x l m′ o s′ z
     tail-walked u = doing-as (doing-then b _ _ w u) after
 
 pub going-room : {W : Did} {N K : ℕ} {L O : List ℕ} {A : ℕ} {b : List ℕ} {bound i k p : ℕ} (r : ℕ) {x : Received} {l o : List ℕ} → Going W N K L O A b bound i k p x l o → 0 < k → r ≡ entry b i
@@ -209,7 +208,7 @@ pub going-room : {W : Did} {N K : ℕ} {L O : List ℕ} {A : ℕ} {b : List ℕ}
 going-room r {x} g h d = head-room _ _ _ _ r x h d (g .room)
 
 pub going-on : (W : Did) (N K : ℕ) (L O : List ℕ) (A : ℕ) (b : List ℕ) (bound i k p r : ℕ) (x y : Received) (l m o s : List ℕ) → Going W N K L O A b bound i k p x l o → 0 < k → r ≡ entry b i
-    → Walked b (receive (term (table b) r) p (view b (x .dictionary .entries)) (x .dictionary .next)) x l m o s y → Going W N K L O A b bound (i + 1) (k - 1) (p + 1) y m s
+    → Led b (receive (term (table b) r) p (view b (x .dictionary .entries)) (x .dictionary .next)) x l m o s y → Going W N K L O A b bound (i + 1) (k - 1) (p + 1) y m s
 going-on W N K L O A b bound i k p r x y l m o s g h d w =
     record {
       span = span-tail b bound i k (g .span) h;

@@ -1,3 +1,3 @@
 pub mod Bound
 pub mod Turn
-pub mod Walk
+pub mod Receiving

@@ -24,18 +24,18 @@ unlocked (Term.private t) p δ n = nothing δ
 unfoldable pub settled : Term → ℕ → Dictionary → ℕ → Did
 settled t p δ n = byRule (rule δ t) (compared t p δ) (unlocked t p δ n) (kept t p δ)
 
-unfoldable pub inside : Term → Terms
-inside (Term.atom r) = Terms.nil
-inside (Term.operation g ts) = Terms.nil
-inside (Term.cipher k ts) = ts
-inside (Term.public t) = Terms.nil
-inside (Term.private t) = Terms.nil
+unfoldable pub contentsOf : Term → Terms
+contentsOf (Term.atom r) = Terms.nil
+contentsOf (Term.operation g ts) = Terms.nil
+contentsOf (Term.cipher k ts) = ts
+contentsOf (Term.public t) = Terms.nil
+contentsOf (Term.private t) = Terms.nil
 
 unfoldable pub freed : Rule → Term → Terms
 freed Rule.compare t = Terms.nil
-freed Rule.unlock t = inside t
+freed Rule.unlock t = contentsOf t
 freed Rule.store t = Terms.nil
 
 -- and what is received after it: a cipher's contents, where it is opened
-unfoldable pub contents : Dictionary → Term → Terms
-contents δ t = freed (rule δ t) t
+unfoldable pub nextTerms : Dictionary → Term → Terms
+nextTerms δ t = freed (rule δ t) t

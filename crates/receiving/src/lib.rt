@@ -1,15 +1,15 @@
 use book::Kind;
+use book::entry;
+use book::first_part;
 use book::row_count;
 use book::row_first;
 use book::row_kind;
 use holding::buildable;
 use holding::can_open;
-use holding::entry;
-use holding::first_part;
-use holding::narrow;
 use holding::write_image;
 use holding::write_partner;
 use translation::Code;
+use words::narrow;
 use words::put2;
 use words::wide;
 ghost use mathlib.Core.Path.{_≡_};
@@ -22,10 +22,10 @@ ghost use Rattle.book.specs.Valid.{Valid};
 ghost use Rattle.translation.specs.Receive.{canOpen, compared, receive as receiving};
 ghost use Rattle.translation.specs.Listing.{programWords};
 ghost use Rattle.holding.specs.View.{rowOf, view};
-ghost use Rattle.holding.specs.Span.{Span};
+ghost use Rattle.book.specs.Span.{Span};
 ghost use Rattle.receiving.specs.Bound.{limit};
 ghost use Rattle.receiving.specs.Turn.{unlocked, inTurn};
-ghost use Rattle.receiving.specs.Walk.{Walked, Settling};
+ghost use Rattle.receiving.specs.Receiving.{Led, Settling};
 
 // What a party holds, an entry for each row; its next placeholder; the place of its next stored pair in the log.
 pub struct Dictionary {
@@ -163,7 +163,7 @@ pub fn receive(
 ) -> Received
     requires { ⌜ Valid (now book) × (row < rows (now book)) × (place < limit)
         × (before .dictionary .next + length (receiving (term (table (now book)) row) place (view (now book) (before .dictionary .entries)) (before .dictionary .next) .given) ≤ limit) ⌝ }
-    ensures { λ r. ⌜ Walked (now (book .entry)) (receiving (term (table (now (book .entry))) row) place (view (now (book .entry)) (before .dictionary .entries)) (before .dictionary .next))
+    ensures { λ r. ⌜ Led (now (book .entry)) (receiving (term (table (now (book .entry))) row) place (view (now (book .entry)) (before .dictionary .entries)) (before .dictionary .next))
         before (now (log .entry)) (now (log .exit)) (now (out .entry)) (now (out .exit)) r ⌝ }
 {
     let mut here = before;
@@ -198,7 +198,7 @@ fn receive_list(
 ) -> Received
     requires { ⌜ Valid (now book) × (bound ≤ rows (now book)) × Span (now book) bound first left
         × (here .dictionary .next + length (inTurn (terms (table (now book)) (listAt (now book) first left)) (view (now book) (here .dictionary .entries)) (here .dictionary .next) .given) ≤ limit) ⌝ }
-    ensures { λ r. ⌜ Walked (now (book .entry)) (inTurn (terms (table (now (book .entry))) (listAt (now (book .entry)) first left)) (view (now (book .entry)) (here .dictionary .entries)) (here .dictionary .next))
+    ensures { λ r. ⌜ Led (now (book .entry)) (inTurn (terms (table (now (book .entry))) (listAt (now (book .entry)) first left)) (view (now (book .entry)) (here .dictionary .entries)) (here .dictionary .next))
         here (now (log .entry)) (now (log .exit)) (now (out .entry)) (now (out .exit)) r ⌝ }
 {
     let mut place = here.dictionary.next;
@@ -228,7 +228,7 @@ pub fn receive_messages(
 ) -> Received
     requires { ⌜ Valid (now book) × (bound ≤ rows (now book)) × Span (now book) bound first left
         × (here .dictionary .next + length (inTurn (terms (table (now book)) (listAt (now book) first left)) (view (now book) (here .dictionary .entries)) (here .dictionary .next) .given) ≤ limit) ⌝ }
-    ensures { λ r. ⌜ Walked (now (book .entry)) (inTurn (terms (table (now (book .entry))) (listAt (now (book .entry)) first left)) (view (now (book .entry)) (here .dictionary .entries)) (here .dictionary .next))
+    ensures { λ r. ⌜ Led (now (book .entry)) (inTurn (terms (table (now (book .entry))) (listAt (now (book .entry)) first left)) (view (now (book .entry)) (here .dictionary .entries)) (here .dictionary .next))
         here (now (log .entry)) (now (log .exit)) (now (out .entry)) (now (out .exit)) r ⌝ }
 {
     let mut place = here.dictionary.next;

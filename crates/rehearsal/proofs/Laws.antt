@@ -24,8 +24,7 @@ use Rattle.book.specs.declared.Reading.{Reading}
 use Rattle.book.specs.declared.Reading.the-variants as reading
 use Rattle.book.specs.Said.{readingSays}
 use Rattle.translation.specs.declared.Answer.the-variants.{Written, Refused}
-use Rattle.translation.specs.Outcome.{acceptance, came}
-use Rattle.translation.specs.Outcome.Laws.{Plays}
+use Rattle.translation.specs.Outcome.{acceptance, came, Plays}
 use Rattle.translation.specs.Places.{Places, placesOf}
 use Rattle.agreement.specs.View.{change}
 use Rattle.agreement.specs.Machine.Laws.{change-ind}

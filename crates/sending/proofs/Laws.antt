@@ -17,12 +17,12 @@ use Rattle.book.specs.Valid.{Valid}
 use Rattle.translation.specs.Dictionary.{Dictionary}
 use Rattle.translation.specs.Build.{build, buildAll}
 use Rattle.translation.specs.Listing.{eventWords, programWords}
-use Rattle.holding.specs.Since.{takenIn}
-use Rattle.holding.specs.Span.{entry}
+use Rattle.claims.specs.Since.{takenIn}
+use Rattle.book.specs.Span.{entry}
 use Rattle.holding.specs.View.{rowOf, view}
 use Rattle.holding.specs.AtRow.{imagesAt}
 use Rattle.sending.specs.declared.Made.{Made}
-use Rattle.sending.specs.Sending.{Making, making, allMaking, orTaken, firstTaken, Makes, Sends}
+use Rattle.sending.specs.Sending.{Making, making, allMaking, orTaken, firstIn, Makes, Sends}
 use Rattle.sending.specs.Sending.Laws.{nothing, both, making-held, making-atom, making-parts, one-set, making-none, making-more, or-stays, or-taken, or-untaken, first-append, news-append, sent-words}
 
 -- ---- the table of what is taken
@@ -49,7 +49,7 @@ makes-as : {b l : List ℕ} {s : ℕ} {g h : Making} {m : Made} {e o p : List �
 makes-as x e = rw e x
 
 makes-nothing : (b l : List ℕ) (s : ℕ) (m : Made) (e o : List ℕ) → length e ≡ 1024 → Makes b l s (nothing (view b e)) m e o o m
-unfolding programWords firstTaken
+unfolding programWords firstIn
 makes-nothing b l s m e o j = record { holds = refl; wrote = wrote-none; found = refl; size = j }
 
 module _ (b l e : List ℕ) (s r : ℕ) (v : Valid b) (h : r < rows b) (m : Made) (j : length e ≡ 1024) where
@@ -58,7 +58,7 @@ module _ (b l e : List ℕ) (s r : ℕ) (v : Valid b) (h : r < rows b) (m : Made
 
   pub atom-makes : (w u k : ℕ) (o p : List ℕ) (i y : ℕ) → w ≡ r → getD e w 0 ≡ 0 → k ≡ kind b r → k ≡ 0 → u ≡ r → Wrote (1 ∷ r ∷ []) o (m .at) p i → y ≡ orTaken (m .taken) (takenIn l s r) r
       → Makes b l s (making (build (term (table b) r) (view b e))) m (set e u 1) o p (record { at = i; taken = y })
-  unfolding programWords eventWords firstTaken
+  unfolding programWords eventWords firstIn
   atom-makes w u k o p i y d z f q c x t =
       let n = valid-headed b v .fewRows in
       makes-as (record { holds = ap (λ a. view b (set e a 1)) c ∙ one-set b e v r h (sym f ∙ q) (omega arith); wrote = x; found = t; size = length-set e u 1 ∙ j })

@@ -15,7 +15,7 @@ use Rattle.translation.specs.Receive.{Event}
 use Rattle.translation.specs.Program.{sent}
 use Rattle.translation.specs.Listing.{programWords}
 use Rattle.holding.specs.View.{rowOf, view}
-use Rattle.holding.specs.Since.{takenIn}
+use Rattle.claims.specs.Since.{takenIn}
 use Rattle.sending.specs.declared.Made.{Made}
 pub mod Laws
 
@@ -36,21 +36,21 @@ unfoldable pub orTaken : ℕ → Bool → ℕ → ℕ
 orTaken x t r = pick (eqb x 0) (pick t (r + 1) 0) x
 
 -- what was found before, or one more than the first of the rows that is taken, or 0
-unfoldable pub firstTaken : (ℕ → Bool) → ℕ → List ℕ → ℕ
-firstTaken t x [] = x
-firstTaken t x (r ∷ rs) = firstTaken t (orTaken x (t r) r) rs
+unfoldable pub firstIn : (ℕ → Bool) → ℕ → List ℕ → ℕ
+firstIn t x [] = x
+firstIn t x (r ∷ rs) = firstIn t (orTaken x (t r) r) rs
 
 -- ---- what code leaves behind, in the book b with the table l of what is taken from which step on, at step s
 -- atoms were made: m became r, out became outAfter, and the entries afterwards are e
 pub record Makes (b l : List ℕ) (s : ℕ) (g : Making) (m : Made) (e out outAfter : List ℕ) (r : Made) : Type 0 where
   pub holds : view b e ≡ g .dictionary
   pub wrote : Wrote (programWords (rowOf b) (map Event.new (g .made))) out (m .at) outAfter (r .at)
-  pub found : r .taken ≡ firstTaken (takenIn l s) (m .taken) (g .made)
+  pub found : r .taken ≡ firstIn (takenIn l s) (m .taken) (g .made)
   pub size : length e ≡ 1024
 
 -- the messages were sent, the first word at a
 pub record Sends (b l : List ℕ) (s : ℕ) (g : AllBuilt) (a : ℕ) (e out outAfter : List ℕ) (r : Made) : Type 0 where
   pub holds : view b e ≡ g .dictionary
   pub wrote : Wrote (programWords (rowOf b) (sent s g .events)) out a outAfter (r .at)
-  pub found : r .taken ≡ firstTaken (takenIn l s) 0 (g .made)
+  pub found : r .taken ≡ firstIn (takenIn l s) 0 (g .made)
   pub size : length e ≡ 1024

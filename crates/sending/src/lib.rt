@@ -1,12 +1,12 @@
 use book::Kind;
+use book::entry;
 use book::row_count;
 use book::row_first;
 use book::row_kind;
 use book::rows;
-use holding::entry;
-use holding::narrow;
 use holding::write_images;
 use translation::Code;
+use words::narrow;
 use words::put2;
 use words::put3;
 use words::wide;
@@ -18,8 +18,8 @@ ghost use Rattle.book.specs.Layout.{rows as rowsOf, table, listAt};
 ghost use Rattle.book.specs.Valid.{Valid};
 ghost use Rattle.translation.specs.Build.{build, buildAll};
 ghost use Rattle.holding.specs.View.{view};
-ghost use Rattle.holding.specs.Span.{Span};
-ghost use Rattle.holding.specs.Since.{takenIn};
+ghost use Rattle.book.specs.Span.{Span};
+ghost use Rattle.claims.specs.Since.{takenIn};
 ghost use Rattle.sending.specs.Sending.{making, allMaking, orTaken, Makes, Sends};
 
 // Where the next word goes, and one more than the row of the first taken atom that was made (0 if none was).

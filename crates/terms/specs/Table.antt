@@ -51,11 +51,11 @@ unfoldable pub terms : Table → List ℕ → Terms
 terms tab rs = gathered (map (term tab) rs)
 
 -- what a kind adds to its parts' sizes
-unfoldable pub own : ℕ → ℕ
-own zero = 2
-own (suc zero) = 3
-own (suc (suc zero)) = 2
-own (suc (suc (suc k))) = 1
+unfoldable pub ownSize : ℕ → ℕ
+ownSize zero = 2
+ownSize (suc zero) = 3
+ownSize (suc (suc zero)) = 2
+ownSize (suc (suc (suc k))) = 1
 
 unfoldable pub total : List ℕ → ℕ
 total [] = 0
@@ -63,7 +63,7 @@ total (z ∷ zs) = z + total zs
 
 -- "A row's size": its kind's own, plus its parts' sizes
 unfoldable pub rowSize : Table → ℕ → ℕ
-rowSize tab r = unfold-by (λ q zs. own (tab q .kind) + total zs) tab r
+rowSize tab r = unfold-by (λ q zs. ownSize (tab q .kind) + total zs) tab r
 
 -- the row of a term among the first n rows, or n where it is no row's
 unfoldable pub number : Table → ℕ → Term → ℕ

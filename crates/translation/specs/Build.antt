@@ -28,8 +28,8 @@ builtOr (Held.placeholder x) t δ b = record { dictionary = δ; made = []; image
 abbrev pub makes : ℕ → Dictionary → Built
 makes r δ = record { dictionary = enter δ (Term.atom r) Held.itself; made = r ∷ []; image = Image.itself (Term.atom r) }
 
-abbrev pub inside : (Image → Image) → Built → Built
-inside f b = record { dictionary = b .dictionary; made = b .made; image = f (b .image) }
+abbrev pub wrapped : (Image → Image) → Built → Built
+wrapped f b = record { dictionary = b .dictionary; made = b .made; image = f (b .image) }
 
 abbrev pub over : (Images → Image) → AllBuilt → Built
 over f b = record { dictionary = b .dictionary; made = b .made; image = f (b .images) }
@@ -42,8 +42,8 @@ unfoldable mutual
       builtOr (δ (Term.cipher k ts)) (Term.cipher k ts) δ
       (let b = build k δ in let c = buildAll ts (b .dictionary) in
       record { dictionary = c .dictionary; made = b .made ++ c .made; image = Image.cipher (b .image) (c .images) })
-  build (Term.public t) δ = builtOr (δ (Term.public t)) (Term.public t) δ (inside Image.public (build t δ))
-  build (Term.private t) δ = builtOr (δ (Term.private t)) (Term.private t) δ (inside Image.private (build t δ))
+  build (Term.public t) δ = builtOr (δ (Term.public t)) (Term.public t) δ (wrapped Image.public (build t δ))
+  build (Term.private t) δ = builtOr (δ (Term.private t)) (Term.private t) δ (wrapped Image.private (build t δ))
 
   pub buildAll : Terms → Dictionary → AllBuilt
   buildAll Terms.nil δ = record { dictionary = δ; made = []; images = Images.nil }

@@ -13,8 +13,7 @@ use Rattle.book.specs.Layout.{table, rows, parties}
 use Rattle.book.specs.Said.{said}
 use Rattle.translation.specs.Narration.{Narration, narration, programOf}
 use Rattle.translation.specs.Listing.{programWords, framed}
-use Rattle.translation.specs.Outcome.{Outcome}
-use Rattle.translation.specs.Outcome.Laws.{Promise}
+use Rattle.translation.specs.Outcome.{Outcome, Promise}
 use Rattle.translation.specs.Trials.{trial, trials, computed}
 
 abbrev pub Translator : Type 0

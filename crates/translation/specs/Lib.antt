@@ -4,12 +4,14 @@ pub mod Along
 pub mod Receive
 pub mod Program
 pub mod Narration
+pub mod Steps
 pub mod Taken
 pub mod Rows
 pub mod Stored
 pub mod Listing
 pub mod Places
 pub mod Spelling
+pub mod Long
 pub mod Outcome
 pub mod Trials
 pub mod Idle

@@ -5,7 +5,7 @@ use mathlib.Core.List.{List, [], _∷_, _++_}
 use lib.ListN.{length}
 use Rattle.words.specs.Run.{values}
 use Rattle.terms.specs.Term.{Term}
-use Rattle.terms.specs.Image.{count, words, wordsOf}
+use Rattle.terms.specs.Image.{countImages, words, wordsOf}
 use Rattle.terms.specs.Table.{number}
 use Rattle.book.specs.Layout.{table, rows, parties}
 use Rattle.translation.specs.Receive.{Event}
@@ -20,7 +20,7 @@ module _ (row : Term → ℕ) where
 
   unfoldable pub eventWords : Event → List ℕ
   eventWords (Event.new r) = 1 ∷ r ∷ []
-  eventWords (Event.sends s is) = 2 ∷ s ∷ count is ∷ wordsOf row is
+  eventWords (Event.sends s is) = 2 ∷ s ∷ countImages is ∷ wordsOf row is
   eventWords (Event.receives s f n) = 3 ∷ s ∷ f ∷ n ∷ []
   eventWords (Event.checks x i) = 4 ∷ x ∷ words row i
   eventWords (Event.opens x f n k) = 5 ∷ x ∷ f ∷ n ∷ words row k

@@ -8,7 +8,7 @@ use Rattle.terms.specs.Term.{Term}
 use Rattle.terms.specs.Table.{term, terms}
 use Rattle.book.specs.Layout.{table, parties, steps, name, known, sender, receiver, messages}
 use Rattle.translation.specs.Receive.{Event}
-use Rattle.translation.specs.Program.{Step, own, program}
+use Rattle.translation.specs.Program.{Step, actsOf, program}
 
 pub record Narration : Type 0 where
   pub names : List Term
@@ -32,4 +32,4 @@ knownTo N p = getD (N .knows) p []
 
 -- the program of party p
 unfoldable pub programOf : Narration → ℕ → List Event
-programOf N p = program (knownTo N p) (own p 0 (N .says))
+programOf N p = program (knownTo N p) (actsOf p 0 (N .says))

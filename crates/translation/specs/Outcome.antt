@@ -1,7 +1,8 @@
 -- The whole outcome of translating, for any words and any lent buffer: what is answered, and every lent word afterwards.
 -- Document 01: "The first that applies, from top to bottom, is given. .. All lent words stay as they were." "On acceptance the answer
 -- is the output's length; words past it are untouched." "12 is the last refusal tested".
-use Prim.Native.Nat.{ℕ}
+use Prim.Native.Nat.{ℕ, _<_}
+use mathlib.Core.Path.{_≡_}
 use mathlib.Core.List.{List, [], _∷_, _++_}
 use lib.ListN.{length}
 use lib.Seq.{sets}
@@ -10,9 +11,10 @@ use Rattle.words.specs.Choice.{pick}
 use Rattle.book.specs.Layout.{steps}
 use Rattle.book.specs.Said.{Said, accepted, refusalSays}
 use Rattle.book.specs.Said
+use Rattle.book.specs.Valid.{Valid}
 use Rattle.book.specs.Refusals.{Line, line, firstOf, readingTable}
 use Rattle.translation.specs.Narration.{narration}
-use Rattle.translation.specs.Taken.{unplayable, firstTaken}
+use Rattle.translation.specs.Taken.{unplayable, firstTaken, Playable, NoDerivation, FirstTaken}
 use Rattle.translation.specs.Listing.{listing}
 use Rattle.translation.specs.declared.Answer.{Answer}
 use Rattle.translation.specs.declared.Answer.the-variants.{Written, Refused}
@@ -53,3 +55,23 @@ answerSays (Refused f) = refusalSays f
 -- what came of a call: the answer as document 01 counts it, and the lent words afterwards
 abbrev pub came : Answer → List ℕ → Outcome
 came r new = record { says = answerSays r; lent = new }
+
+-- ---- what is said of it
+-- a book that refusals 1 to 10 let pass: valid, and each step can be played
+pub record Plays (b : List ℕ) : Type 0 where
+  pub valid : Valid b
+  pub playable : (s : ℕ) → s < steps b → Playable (narration b) s
+
+-- refusal 10: the smallest step with a message that has no derivation from what its sender holds by then and atoms that are nobody's yet,
+-- and the first taken atom that it would make, in building order
+pub record Unplayable (b vs : List ℕ) : Type 0 where
+  pub step : ℕ
+  pub within : step < steps b
+  pub none : NoDerivation (narration b) step
+  pub smallest : (k : ℕ) → k < step → Playable (narration b) k
+  pub atom : FirstTaken (narration b) step
+  pub says : vs ≡ step ∷ firstTaken (narration b) step ∷ []
+
+-- what a translator promises of the words b and the lent words out
+abbrev pub Promise : List ℕ → List ℕ → Outcome → Type 0
+Promise b out o = o ≡ outcome b out

@@ -23,10 +23,10 @@ pub data Act : Type 0 where
   receives : ℕ → Terms → Act
 
 -- the parts of party p in the steps, the first of which has the number i
-unfoldable pub own : ℕ → ℕ → List Step → List Act
-own p i [] = []
-own p i (s ∷ ss) =
-    let rest = own p (suc i) ss in
+unfoldable pub actsOf : ℕ → ℕ → List Step → List Act
+actsOf p i [] = []
+actsOf p i (s ∷ ss) =
+    let rest = actsOf p (suc i) ss in
     pick (eqb (s .sender) p) (Act.sends i (s .messages) ∷ rest) (pick (eqb (s .receiver) p) (Act.receives i (s .messages) ∷ rest) rest)
 
 -- ---- what an act adds, where n is the next placeholder

@@ -10,21 +10,18 @@ use Rattle.words.specs.First.{first, firstFrom, any}
 use Rattle.words.specs.Run.{run, values, sameWords}
 use Rattle.words.specs.Sum.{sum}
 use Rattle.terms.specs.Term.{same, count, listed, gathered, partner, size, occurs}
-use Rattle.terms.specs.Image.{words}
-use Rattle.terms.specs.Image as Image
-use Rattle.terms.specs.Table.{level, unfold-by, form, term, terms, own, total, rowSize, number}
+use Rattle.terms.specs.Image.{words, countImages}
+use Rattle.terms.specs.Table.{level, unfold-by, form, term, terms, ownSize, total, rowSize, number}
 use Rattle.book.specs.Layout.{offset, table}
-use Rattle.book.specs.Rules.{oneOf, outside, differs, countBreaks, stated, offsetBreaks, listBreaks, fewest, largest, largestTag, rowBreaks, sizeBreaks, agrees, repeats, partyBreaks, stepBreaks, totalBreaks}
+use Rattle.book.specs.Rules.{oneOf, outside, differs, countBreaks, stated, offsetBreaks, listBreaks, fewest, largest, largestTag, rowBreaks, sizeBreaks, alike, repeats, partyBreaks, stepBreaks, totalBreaks}
 use Rattle.book.specs.Said.{said}
 use Rattle.book.specs.Refusals.{applies, gives, firstOf, readingTable}
 use Rattle.translation.specs.Dictionary.{enter, start, buildable, imageOr, image}
 use Rattle.translation.specs.Build.{builtOr, build}
 use Rattle.translation.specs.Receive.{canOpen, rule, byRule, receive}
-use Rattle.translation.specs.Program as Program
-use Rattle.translation.specs.Program.{act, walk, walked, program}
+use Rattle.translation.specs.Program.{actsOf, act, walk, walked, program}
 use Rattle.translation.specs.Narration.{stepAt, narration, knownTo, programOf}
-use Rattle.translation.specs.Taken as Taken
-use Rattle.translation.specs.Taken.{joined, claimed, occursInOne, taken, stepOf, holdsBefore, madeAt, takenAt, unplayable, firstTaken}
+use Rattle.translation.specs.Taken.{joined, allMessages, claimed, occursInOne, taken, stepOf, holdsBefore, madeAt, takenAt, unplayable, firstTaken}
 use Rattle.translation.specs.Listing.{pairWords, eventWords, programWords, heads, bodies, framed, partWords, listing}
 use Rattle.translation.specs.Outcome.{Outcome, takenLine, roomLine, translationSays, outcome}
 
@@ -82,7 +79,7 @@ trials =
 
 -- what the definitions say of each
 unfoldable pub computed : List Trial → List Outcome
-unfolding ℕ-discrete pick choose first firstFrom any run values sameWords sum same count listed gathered partner size occurs words Image.count level unfold-by form term terms own total rowSize number offset table oneOf outside differs countBreaks stated offsetBreaks listBreaks fewest largest largestTag rowBreaks sizeBreaks agrees repeats partyBreaks stepBreaks totalBreaks applies gives firstOf readingTable enter start buildable imageOr image builtOr build canOpen rule byRule receive Program.own act walk walked program stepAt narration knownTo programOf joined Taken.said claimed occursInOne taken stepOf holdsBefore madeAt takenAt unplayable firstTaken pairWords eventWords programWords heads bodies framed partWords listing takenLine roomLine translationSays outcome
+unfolding ℕ-discrete pick choose first firstFrom any run values sameWords sum same count listed gathered partner size occurs words countImages level unfold-by form term terms ownSize total rowSize number offset table oneOf outside differs countBreaks stated offsetBreaks listBreaks fewest largest largestTag rowBreaks sizeBreaks alike repeats partyBreaks stepBreaks totalBreaks applies gives firstOf readingTable enter start buildable imageOr image builtOr build canOpen rule byRule receive actsOf act walk walked program stepAt narration knownTo programOf joined allMessages claimed occursInOne taken stepOf holdsBefore madeAt takenAt unplayable firstTaken pairWords eventWords programWords heads bodies framed partWords listing takenLine roomLine translationSays outcome
 computed [] = []
 computed (t ∷ ts) = outcome (t .book) (t .lent) ∷ computed ts
 

@@ -15,10 +15,10 @@ use Rattle.book.specs.Headed.Laws.{valid-headed}
 use Rattle.translation.specs.Listing.{heads, bodies, framed, partWords, listing}
 use Rattle.translation.specs.Spelling.Laws.{heads-length}
 use Rattle.walking.specs.Found.{FoundBefore}
-use Rattle.walking.specs.Long.{mostPart, mostListing}
-use Rattle.walking.specs.Long.Laws.{listing-length}
-use Rattle.translator.specs.Found.{FoundAmong}
-use Rattle.translator.specs.Found.Laws.{among-none, among-all, among-stays, among-sooner}
+use Rattle.translation.specs.Long.{mostPart, mostListing}
+use Rattle.translation.specs.Long.Laws.{listing-length}
+use Rattle.translator.specs.Among.{FoundAmong}
+use Rattle.translator.specs.Among.Laws.{among-none, among-all, among-stays, among-sooner}
 use Rattle.translator.specs.Heads.{headsOf}
 
 -- ---- one part more

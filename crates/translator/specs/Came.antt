@@ -21,12 +21,12 @@ use Rattle.book.specs.Valid.Laws.{nine, reading-lines, valid-keep, accepted-val
 use Rattle.translation.specs.Narration.{narration}
 use Rattle.translation.specs.Taken.{unplayable, firstTaken}
 use Rattle.translation.specs.Listing.{listing}
-use Rattle.translation.specs.Outcome.{takenLine, roomLine, acceptance, translationSays, outcome, came}
-use Rattle.translation.specs.Outcome.Laws.{Plays, book-came, came-refused, came-written, accepted-plays, exactly-12, written-says}
+use Rattle.translation.specs.Outcome.{takenLine, roomLine, acceptance, translationSays, outcome, came, Plays}
+use Rattle.translation.specs.Outcome.Laws.{book-came, came-refused, came-written, accepted-plays, exactly-12, written-says}
 use Rattle.translation.specs.declared.Answer.the-variants.{Written, Refused}
-use Rattle.walking.specs.Long.Laws.{listing-short}
-use Rattle.translator.specs.Found.{FoundAmong}
-use Rattle.translator.specs.Found.Laws.{found-none, found-one}
+use Rattle.translation.specs.Long.Laws.{listing-short}
+use Rattle.translator.specs.Among.{FoundAmong}
+use Rattle.translator.specs.Among.Laws.{found-none, found-one}
 
 module _ (b : List ℕ) where
   -- ---- a refusal that is the book's

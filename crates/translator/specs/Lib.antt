@@ -1,3 +1,3 @@
-pub mod Found
+pub mod Among
 pub mod Came
 pub mod Heads

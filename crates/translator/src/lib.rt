@@ -3,11 +3,11 @@ use book::Refusal;
 use book::parties;
 use book::steps;
 use claims::claims;
-use holding::narrow;
 use reader::read;
 use translation::Answer;
 use walking::measure;
 use walking::write_program;
+use words::narrow;
 use words::put;
 use words::put_all;
 use words::put2;
@@ -23,7 +23,7 @@ ghost use Rattle.book.specs.Said.{readingSays};
 ghost use Rattle.translation.specs.Listing.{bodies, partWords, listing};
 ghost use Rattle.translation.specs.Outcome.{acceptance, outcome, came};
 ghost use Rattle.claims.specs.Claims.{Claims};
-ghost use Rattle.translator.specs.Found.{NobodyRefused, FoundAmong};
+ghost use Rattle.translator.specs.Among.{NobodyRefused, FoundAmong};
 ghost use Rattle.translator.specs.Heads.{headsOf};
 
 // Behind the heads: where the next word goes, where the last program ends, and the first step at which a taken atom would be made.

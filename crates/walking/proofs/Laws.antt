@@ -19,8 +19,8 @@ use Rattle.terms.specs.Table.{term, terms}
 use Rattle.book.specs.Layout.{table, rows, parties, steps, sender, receiver, stepFirst, stepCount, known, messages, listAt}
 use Rattle.book.specs.Headed.Laws.{valid-headed}
 use Rattle.book.specs.Valid.{Valid}
-use Rattle.holding.specs.Span.{Span}
-use Rattle.holding.specs.Span.Laws.{span-step}
+use Rattle.book.specs.Span.{Span}
+use Rattle.book.specs.Span.Laws.{span-step}
 use Rattle.translation.specs.Dictionary.{start}
 use Rattle.translation.specs.Build.{buildAll}
 use Rattle.translation.specs.Receive.{Did, Event, nothing, followed, receiveAll}
@@ -34,15 +34,17 @@ use Rattle.receiving.specs.declared.Dictionary.{Dictionary}
 use Rattle.receiving.specs.declared.Received.{Received}
 use Rattle.receiving.specs.Bound.{limit}
 use Rattle.receiving.specs.Turn.{inTurn}
-use Rattle.receiving.specs.Walk.{Walked}
+use Rattle.receiving.specs.Receiving.{Led}
 use Rattle.walking.specs.declared.Acted.{Acted}
 use Rattle.walking.specs.declared.Passed.{Passed}
-use Rattle.walking.specs.Walk.{stepDid, before, Unrefused, NextOwn}
-use Rattle.walking.specs.Walk.Laws.{step-sends, step-receives, step-idle, before-none, before-more, before-skip, before-all}
+use Rattle.translation.specs.Steps.{stepDid, before}
+use Rattle.walking.specs.Walk.{Unrefused, IdleUntil}
+use Rattle.translation.specs.Steps.Laws.{step-sends, step-receives, step-idle, before-none, before-more, before-all}
+use Rattle.walking.specs.Walk.Laws.{before-skip}
 use Rattle.translation.specs.Listing.Laws.{program-append}
 use Rattle.holding.specs.Doing.Laws.{doing-none, doing-then, doing-as}
-use Rattle.walking.specs.Long.{Within, mostPlaceholders, mostEvents}
-use Rattle.walking.specs.Long.Laws.{all-within, pairs-length, part-length, stored-few}
+use Rattle.translation.specs.Long.{Within, mostPlaceholders, mostEvents}
+use Rattle.translation.specs.Long.Laws.{all-within, pairs-length, part-length, stored-few}
 use Rattle.walking.specs.Found.{foundAt, FoundBefore}
 use Rattle.walking.specs.Found.Laws.{found-unrefused}
 use Rattle.walking.specs.Walking.{Acting, Along, Walking}
@@ -84,7 +86,7 @@ module _ (b l : List ℕ) (p s : ℕ) (x : Received) (f n : ℕ) (df : f ≡ ste
   pub acts-receive : (z y : ℕ) → z ≡ sender b s → (z ≡ p → ⊥) → y ≡ receiver b s → y ≡ p
       → {log logAfter out middle outAfter : List ℕ} {a c : ℕ} {r : Received} → c ≡ n
       → Wrote (3 ∷ s ∷ x .dictionary .next ∷ c ∷ []) out (x .at) middle a
-      → Walked b (inTurn (terms (table b) (listAt b f n)) (view b (x .dictionary .entries)) (x .dictionary .next)) (record { dictionary = x .dictionary; at = a }) log logAfter middle outAfter r
+      → Led b (inTurn (terms (table b) (listAt b f n)) (view b (x .dictionary .entries)) (x .dictionary .next)) (record { dictionary = x .dictionary; at = a }) log logAfter middle outAfter r
       → Acting b l p s x log logAfter out outAfter (record { here = r; taken = 0 })
   unfolding pairWords programWords eventWords foundAt
   acts-receive z y dz e dy h {log} {logAfter} {out} {middle} {outAfter} {a} {c} {r} dc w t =
@@ -223,5 +225,5 @@ module _ (b : List ℕ) (p : ℕ) where
   idle-on i j h n k x y = elim (ℕ-discrete k j) [ yes z ↦ rw z n | no z ↦ h k x (omega arith) ]
 
 -- nothing is added before it
-pub along-skip : {b : List ℕ} {p i j k a : ℕ} {log logAfter out outAfter : List ℕ} {x : Received} → NextOwn b p i j → Along b p i k log logAfter a out outAfter x → Along b p j k log logAfter a out outAfter x
+pub along-skip : {b : List ℕ} {p i j k a : ℕ} {log logAfter out outAfter : List ℕ} {x : Received} → IdleUntil b p i j → Along b p i k log logAfter a out outAfter x → Along b p j k log logAfter a out outAfter x
 along-skip {b} {p} n g = doing-as g (before-skip b p n)

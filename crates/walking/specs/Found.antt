@@ -12,8 +12,8 @@ use Rattle.translation.specs.Dictionary.{Dictionary}
 use Rattle.translation.specs.Build.{buildAll}
 use Rattle.translation.specs.Narration.{narration}
 use Rattle.translation.specs.Taken.{firstTaken}
-use Rattle.holding.specs.Since.{takenIn}
-use Rattle.sending.specs.Sending.{firstTaken as firstIn}
+use Rattle.claims.specs.Since.{takenIn}
+use Rattle.sending.specs.Sending.{firstIn}
 use Rattle.walking.specs.Walk.{refusedFor, Unrefused}
 pub mod Laws
 

@@ -1,4 +1,3 @@
 pub mod Walk
-pub mod Long
 pub mod Found
 pub mod Walking

@@ -1,27 +1,14 @@
 -- A party's walk through the steps of a book, one step after another: the form in which code meets a program.
 use Prim.Native.Nat.{ℕ, _≤_, _<_}
 use mathlib.Core.Bool.{Bool, false}
-use mathlib.Core.List.{List, [], _∷_, map}
+use mathlib.Core.List.{List}
 use mathlib.Core.Path.{_≡_}
 use lib.Dec.{eqb}
 use Rattle.words.specs.Choice.{pick}
-use Rattle.words.specs.Run.{values}
-use Rattle.terms.specs.Table.{term}
-use Rattle.book.specs.Layout.{table, steps, known, sender, receiver}
-use Rattle.translation.specs.Dictionary.{Dictionary}
-use Rattle.translation.specs.Receive.{Did}
-use Rattle.translation.specs.Program.{own, walk, walked}
-use Rattle.translation.specs.Narration.{stepAt, narration}
+use Rattle.book.specs.Layout.{steps, sender, receiver}
+use Rattle.translation.specs.Narration.{narration}
 use Rattle.translation.specs.Taken.{unplayable}
 pub mod Laws
-
--- what step i adds for party p, where n is the next placeholder
-unfoldable pub stepDid : List ℕ → ℕ → ℕ → Dictionary → ℕ → Did
-stepDid b p i δ n = walk (own p i (stepAt b i ∷ [])) δ n
-
--- what the first i steps add
-unfoldable pub before : List ℕ → ℕ → ℕ → Did
-before b p i = walked (map (term (table b)) (known b p)) (own p 0 (values (stepAt b) 0 i))
 
 -- step s is party p's to send, and a taken atom would have to be made for it
 unfoldable pub refusedFor : List ℕ → ℕ → ℕ → Bool
@@ -33,7 +20,7 @@ Unrefused b p i = (k : ℕ) → k < i → refusedFor b p k ≡ false
 
 -- r is the first step from i on that party p sends or receives, or the number of steps, as far as the walk needs it: before r there
 -- is nothing for p to do
-pub record NextOwn (b : List ℕ) (p i r : ℕ) : Type 0 where
+pub record IdleUntil (b : List ℕ) (p i r : ℕ) : Type 0 where
   pub from : i ≤ r
   pub within : r ≤ steps b
   pub idle : (k : ℕ) → i ≤ k → k < r → (sender b k ≡ p → ⊥) × (receiver b k ≡ p → ⊥)

@@ -6,15 +6,15 @@ use Rattle.book.specs.Layout.{steps}
 use Rattle.holding.specs.View.{view}
 use Rattle.holding.specs.Doing.{Doing}
 use Rattle.receiving.specs.declared.Received.{Received}
-use Rattle.receiving.specs.Walk.{Walked}
+use Rattle.receiving.specs.Receiving.{Led}
 use Rattle.walking.specs.declared.Acted.{Acted}
 use Rattle.walking.specs.declared.Passed.{Passed}
-use Rattle.walking.specs.Walk.{stepDid, before}
+use Rattle.translation.specs.Steps.{stepDid, before}
 use Rattle.walking.specs.Found.{foundAt, FoundBefore}
 
 -- party p's part in step s led from x to r
 pub record Acting (b l : List ℕ) (p s : ℕ) (x : Received) (log logAfter out outAfter : List ℕ) (r : Acted) : Type 0 where
-  pub doing : Walked b (stepDid b p s (view b (x .dictionary .entries)) (x .dictionary .next)) x log logAfter out outAfter (r .here)
+  pub doing : Led b (stepDid b p s (view b (x .dictionary .entries)) (x .dictionary .next)) x log logAfter out outAfter (r .here)
   pub found : r .taken ≡ foundAt b l p s (view b (x .dictionary .entries))
 
 -- the first i steps of party p, with the places k and a at the start

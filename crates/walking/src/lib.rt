@@ -4,13 +4,13 @@ use book::step_first;
 use book::step_receiver;
 use book::step_sender;
 use book::steps;
-use holding::narrow;
 use holding::start;
 use receiving::Dictionary;
 use receiving::Received;
 use receiving::receive_messages;
 use sending::send;
 use translation::Code;
+use words::narrow;
 use words::put_all;
 use words::put2;
 use words::put4;
@@ -24,9 +24,10 @@ ghost use Rattle.translation.specs.Listing.{partWords};
 ghost use Rattle.holding.specs.View.{view};
 ghost use Rattle.claims.specs.Claims.{Claims};
 ghost use Rattle.receiving.specs.Bound.{limit};
-ghost use Rattle.walking.specs.Walk.{stepDid, Unrefused, NextOwn};
+ghost use Rattle.translation.specs.Steps.{stepDid};
+ghost use Rattle.walking.specs.Walk.{Unrefused, IdleUntil};
 ghost use Rattle.walking.specs.Found.{FoundBefore};
-ghost use Rattle.walking.specs.Long.{mostPart};
+ghost use Rattle.translation.specs.Long.{mostPart};
 ghost use Rattle.walking.specs.Walking.{Acting, Walking};
 
 // What a step left: how far the party got, and one more than the first taken atom that it would make there (0 if there is none).
@@ -107,7 +108,7 @@ fn act(
 // where nothing is to do.
 fn next_own(book: &[u32], party: u32, from: u32) -> u32
     requires { ⌜ Valid (now book) × (from ≤ stepsOf (now book)) ⌝ }
-    ensures { λ r. ⌜ NextOwn (now (book .entry)) party from r ⌝ }
+    ensures { λ r. ⌜ IdleUntil (now (book .entry)) party from r ⌝ }
 {
     let n = steps(book);
     let mut i = from;

@@ -19,6 +19,14 @@ pub fn wide(x: u32) -> usize
     x as usize
 }
 
+// A count as a word.
+pub fn narrow(n: usize) -> u32
+    requires { ⌜ n ≤ 4294967295 ⌝ }
+    ensures { λ r. ⌜ r ≡ n ⌝ }
+{
+    n as u32
+}
+
 // Writes one word where the place is inside, and counts it in any case.
 pub fn put(out: &mut [u32], at: usize, w: u32) -> usize
     ensures { λ r. ⌜ Wrote (w ∷ []) (now (out .entry)) at (now (out .exit)) r ⌝ }

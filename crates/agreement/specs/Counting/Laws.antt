@@ -21,7 +21,7 @@ use Rattle.translation.specs.Taken.{stepOf}
 use Rattle.translation.specs.Taken.Laws.{steps-length, step-is}
 use Rattle.translation.specs.Listing.{listing}
 use Rattle.translation.specs.Places.{Places, placesOf, placeOf, isSend, isReceive}
-use Rattle.translation.specs.Outcome.Laws.{Plays}
+use Rattle.translation.specs.Outcome.{Plays}
 use Rattle.agreement.specs.View.{change}
 use Rattle.agreement.specs.Machine.{Party, stays, takes, next, effect, turn, delivered, System, Move, move, begin, Reach}
 use Rattle.agreement.specs.Machine.Laws.{change-ap, change-none}

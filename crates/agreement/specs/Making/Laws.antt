@@ -18,8 +18,8 @@ use Rattle.translation.specs.Build.{buildAll}
 use Rattle.translation.specs.Build.Laws.{NoRepeat, no-repeat-append, buildAll-makes, derivesAll-free}
 use Rattle.translation.specs.Receive.{Event, Did, followed, receiveAll}
 use Rattle.translation.specs.Receive.Laws.{Quiet, receiveAll-quiet}
-use Rattle.translation.specs.Program.{Step, Act, own, act, walk, walked, program}
-use Rattle.translation.specs.Program.Laws.{own-append, walk-append}
+use Rattle.translation.specs.Program.{Step, Act, actsOf, act, walk, walked, program}
+use Rattle.translation.specs.Program.Laws.{acts-append, walk-append}
 use Rattle.translation.specs.Narration.{Narration, knownTo, programOf}
 use Rattle.translation.specs.Taken.{Taken, Nobodys, stepOf, holdsBefore, madeAt, Playable}
 use Rattle.agreement.specs.Parts.Laws.{step-seam, split-on, length-on}
@@ -63,18 +63,18 @@ news-idle δ n = refl
 module _ (N : Narration) (p : ℕ) where
   -- what the party has done before a step
   abbrev doneBefore : List Step → Did
-  doneBefore before = walked (knownTo N p) (own p 0 before)
+  doneBefore before = walked (knownTo N p) (actsOf p 0 before)
 
   -- what it does at the step behind these
   abbrev doneAt : List Step → Step → Did
-  doneAt before a = walk (own p (length before) (a ∷ [])) (doneBefore before .dictionary) (length (doneBefore before .given))
+  doneAt before a = walk (actsOf p (length before) (a ∷ [])) (doneBefore before .dictionary) (length (doneBefore before .given))
 
   on : (before : List Step) (a : Step) → doneBefore (before ++ a ∷ []) ≡ followed (doneBefore before) (doneAt before a)
   unfolding walked
   on before a =
-      ap (λ acts. walk acts (start (knownTo N p)) 0) (own-append p 0 before (a ∷ []) ∙ ap (λ n. own p 0 before ++ own p n (a ∷ [])) (zero-add (length before)))
-      ∙ walk-append (own p 0 before) (own p (length before) (a ∷ [])) (start (knownTo N p)) 0
-      ∙ ap (λ n. followed (doneBefore before) (walk (own p (length before) (a ∷ [])) (doneBefore before .dictionary) n)) (zero-add _)
+      ap (λ acts. walk acts (start (knownTo N p)) 0) (acts-append p 0 before (a ∷ []) ∙ ap (λ n. actsOf p 0 before ++ actsOf p n (a ∷ [])) (zero-add (length before)))
+      ∙ walk-append (actsOf p 0 before) (actsOf p (length before) (a ∷ [])) (start (knownTo N p)) 0
+      ∙ ap (λ n. followed (doneBefore before) (walk (actsOf p (length before) (a ∷ [])) (doneBefore before .dictionary) n)) (zero-add _)
 
   data MadeHere (before : List Step) : List ℕ → Type 0 where
     sends : stepOf N (length before) .sender ≡ p → MadeHere before (madeAt N (length before))
@@ -86,7 +86,7 @@ module _ (N : Narration) (p : ℕ) where
   holds-before before later e = ap (λ l. doneBefore l .dictionary) (ap (take (length before)) e ∙ take-append-seam before later)
 
   made-here : (before : List Step) (a : Step) (later : List Step) → N .says ≡ before ++ a ∷ later → MadeHere before (news (doneAt before a .events))
-  unfolding own
+  unfolding actsOf
   made-here before a later e =
       let k = length before in
       let B = doneBefore before in
@@ -109,8 +109,8 @@ module _ (N : Narration) (p : ℕ) where
   here-then l (MadeHere.sends e) r = MadeFrom.sends l e r
   here-then l MadeHere.idles r = MadeFrom.idles r
 
-  made-from : (before later : List Step) → N .says ≡ before ++ later → MadeFrom N p (length before) (news (walk (own p (length before) later) (doneBefore before .dictionary) (length (doneBefore before .given)) .events))
-  unfolding own walk news
+  made-from : (before later : List Step) → N .says ≡ before ++ later → MadeFrom N p (length before) (news (walk (actsOf p (length before) later) (doneBefore before .dictionary) (length (doneBefore before .given)) .events))
+  unfolding actsOf walk news
   made-from before [] e = MadeFrom.nothing
   made-from before (a ∷ later) e =
       let B = doneBefore before in
@@ -120,20 +120,20 @@ module _ (N : Narration) (p : ℕ) where
       let l = ap length e ∙ length-append before (a ∷ later) in
       let g = length-append (B .given) (D .given) in
       let one : k + 1 ≡ suc k = omega arith in
-      let w : walk (own p k (a ∷ later)) (B .dictionary) n ≡ followed D (walk (own p (suc k) later) (D .dictionary) (n + length (D .given))) =
-      ap (λ acts. walk acts (B .dictionary) n) (own-append p k (a ∷ []) later ∙ ap (λ m. own p k (a ∷ []) ++ own p m later) one)
-      ∙ walk-append (own p k (a ∷ [])) (own p (suc k) later) (B .dictionary) n in
+      let w : walk (actsOf p k (a ∷ later)) (B .dictionary) n ≡ followed D (walk (actsOf p (suc k) later) (D .dictionary) (n + length (D .given))) =
+      ap (λ acts. walk acts (B .dictionary) n) (acts-append p k (a ∷ []) later ∙ ap (λ m. actsOf p k (a ∷ []) ++ actsOf p m later) one)
+      ∙ walk-append (actsOf p k (a ∷ [])) (actsOf p (suc k) later) (B .dictionary) n in
       let again = made-from (before ++ a ∷ []) later (split-on N before a later e) in
-      let rest : MadeFrom N p (suc k) (news (walk (own p (suc k) later) (D .dictionary) (n + length (D .given)) .events)) =
-      subst (λ m. MadeFrom N p (suc k) (news (walk (own p (suc k) later) (D .dictionary) m .events))) g
-      (subst (λ (d : Did). MadeFrom N p (suc k) (news (walk (own p (suc k) later) (d .dictionary) (length (d .given)) .events))) (on before a)
-      (subst (λ m. MadeFrom N p m (news (walk (own p m later) (doneBefore (before ++ a ∷ []) .dictionary) (length (doneBefore (before ++ a ∷ []) .given)) .events))) (length-on N before a) again)) in
+      let rest : MadeFrom N p (suc k) (news (walk (actsOf p (suc k) later) (D .dictionary) (n + length (D .given)) .events)) =
+      subst (λ m. MadeFrom N p (suc k) (news (walk (actsOf p (suc k) later) (D .dictionary) m .events))) g
+      (subst (λ (d : Did). MadeFrom N p (suc k) (news (walk (actsOf p (suc k) later) (d .dictionary) (length (d .given)) .events))) (on before a)
+      (subst (λ m. MadeFrom N p m (news (walk (actsOf p m later) (doneBefore (before ++ a ∷ []) .dictionary) (length (doneBefore (before ++ a ∷ []) .given)) .events))) (length-on N before a) again)) in
       subst (MadeFrom N p k) (sym (ap (λ (d : Did). news (d .events)) w ∙ news-append (D .events) _)) (here-then (omega arith) (made-here before a later e) rest)
 
   program-makes : MadeFrom N p 0 (news (programOf N p))
-  unfolding programOf program walked own walk news
+  unfolding programOf program walked actsOf walk news
   program-makes =
-      let d = walked (knownTo N p) (own p 0 (N .says)) in
+      let d = walked (knownTo N p) (actsOf p 0 (N .says)) in
       subst (MadeFrom N p 0) (sym (news-append (d .events) (Event.ends (d .stored) ∷ []) ∙ append-nil (news (d .events)))) (made-from [] (N .says) refl)
 
 -- ---- a message's atoms are taken from the next step on

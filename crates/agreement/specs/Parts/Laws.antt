@@ -10,7 +10,7 @@ use lib.Seq.{getD-append-seam}
 use lib.Dec.{eqb}
 use borrow.Author.Tests.{eqb-true, eqb-false}
 use Rattle.words.specs.Choice.Laws.{pick-ind}
-use Rattle.translation.specs.Program.{Step, Act, own}
+use Rattle.translation.specs.Program.{Step, Act, actsOf}
 use Rattle.translation.specs.Narration.{Narration}
 use Rattle.translation.specs.Taken.{stepOf}
 use Rattle.agreement.specs.Agree.{Said}
@@ -41,11 +41,11 @@ module _ (N : Narration) where
     parts-low l (Parts.sends m w e r) = Parts.sends (le-trans l m) w e r
     parts-low l (Parts.receives m w e r) = Parts.receives (le-trans l m) w e r
 
-    own-parts-from : (before later : List Step) → N .says ≡ before ++ later → Parts N p (length before) (own p (length before) later)
-    unfolding own
+    own-parts-from : (before later : List Step) → N .says ≡ before ++ later → Parts N p (length before) (actsOf p (length before) later)
+    unfolding actsOf
     own-parts-from before [] e = Parts.nil
     own-parts-from before (a ∷ later) e =
-        let rest : Parts N p (suc (length before)) (own p (suc (length before)) later) = subst (λ n. Parts N p n (own p n later)) (length-on before a) (own-parts-from (before ++ a ∷ []) later (split-on before a later e)) in
+        let rest : Parts N p (suc (length before)) (actsOf p (suc (length before)) later) = subst (λ n. Parts N p n (actsOf p n later)) (length-on before a) (own-parts-from (before ++ a ∷ []) later (split-on before a later e)) in
         let w = said-seam before a later e in
         let z = step-seam before a later e in
         pick-ind (Parts N p (length before)) (eqb (a .sender) p) _ _
@@ -54,7 +54,7 @@ module _ (N : Narration) where
         (λ d. Parts.receives (le-refl _) w (ap (λ (b : Step). b .receiver) z ∙ eqb-true _ _ d) rest)
         (λ d. parts-low (omega arith) rest))
 
-    pub own-parts : Parts N p 0 (own p 0 (N .says))
+    pub own-parts : Parts N p 0 (actsOf p 0 (N .says))
     own-parts = own-parts-from [] (N .says) refl
 
     pub parts-said : {low : ℕ} {acts : List Act} → Parts N p low acts → ActsSaid N acts
@@ -64,28 +64,28 @@ module _ (N : Narration) where
 
     -- a step that the party sends is among its acts
     own-sends-from : (before later : List Step) (s : ℕ) → N .says ≡ before ++ later → length before ≤ s → s < length (N .says) → stepOf N s .sender ≡ p
-        → List·Memᴰ (Act.sends s (stepOf N s .messages)) (own p (length before) later)
-    unfolding own
+        → List·Memᴰ (Act.sends s (stepOf N s .messages)) (actsOf p (length before) later)
+    unfolding actsOf
     own-sends-from before [] s e l m c = let n = ap length e ∙ length-append before [] in absurd (omega arith)
     own-sends-from before (a ∷ later) s e l m c =
         go (ℕ-discrete (length before) s)
-        (λ q. subst (λ n. List·Memᴰ (Act.sends s (stepOf N s .messages)) (own p n later)) (length-on before a)
+        (λ q. subst (λ n. List·Memᴰ (Act.sends s (stepOf N s .messages)) (actsOf p n later)) (length-on before a)
         (own-sends-from (before ++ a ∷ []) later s (split-on before a later e) (let n = length-on before a in omega arith) m c))
       where
         acts : List Act
-        acts = own p (suc (length before)) later
+        acts = actsOf p (suc (length before)) later
 
-        go : Dec (length before ≡ s) → (suc (length before) ≤ s → List·Memᴰ (Act.sends s (stepOf N s .messages)) acts) → List·Memᴰ (Act.sends s (stepOf N s .messages)) (own p (length before) (a ∷ later))
+        go : Dec (length before ≡ s) → (suc (length before) ≤ s → List·Memᴰ (Act.sends s (stepOf N s .messages)) acts) → List·Memᴰ (Act.sends s (stepOf N s .messages)) (actsOf p (length before) (a ∷ later))
         go (yes q) r =
             let z : stepOf N s ≡ a = ap (stepOf N) (sym q) ∙ step-seam before a later e in
-            unfold own in
+            unfold actsOf in
             pick-ind (List·Memᴰ (Act.sends s (stepOf N s .messages))) (eqb (a .sender) p) _ _
             (λ d. List·Memᴰ·head (ap₂ Act.sends (sym q) (ap (λ (b : Step). b .messages) z)))
             (λ d. absurd (eqb-false _ _ d (sym (ap (λ (b : Step). b .sender) z) ∙ c)))
         go (no q) r =
-            unfold own in
+            unfold actsOf in
             pick-ind (List·Memᴰ (Act.sends s (stepOf N s .messages))) (eqb (a .sender) p) _ _ (λ d. List·Memᴰ·tail (r (omega arith)))
             (λ d. pick-ind (List·Memᴰ (Act.sends s (stepOf N s .messages))) (eqb (a .receiver) p) _ _ (λ f. List·Memᴰ·tail (r (omega arith))) (λ f. r (omega arith)))
 
-    pub own-sends-in : (s : ℕ) → s < length (N .says) → stepOf N s .sender ≡ p → List·Memᴰ (Act.sends s (stepOf N s .messages)) (own p 0 (N .says))
+    pub own-sends-in : (s : ℕ) → s < length (N .says) → stepOf N s .sender ≡ p → List·Memᴰ (Act.sends s (stepOf N s .messages)) (actsOf p 0 (N .says))
     own-sends-in s m c = own-sends-from [] (N .says) s refl (omega arith) m c

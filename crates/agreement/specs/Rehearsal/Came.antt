@@ -10,8 +10,8 @@ use Rattle.book.specs.declared.Refusal.{Refusal}
 use Rattle.book.specs.declared.Refusal.the-variants.{Move, Room}
 use Rattle.book.specs.declared.Reading.the-variants as reading
 use Rattle.book.specs.Said.{readingSays}
-use Rattle.translation.specs.Outcome.{acceptance, came}
-use Rattle.translation.specs.Outcome.Laws.{Plays, book-came, came-refused, came-written}
+use Rattle.translation.specs.Outcome.{acceptance, came, Plays}
+use Rattle.translation.specs.Outcome.Laws.{book-came, came-refused, came-written}
 use Rattle.translation.specs.declared.Answer.the-variants.{Written, Refused}
 use Rattle.agreement.specs.Rehearsal.{eventsDone, mostMoves, rehearsalSays, rehearsal}
 use Rattle.agreement.specs.Rehearsal.Laws.{BadMoves, Named, exactly-11, exactly-12, played-says}

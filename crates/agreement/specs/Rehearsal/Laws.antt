@@ -16,10 +16,11 @@ use Rattle.words.specs.Run.Laws.{values-length, all-getD, getD-all}
 use Rattle.book.specs.Layout.{parties}
 use Rattle.book.specs.Said.{Said, said}
 use Rattle.book.specs.Refusals.{line, here, firstOf}
-use Rattle.book.specs.Refusals.Laws.{Ruled, AllKeep, append-keep, keep-append, lines, Cause, given, passed, caused, all-keep}
+use Rattle.book.specs.Ruled.{Ruled, AllKeep, lines, Cause}
+use Rattle.book.specs.Refusals.Laws.{append-keep, keep-append, given, passed, caused, all-keep}
 use Rattle.book.specs.Valid.{Valid}
-use Rattle.translation.specs.Outcome.{roomLine, acceptance, Outcome}
-use Rattle.translation.specs.Outcome.Laws.{room-line, ends-in-room, room-exact, room-says, fits-exact, laid-keeps, laid-lays, laid-past, ten, ten-lines, book-first, Unplayable, taken-exact, Plays, keep-plays, plays-keep}
+use Rattle.translation.specs.Outcome.{roomLine, acceptance, Outcome, Unplayable, Plays}
+use Rattle.translation.specs.Outcome.Laws.{room-line, ends-in-room, room-exact, room-says, fits-exact, laid-keeps, laid-lays, laid-past, ten, ten-lines, book-first, takenLine-exact, keep-plays, plays-keep}
 use Rattle.agreement.specs.Rehearsal.{eventsDone, mostMoves, longLine, moveLine, rehearsalSays, rehearsal}
 
 -- ---- refusal 11
@@ -65,7 +66,7 @@ module _ (b ms : List ℕ) where
   -- ---- refusal 10
   pub exactly-10 : (out vs : List ℕ) → (rehearsalSays b ms out ≡ said 10 vs) ↔ (Valid b × Unplayable b vs)
   exactly-10 out vs =
-      let r = taken-exact b (moves ++ room-line (length out) (parties b) ∷ []) (said 0 (parties b ∷ [])) (omega arith) (omega arith) vs in
+      let r = takenLine-exact b (moves ++ room-line (length out) (parties b) ∷ []) (said 0 (parties b ∷ [])) (omega arith) (omega arith) vs in
       (λ e. r .0 (sym (says-lines out) ∙ e), λ u. says-lines out ∙ r .1 u)
 
   -- ---- refusal 11

@@ -17,8 +17,8 @@ use Rattle.translation.specs.Taken.Laws.{steps-length, step-is}
 use Rattle.translation.specs.Listing.{heads, bodies, framed, partWords, listing}
 use Rattle.translation.specs.Spelling.{readProgram, partOf}
 use Rattle.translation.specs.Spelling.Laws.{heads-length, listing-spells}
-use Rattle.translation.specs.Outcome.{outcome}
-use Rattle.translation.specs.Outcome.Laws.{Plays, exactly-written, written-past}
+use Rattle.translation.specs.Outcome.{outcome, Plays}
+use Rattle.translation.specs.Outcome.Laws.{exactly-written, written-past}
 use Rattle.agreement.specs.Spelled.{orEnd, spelled}
 use Rattle.agreement.specs.Start.{Played, Programs}
 

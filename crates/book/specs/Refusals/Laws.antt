@@ -8,24 +8,7 @@ use Rattle.words.specs.First.{first}
 use Rattle.words.specs.First.Laws.{clash, first-at, first-fails, first-holds, any-at, any-none, none-any, any-first, any-yes, any-no}
 use Rattle.book.specs.Said.{Said, said}
 use Rattle.book.specs.Refusals.{Line, line, applies, gives, firstOf}
-
--- a line with the rule that it tests
-pub record Ruled : Type 1 where
-  pub line : Line
-  pub rule : ℕ → Type 0
-  pub exact : (i : ℕ) → (line .breaks i ≡ false) ↔ rule i
-
--- the rule is kept at every place
-abbrev pub Keeps : Ruled → Type 0
-Keeps x = (i : ℕ) → i < x .line .among → x .rule i
-
-abbrev pub AllKeep : List Ruled → Type 0
-AllKeep [] = Unit {0}
-AllKeep (x ∷ xs) = Keeps x × AllKeep xs
-
-abbrev pub lines : List Ruled → List Line
-lines [] = []
-lines (x ∷ xs) = x .line ∷ lines xs
+use Rattle.book.specs.Ruled.{Ruled, Keeps, AllKeep, lines, Cause, Apart}
 
 -- two tables, one behind the other
 pub append-keep : (xs ys : List Ruled) → AllKeep xs → AllKeep ys → AllKeep (xs ++ ys)
@@ -103,14 +86,7 @@ pub all-keep : (xs : List Ruled) (ls : List Line) (rest : Said) → AllKeep xs �
 all-keep [] ls rest k = refl
 all-keep (x ∷ xs) ls rest k = firstOf-on (x .line) (lines xs ++ ls) rest (keeps-not x (k .0)) ∙ all-keep xs ls rest (k .1)
 
--- ---- the cause of a refusal: the smallest place that breaks the rule
-pub record Cause (x : Ruled) (vs : List ℕ) : Type 0 where
-  pub place : ℕ
-  pub within : place < x .line .among
-  pub broken : x .rule place → ⊥
-  pub smallest : (k : ℕ) → k < place → x .rule k
-  pub says : vs ≡ x .line .place place
-
+-- ---- the cause of a refusal
 cause-gives : (x : Ruled) (vs : List ℕ) → Cause x vs → (applies (x .line) ≡ true) × (gives (x .line) ≡ said (x .line .number) vs)
 unfolding applies gives
 cause-gives x vs c =
@@ -131,11 +107,6 @@ gives-cause x e =
       smallest = λ k h. x .exact k .0 (first-fails t n k h);
       says = refl;
     }
-
--- no line of the list has that number
-abbrev pub Apart : ℕ → List Ruled → Type 0
-Apart n [] = Unit {0}
-Apart n (x ∷ xs) = (x .line .number ≡ n → ⊥) × Apart n xs
 
 pub apart-append : (n : ℕ) (xs ys : List Ruled) → Apart n xs → Apart n ys → Apart n (xs ++ ys)
 apart-append n [] ys a b = b

@@ -12,7 +12,7 @@ use Rattle.words.specs.Run.Laws.{same-exact}
 use Rattle.words.specs.First.{any}
 use Rattle.words.specs.First.Laws.{any-none, none-any}
 use Rattle.book.specs.Layout.{kind}
-use Rattle.book.specs.Rules.{oneOf, outside, differs, CountRule, countBreaks, OffsetRule, offsetBreaks, ListRule, listBreaks, RowRule, rowBreaks, SizeRule, sizeBreaks, Agree, agrees, SingleRule, repeats, PartyRule, partyBreaks, StepRule, stepBreaks, TotalRule, totalBreaks}
+use Rattle.book.specs.Rules.{oneOf, outside, differs, CountRule, countBreaks, OffsetRule, offsetBreaks, ListRule, listBreaks, RowRule, rowBreaks, SizeRule, sizeBreaks, Alike, alike, SingleRule, repeats, PartyRule, partyBreaks, StepRule, stepBreaks, TotalRule, totalBreaks}
 
 -- ---- the small tests
 -- none of the tests holds
@@ -92,33 +92,33 @@ pub size-exact : (b : List ℕ) (r : ℕ) → (sizeBreaks b r ≡ false) ↔ Siz
 unfolding sizeBreaks
 size-exact b r = (λ e. ltb-false _ _ e, λ h. le-ltb _ _ h)
 
-pub agrees-exact : (b : List ℕ) (r k : ℕ) → (agrees b r k ≡ true) ↔ Agree b r k
-unfolding agrees
-agrees-exact b r k = (
+pub alike-exact : (b : List ℕ) (r k : ℕ) → (alike b r k ≡ true) ↔ Alike b r k
+unfolding alike
+alike-exact b r k = (
   λ e.
       let t = none-of _ (not-true _ e) in
       record { kinds = differs-false _ _ (t .0); tags = differs-false _ _ (t .1 .0); partss = same-exact _ _ .0 (not-false _ (t .1 .1 .0)) },
   λ a. ap not (of-none _ (differs-same _ _ (a .kinds), (differs-same _ _ (a .tags), (ap not (same-exact _ _ .1 (a .partss)), tt)))),
 )
 
-pub not-agrees : (b : List ℕ) (r k : ℕ) → (Agree b r k → ⊥) → agrees b r k ≡ false
-not-agrees b r k h = go (agrees b r k) refl
+pub not-agrees : (b : List ℕ) (r k : ℕ) → (Alike b r k → ⊥) → alike b r k ≡ false
+not-agrees b r k h = go (alike b r k) refl
   where
-    go : (v : Bool) → agrees b r k ≡ v → agrees b r k ≡ false
-    go true e = absurd (h (agrees-exact b r k .0 e))
+    go : (v : Bool) → alike b r k ≡ v → alike b r k ≡ false
+    go true e = absurd (h (alike-exact b r k .0 e))
     go false e = e
 
 pub single-exact : (b : List ℕ) (r : ℕ) → (repeats b r ≡ false) ↔ SingleRule b r
 unfolding repeats
 single-exact b r = (λ e. to e, λ h. from (eqb (kind b r) 0) refl h)
   where
-    to : pick (eqb (kind b r) 0) false (any (agrees b r) r) ≡ false → SingleRule b r
+    to : pick (eqb (kind b r) 0) false (any (alike b r) r) ≡ false → SingleRule b r
     to e n k l a =
-        true≢false (sym (agrees-exact b r k .1 a) ∙ none-any (agrees b r) r (sym (pick-false _ _ _ (ne-eqb _ _ n)) ∙ e) k l)
+        true≢false (sym (alike-exact b r k .1 a) ∙ none-any (alike b r) r (sym (pick-false _ _ _ (ne-eqb _ _ n)) ∙ e) k l)
 
-    from : (v : Bool) → eqb (kind b r) 0 ≡ v → SingleRule b r → pick (eqb (kind b r) 0) false (any (agrees b r) r) ≡ false
+    from : (v : Bool) → eqb (kind b r) 0 ≡ v → SingleRule b r → pick (eqb (kind b r) 0) false (any (alike b r) r) ≡ false
     from true e h = pick-true _ _ _ e
-    from false e h = pick-false _ _ _ e ∙ any-none (agrees b r) r (λ k l. not-agrees b r k (h (eqb-false _ _ e) k l))
+    from false e h = pick-false _ _ _ e ∙ any-none (alike b r) r (λ k l. not-agrees b r k (h (eqb-false _ _ e) k l))
 
 -- ---- a party
 pub party-exact : (b : List ℕ) (p : ℕ) → (partyBreaks b p ≡ false) ↔ PartyRule b p

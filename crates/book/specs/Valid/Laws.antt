@@ -19,7 +19,8 @@ use Rattle.book.specs.Rules.{CountRule, countBreaks, OffsetRule, offsetB
 use Rattle.book.specs.Rules.Laws.{count-exact, offset-exact, row-exact, size-exact, single-exact, party-exact, step-exact, total-exact}
 use Rattle.book.specs.Said.{Said, said, accepted}
 use Rattle.book.specs.Refusals.{Line, line, here, zero-place, firstOf, readingTable, verdict}
-use Rattle.book.specs.Refusals.Laws.{Ruled, AllKeep, lines, Cause, Apart, given, caused, all-keep, none-given}
+use Rattle.book.specs.Ruled.{Ruled, AllKeep, lines, Cause, Apart}
+use Rattle.book.specs.Refusals.Laws.{given, caused, all-keep, none-given}
 use Rattle.book.specs.Valid.{Valid}
 
 -- ---- the nine lines with their rules

@@ -1,7 +1,7 @@
 -- `claims::mark` and `claims::mark_list` meet their contracts: what occurs in a row occurs in one of its parts, and those of a row seen have entries. Assumes nothing.
 use Rattle.claims.proofs.Laws.{atom-marked, row-marked, more-marked, ready-marked, ready-more, seen-already}
 use Rattle.claims.specs.Marked.Laws.{marked-end}
-use Rattle.holding.specs.Span.Laws.{span-row, span-tail}
+use Rattle.book.specs.Span.Laws.{span-row, span-tail}
 use Rattle.book.specs.Headed.Laws.{valid-headed}
 use Prim.Native.Nat.{_+_, _*_}
 use borrow.Author.Needs.{needs}
@@ -19,7 +19,7 @@ use Rattle.book.proofs.row_count.Reads as row-count-reads
 use Rattle.book.proofs.row_first.Reads as row-first-reads
 use Rattle.book.proofs.row_kind.Reads as row-kind-reads
 use Rattle.claims.proofs.mark_atom.Reads as mark-atom-reads
-use Rattle.holding.proofs.entry.Reads as entry-reads
+use Rattle.book.proofs.entry.Reads as entry-reads
 use Rattle.words.proofs.wide.Reads as wide-reads
 use Rattle.claims.proofs.+mark+mark_list.{statement}
 use Rattle.claims.proofs.+mark+mark_list.Tie.{close}

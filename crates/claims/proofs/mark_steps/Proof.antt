@@ -3,7 +3,7 @@ use Rattle.claims.proofs.Laws.{step-claimed}
 use Rattle.claims.specs.Claims.Laws.{claims-end}
 use Rattle.claims.specs.Claims.{ClaimsBefore}
 use Rattle.claims.specs.Marked.{Ready}
-use Rattle.holding.specs.Span.Laws.{span-step}
+use Rattle.book.specs.Span.Laws.{span-step}
 use Rattle.book.specs.Headed.Laws.{valid-headed}
 use Prim.Native.Nat.{_-_, _≤_}
 use borrow.Author.Needs.{needs}

@@ -19,8 +19,8 @@ use Rattle.terms.specs.Table.{term, terms}
 use Rattle.book.specs.Layout.{table, steps, messages}
 use Rattle.translation.specs.Program.{Step}
 use Rattle.translation.specs.Narration.{narration, stepAt}
-use Rattle.translation.specs.Taken.{joined, said, claimed, occursInOne, taken}
-use Rattle.holding.specs.Since.{takenIn}
+use Rattle.translation.specs.Taken.{joined, allMessages, claimed, occursInOne, taken}
+use Rattle.claims.specs.Since.{takenIn}
 use Rattle.claims.specs.Marked.{marked, Marked}
 use Rattle.claims.specs.Marked.Laws.{one-append, marked-then}
 use Rattle.claims.specs.Claims.{Claims, cut, ClaimsBefore}
@@ -68,21 +68,21 @@ marked-low zero k x false h l = h
 take-more : {X : Type 0} (f : ℕ → X) (i s n : ℕ) → n ≤ s → take s (values f i n) ≡ values f i n
 take-more f i s n h = let l = values-length f i n in take-all s (values f i n) (omega arith)
 
-said-last : (q : ℕ) (ss : List Step) (a : Step) → occursInOne q (said (ss ++ (a ∷ []))) ≡ (occursInOne q (said ss) || occursInOne q (listed (a .messages)))
-unfolding said occursInOne
+said-last : (q : ℕ) (ss : List Step) (a : Step) → occursInOne q (allMessages (ss ++ (a ∷ []))) ≡ (occursInOne q (allMessages ss) || occursInOne q (listed (a .messages)))
+unfolding allMessages occursInOne
 said-last q [] a = ap (occursInOne q) (append-nil (listed (a .messages)))
 said-last q (s ∷ ss) a =
-    one-append q (listed (s .messages)) (said (ss ++ (a ∷ []))) ∙ ap (λ x. occursInOne q (listed (s .messages)) || x) (said-last q ss a) ∙ sym (or-assoc (occursInOne q (listed (s .messages))) (occursInOne q (said ss)) (occursInOne q (listed (a .messages))))
-    ∙ ap (λ x. x || occursInOne q (listed (a .messages))) (sym (one-append q (listed (s .messages)) (said ss)))
+    one-append q (listed (s .messages)) (allMessages (ss ++ (a ∷ []))) ∙ ap (λ x. occursInOne q (listed (s .messages)) || x) (said-last q ss a) ∙ sym (or-assoc (occursInOne q (listed (s .messages))) (occursInOne q (allMessages ss)) (occursInOne q (listed (a .messages))))
+    ∙ ap (λ x. x || occursInOne q (listed (a .messages))) (sym (one-append q (listed (s .messages)) (allMessages ss)))
 
 -- ---- taken, with the first k steps only
 module _ (b : List ℕ) (q : ℕ) where
   abbrev upTo : List Step → Bool
-  upTo ss = occursInOne q (narration b .names ++ (joined (narration b .knows) ++ said ss))
+  upTo ss = occursInOne q (narration b .names ++ (joined (narration b .knows) ++ allMessages ss))
 
   upTo-last : (ss : List Step) (a : Step) → upTo (ss ++ (a ∷ [])) ≡ (upTo ss || occursInOne q (listed (a .messages)))
   upTo-last ss a =
-      three (ss ++ (a ∷ [])) ∙ ap (λ x. n || (m || x)) (said-last q ss a) ∙ four n m (occursInOne q (said ss)) (occursInOne q (listed (a .messages)))
+      three (ss ++ (a ∷ [])) ∙ ap (λ x. n || (m || x)) (said-last q ss a) ∙ four n m (occursInOne q (allMessages ss)) (occursInOne q (listed (a .messages)))
       ∙ ap (λ x. x || occursInOne q (listed (a .messages))) (sym (three ss))
     where
       n : Bool
@@ -91,15 +91,15 @@ module _ (b : List ℕ) (q : ℕ) where
       m : Bool
       m = occursInOne q (joined (narration b .knows))
 
-      three : (l : List Step) → upTo l ≡ (n || (m || occursInOne q (said l)))
-      three l = one-append q (narration b .names) _ ∙ ap (λ x. n || x) (one-append q (joined (narration b .knows)) (said l))
+      three : (l : List Step) → upTo l ≡ (n || (m || occursInOne q (allMessages l)))
+      three l = one-append q (narration b .names) _ ∙ ap (λ x. n || x) (one-append q (joined (narration b .knows)) (allMessages l))
 
       four : (x y z w : Bool) → (x || (y || (z || w))) ≡ ((x || (y || z)) || w)
       four true y z w = refl
       four false y z w = sym (or-assoc y z w)
 
   taken-start : (s : ℕ) → taken (cut b 0) s q ≡ occursInOne q (narration b .names ++ joined (narration b .knows))
-  unfolding taken claimed cut values said
+  unfolding taken claimed cut values allMessages
   taken-start s = ap upTo (take-more (stepAt b) 0 s 0 (omega arith)) ∙ ap (λ l. occursInOne q (narration b .names ++ l)) (append-nil (joined (narration b .knows)))
 
   taken-before : (k s : ℕ) → s ≤ k → taken (cut b (suc k)) s q ≡ taken (cut b k) s q

@@ -18,8 +18,8 @@ use Rattle.book.specs.Layout.{table, begins, rows, kind, tag, pooled, parts, li
 use Rattle.book.specs.Valid.{Valid}
 use Rattle.book.specs.Valid.Laws.{row-form, row-shape, row-atom}
 use Rattle.translation.specs.Taken.{joined, occursInOne}
-use Rattle.holding.specs.Span.{entry}
-use Rattle.holding.specs.Span.Laws.{list-none, list-more}
+use Rattle.book.specs.Span.{entry}
+use Rattle.book.specs.Span.Laws.{list-none, list-more}
 use Rattle.claims.specs.Marked.{marked, Marked, Seen}
 
 -- ---- occursInOne

@@ -13,7 +13,7 @@ use Rattle.holding.proofs.+buildable.Lts-buildable as buildable-lts
 use Rattle.book.proofs.row_count.Reads as row-count-reads
 use Rattle.book.proofs.row_first.Reads as row-first-reads
 use Rattle.book.proofs.row_kind.Reads as row-kind-reads
-use Rattle.holding.proofs.entry.Reads as entry-reads
+use Rattle.book.proofs.entry.Reads as entry-reads
 use Rattle.words.proofs.wide.Reads as wide-reads
 use Rattle.holding.proofs.+buildable.{statement}
 use Rattle.holding.proofs.+buildable.Tie.{close}

@@ -1,6 +1,6 @@
 -- `holding::write_image`, `holding::write_images` meet their contracts: head and parts, one after another. Assumes nothing.
 use Prim.Native.Nat.{_+_, _*_}
-use Rattle.holding.specs.Span.Laws.{span-row, span-tail}
+use Rattle.book.specs.Span.Laws.{span-row, span-tail}
 use Rattle.holding.proofs.Laws.{is-free, held-wrote, free-wrote, none-wrote, more-wrote}
 use Rattle.book.specs.Headed.Laws.{valid-headed}
 use borrow.Author.Needs.{needs}
@@ -16,7 +16,7 @@ use Rattle.holding.proofs.write_images.Kinds as write-images-kinds
 use Rattle.holding.proofs.+write_image+write_images.Lts-write_images as write-images-lts
 use Rattle.book.proofs.row_count.Reads as row-count-reads
 use Rattle.book.proofs.row_first.Reads as row-first-reads
-use Rattle.holding.proofs.entry.Reads as entry-reads
+use Rattle.book.proofs.entry.Reads as entry-reads
 use Rattle.holding.proofs.put_entry.Reads as put-entry-reads
 use Rattle.holding.proofs.put_head.Reads as put-head-reads
 use Rattle.words.proofs.wide.Reads as wide-reads

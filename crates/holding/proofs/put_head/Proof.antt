@@ -2,7 +2,7 @@
 use Prim.Native.Nat.{ℕ}
 use mathlib.Core.List.{[], _∷_}
 use mathlib.Core.Path.{sym, ap, _∙_}
-use Rattle.holding.specs.Half.Laws.{first-part}
+use Rattle.book.specs.Span.Laws.{some-part}
 use Rattle.holding.specs.AtRow.Laws.{head-operation, head-cipher, head-public, head-private, head-atom}
 use Rattle.words.specs.Overlay.Laws.{wrote-as}
 use Rattle.book.specs.Headed.Laws.{valid-headed}
@@ -29,7 +29,7 @@ sub-narrow c =
     let then2 : tie.Then2 = search in
     let after-row-kind : tie.After-row-kind = search in
     let start : tie.Start = search in
-    let h = first-part _ (start .pre .0) _ (start .pre .1)
+    let h = some-part _ (start .pre .0) _ (start .pre .1)
     (let e = after-row-kind .row-kind .ensures in let f = then2 .if2 .taken in omega arith) in
     omega arith
 

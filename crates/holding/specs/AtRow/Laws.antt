@@ -10,15 +10,14 @@ use borrow.Author.Tests.{eq-eqb, ne-eqb}
 use Rattle.words.specs.Choice.{pick}
 use Rattle.words.specs.Run.Laws.{run-length}
 use Rattle.terms.specs.Term.{Term, gathered}
-use Rattle.terms.specs.Image.{Image, words, wordsOf}
-use Rattle.terms.specs.Image as Image'
+use Rattle.terms.specs.Image.{Image, words, wordsOf, countImages}
 use Rattle.terms.specs.Table.{form, term, Shape}
 use Rattle.book.specs.Layout.{table, rows, begins, kind, tag, rowFirst, rowCount, parts, listAt}
 use Rattle.book.specs.Valid.{Valid}
 use Rattle.book.specs.Valid.Laws.{row-form, row-shape}
 use Rattle.translation.specs.Dictionary.{Held, Dictionary, isHeld, buildable, allBuildable, imageOr, image, images}
-use Rattle.holding.specs.Span.{entry}
-use Rattle.holding.specs.Span.Laws.{list-none, list-more}
+use Rattle.book.specs.Span.{entry}
+use Rattle.book.specs.Span.Laws.{list-none, list-more}
 use Rattle.holding.specs.View.{heldOf, rowOf, view}
 use Rattle.holding.specs.View.Laws.{view-row, row-of}
 use Rattle.holding.specs.AtRow.{canAt, allTrue, imageAt, concat, imagesAt, headOf, headWords, entryWords}
@@ -56,8 +55,8 @@ held-zero (suc zero) = refl
 held-zero (suc (suc x)) = rw (ne-eqb (suc (suc x)) 0 (omega arith))
 
 -- ---- images, of a form
-pub count-all : (δ : Dictionary) (ts : List Term) → Image'.count (images δ (gathered ts)) ≡ length ts
-unfolding gathered image Image'.count
+pub count-all : (δ : Dictionary) (ts : List Term) → countImages (images δ (gathered ts)) ≡ length ts
+unfolding gathered image countImages
 count-all δ [] = refl
 count-all δ (t ∷ ts) = ap suc (count-all δ ts)
 

@@ -1,5 +1,5 @@
 -- Laws of halves and partners. Assumes nothing.
-use Prim.Native.Nat.{ℕ, zero, suc, _+_, _-_, _≤_, _<_}
+use Prim.Native.Nat.{ℕ, _+_, _-_, _≤_, _<_}
 use mathlib.Core.Bool.{Bool, true, false}
 use mathlib.Core.List.{List, _∷_}
 use mathlib.Core.Path.{_≡_, refl, sym, ap, _∙_}
@@ -15,14 +15,13 @@ use Rattle.terms.specs.Image.{words}
 use Rattle.terms.specs.Table.{form, term, terms, number}
 use Rattle.terms.specs.Table.Laws.{term-row, kindOf}
 use Rattle.book.specs.Layout.{table, rows, kind, rowFirst, rowCount}
-use Rattle.book.specs.Rules.{fewest}
 use Rattle.book.specs.Valid.{Valid}
 use Rattle.book.specs.Valid.Laws.{formed, equal-terms, row-kind}
 use Rattle.translation.specs.Dictionary.{free, Dictionary, buildable, imageOr, image}
 use Rattle.holding.specs.View.{rowOf, view}
 use Rattle.holding.specs.View.Laws.{row-stands, view-none}
-use Rattle.holding.specs.Span.{entry}
-use Rattle.holding.specs.Span.Laws.{list-more, span-row, span-head}
+use Rattle.book.specs.Span.{entry}
+use Rattle.book.specs.Span.Laws.{list-more, some-part, part-low}
 use Rattle.holding.specs.Half.{half, isHalf}
 
 kind-half : (k : ℕ) (t : Term) → 3 ≤ k → k ≤ 4 → kindOf (half k t) ≡ k
@@ -37,25 +36,12 @@ half-part k t u = go (eqb k 3)
     go true e = cc
     go false e = cc
 
-parts-some : (k n : ℕ) → 2 ≤ k → fewest k ≤ n → 0 < n
-unfolding fewest
-parts-some zero n h l = absurd (omega arith)
-parts-some (suc zero) n h l = absurd (omega arith)
-parts-some (suc (suc k)) n h l = l
-
 module _ (b : List ℕ) (v : Valid b) where
-  -- a cipher's key, a half's part: its first part
-  pub first-part : (r : ℕ) → r < rows b → 2 ≤ kind b r → 0 < rowCount b r
-  first-part r h k = parts-some (kind b r) (rowCount b r) k (v .rowsKeep r h .listed .low)
-
-  pub part-low : (r : ℕ) → r < rows b → 2 ≤ kind b r → entry b (rowFirst b r) < r
-  part-low r h k = span-head b r (rowFirst b r) (rowCount b r) (span-row b v _ _ r h refl refl) (first-part r h k)
-
   half-row : (r : ℕ) → r < rows b → 3 ≤ kind b r → term (table b) r ≡ half (kind b r) (term (table b) (entry b (rowFirst b r)))
   unfolding form half pick terms gathered table
   half-row r h k =
       let l = v .rowsKeep r h .kinded in
-      let s = list-more b (rowFirst b r) (rowCount b r) (first-part r h (omega arith)) in
+      let s = list-more b (rowFirst b r) (rowCount b r) (some-part b v r h (omega arith)) in
       let t = term-row (rows b) (table b) (formed b v) r h in
       elim (ℕ-discrete (kind b r) 3) [ yes e ↦ rw (t, e, s) | no e ↦ (let z : kind b r ≡ 4 = omega arith in rw (t, z, s)) ]
 
@@ -75,7 +61,7 @@ module _ (b : List ℕ) (v : Valid b) where
         go : (z : Bool) → eqb y p ≡ z → z ≡ choose (same (term (table b) r) (half k (term (table b) p))) true false
         go true z = sym (choose-yes (same (term (table b) r) (half k (term (table b) p))) true false (is ∙ ap (λ w. half k (term (table b) w)) (eqb-true y p z)))
         go false z =
-            let low = part-low r h (omega arith) in
+            let low = part-low b v r h (omega arith) in
             sym (choose-no (same (term (table b) r) (half k (term (table b) p))) true false
             (λ u. eqb-false y p z (equal-terms b v y p (omega arith) j (half-part k _ _ (sym is ∙ u)))))
 

@@ -4,7 +4,7 @@ use mathlib.Core.List.{_∷_, _++_}
 use Rattle.line.specs.declared.Told.{Told}
 use native.Mathlib.Omega.{arith}
 use borrow.Author.Needs.{needs}
-use Rattle.line.specs.Line.{refused, spelled, toldSays}
+use Rattle.line.specs.Line.{refused, spacedAll, toldSays}
 use Rattle.line.specs.Line.Laws.{put-then, spelled-two, spelled-three}
 use Rattle.line.proofs.put_told.Statement.{statement}
 use Rattle.line.proofs.put_told.Tie as tie
@@ -19,7 +19,7 @@ returns c =
     let front = put-then (put-then (after-put-text .put-text .ensures) (after-put-number .put-number .ensures .0))
     (after-put-number2 .put-number2 .ensures .0) .front in (
       front ∙ spelled-two refused (told .0 .0) (told .0 .1 .0) ∙ ap
-          (λ (s : Told). refused ++ spelled (toldSays s .number ∷ toldSays s .values)) (sym (told .1)),
+          (λ (s : Told). refused ++ spacedAll (toldSays s .number ∷ toldSays s .values)) (sym (told .1)),
       omega (
         arith,
         after-put-text .put-text .ensures .next,
@@ -40,7 +40,7 @@ returns-2 c =
     (put-then (put-then (after-put-text .put-text .ensures) (after-put-number3 .put-number3 .ensures .0))
     (after-put-number4 .put-number4 .ensures .0)) (after-put-number5 .put-number5 .ensures .0) .front in (
       front ∙ spelled-three refused (told .0 .0) (told .0 .1 .0) (told .0 .1 .1 .0) ∙ ap
-          (λ (s : Told). refused ++ spelled (toldSays s .number ∷ toldSays s .values)) (sym (told .1)),
+          (λ (s : Told). refused ++ spacedAll (toldSays s .number ∷ toldSays s .values)) (sym (told .1)),
       omega (
         arith,
         after-put-text .put-text .ensures .next,

@@ -6,19 +6,19 @@ use lib.ListN.{length, getD, take}
 use borrow.Author.Needs.{needs}
 use lib.Seq.{take-length}
 use mathlib.Core.List.{List, _++_}
-use Rattle.line.specs.Line.{spelled, spaced}
+use Rattle.line.specs.Line.{spacedAll, spaced}
 use Rattle.line.specs.Line.Laws.{spelled-next}
 use Rattle.line.proofs.put_words.Statement.{statement}
 use Rattle.line.proofs.put_words.Tie as tie
 
 abbrev Inv-loop : tie.InvT-loop
-Inv-loop line₀ words at₀ i₀ line at i = (i ≤ length words) × (at ≤ 11 * i) × (length line ≡ length line₀) × (take at line ≡ spelled (take i words))
+Inv-loop line₀ words at₀ i₀ line at i = (i ≤ length words) × (at ≤ 11 * i) × (length line ≡ length line₀) × (take at line ≡ spacedAll (take i words))
 
 abbrev μ-loop : tie.MeasureT-loop
 μ-loop line₀ words at₀ i₀ line at i = length words - i
 
 loop-holds : tie.Need-loop-holds Inv-loop μ-loop
-unfolding spelled
+unfolding spacedAll
 loop-holds c = (search needs, search needs, search needs, refl)
 
 cast-put-number : tie.Need-cast-put-number Inv-loop μ-loop
@@ -49,7 +49,7 @@ returns c =
     let start : tie.Start Inv-loop μ-loop = search in
     let words = start .args .words .now in
     let e : at-loop .loop .i ≡ length words = omega arith in
-    (at-loop .loop .inv .3 ∙ ap (λ (n : ℕ). spelled (take n words)) e ∙ ap spelled (take-length words), omega arith)
+    (at-loop .loop .inv .3 ∙ ap (λ (n : ℕ). spacedAll (take n words)) e ∙ ap spacedAll (take-length words), omega arith)
 
 pub put-words-spec : {M : Type 1} → statement M
 put-words-spec =

@@ -3,7 +3,7 @@ use mathlib.Core.Path.{_∙_, ap}
 use borrow.Author.Needs.{needs}
 use mathlib.Core.List.{_∷_, _++_}
 use Rattle.book.specs.Said.{Said}
-use Rattle.line.specs.Line.{refused, spelled, ended, refusalLine}
+use Rattle.line.specs.Line.{refused, spacedAll, ended, refusalLine}
 use Rattle.line.proofs.refusal_line.Statement.{statement}
 use Rattle.line.proofs.refusal_line.Tie as tie
 
@@ -15,7 +15,7 @@ returns c =
     let after-told-of : tie.After-told-of = search in (
       after-end .end .ensures .0,
       after-end .end .ensures .1 ∙ ap ended (after-put-told .put-told .ensures .0 ∙ ap (λ (s : Said). refused ++
-          spelled (s .number ∷ s .values)) (after-told-of .told-of .ensures)),
+          spacedAll (s .number ∷ s .values)) (after-told-of .told-of .ensures)),
     )
 
 pub refusal-line-spec : {M : Type 1} → statement M

@@ -14,7 +14,7 @@ use Rattle.io.specs.Digits.{glyph, digits, Fewest}
 use Rattle.words.specs.First.{first, firstFrom}
 use Rattle.words.specs.First.Laws.{first-is}
 use Rattle.book.specs.Said.{said}
-use Rattle.line.specs.Line.{places, decimal, spaced, spelled, ended, listingLine, refused, refusalLine, Put}
+use Rattle.line.specs.Line.{places, decimal, spaced, spacedAll, ended, listingLine, refused, refusalLine, Put}
 
 -- a text that was copied, one byte, and one text behind another
 pub put-paste : (o text n : List ℕ) (at i : ℕ) → i ≡ length text → at + length text ≤ length o → n ≡ paste o at text i → Put text o at n (at + length text)
@@ -92,24 +92,24 @@ module _ (x k : ℕ) (f : Fewest 10 1 x k) where
       put-as (put-then put (put-one m p 32 h)) (ap (λ (l : List ℕ). l ++ 32 ∷ []) (e ∙ decimal-fewest (fewest-most 20 (omega arith) (omega arith))))
 
 -- one number more, at the end and in a list that is walked
-pub spelled-more : (xs : List ℕ) (x : ℕ) → spelled (xs ++ x ∷ []) ≡ spelled xs ++ spaced x
-unfolding spelled
+pub spelled-more : (xs : List ℕ) (x : ℕ) → spacedAll (xs ++ x ∷ []) ≡ spacedAll xs ++ spaced x
+unfolding spacedAll
 spelled-more [] x = append-nil _
 spelled-more (y ∷ xs) x =
-    ap (λ (l : List ℕ). spaced y ++ l) (spelled-more xs x) ∙ sym (append-assoc (spaced y) (spelled xs) (spaced x))
+    ap (λ (l : List ℕ). spaced y ++ l) (spelled-more xs x) ∙ sym (append-assoc (spaced y) (spacedAll xs) (spaced x))
 
-pub spelled-next : (xs : List ℕ) (i : ℕ) → i < length xs → spelled (take i xs) ++ spaced (getD xs i 0) ≡ spelled (take (i + 1) xs)
+pub spelled-next : (xs : List ℕ) (i : ℕ) → i < length xs → spacedAll (take i xs) ++ spaced (getD xs i 0) ≡ spacedAll (take (i + 1) xs)
 spelled-next xs i h =
     let e : take (i + 1) xs ≡ take i xs ++ getD xs i 0 ∷ [] = rw add-one (take-suc xs i 0 h) in
-    sym (ap spelled e ∙ spelled-more (take i xs) (getD xs i 0))
+    sym (ap spacedAll e ∙ spelled-more (take i xs) (getD xs i 0))
 
 -- two numbers and three behind a text
-pub spelled-two : (t : List ℕ) (x y : ℕ) → (t ++ spaced x) ++ spaced y ≡ t ++ spelled (x ∷ y ∷ [])
-unfolding spelled
+pub spelled-two : (t : List ℕ) (x y : ℕ) → (t ++ spaced x) ++ spaced y ≡ t ++ spacedAll (x ∷ y ∷ [])
+unfolding spacedAll
 spelled-two t x y = simp (append-assoc, append-nil)
 
-pub spelled-three : (t : List ℕ) (x y z : ℕ) → ((t ++ spaced x) ++ spaced y) ++ spaced z ≡ t ++ spelled (x ∷ y ∷ z ∷ [])
-unfolding spelled
+pub spelled-three : (t : List ℕ) (x y z : ℕ) → ((t ++ spaced x) ++ spaced y) ++ spaced z ≡ t ++ spacedAll (x ∷ y ∷ z ∷ [])
+unfolding spacedAll
 spelled-three t x y z = simp (append-assoc, append-nil)
 
 -- the newline, behind a text and in an empty line
@@ -126,9 +126,9 @@ ended-none l end e h = rw e (take-suc-set l 0 10 h)
 
 -- two lines, computed: "10 0" and "refused 10 1 3"
 pub listing-shown : listingLine (10 ∷ 0 ∷ []) ≡ 49 ∷ 48 ∷ 32 ∷ 48 ∷ 10 ∷ []
-unfolding listingLine ended spelled spaced decimal places first firstFrom
+unfolding listingLine ended spacedAll spaced decimal places first firstFrom
 listing-shown = refl
 
 pub refusal-shown : refusalLine (said 10 (1 ∷ 3 ∷ [])) ≡ refused ++ 49 ∷ 48 ∷ 32 ∷ 49 ∷ 32 ∷ 51 ∷ 10 ∷ []
-unfolding refusalLine ended spelled spaced decimal places first firstFrom
+unfolding refusalLine ended spacedAll spaced decimal places first firstFrom
 refusal-shown = refl

@@ -1,6 +1,6 @@
 -- `placing::make_step` meets its contract: two words for each NEW, and the SEND. Assumes nothing.
 use Rattle.book.specs.Headed.Laws.{valid-headed}
-use Rattle.holding.specs.Span.Laws.{span-step}
+use Rattle.book.specs.Span.Laws.{span-step}
 use Rattle.placing.proofs.Laws.{sent-counts, sent-few}
 use native.Mathlib.Omega.{arith}
 use borrow.Author.Needs.{needs}

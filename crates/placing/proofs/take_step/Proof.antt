@@ -3,7 +3,7 @@ use Prim.Native.Nat.{ℕ}
 use native.Mathlib.Omega.{arith}
 use borrow.Author.Needs.{needs}
 use Rattle.book.specs.Headed.Laws.{valid-headed}
-use Rattle.holding.specs.Span.Laws.{span-step}
+use Rattle.book.specs.Span.Laws.{span-step}
 use Rattle.placing.proofs.Laws.{Took, took, took-counts, turn-fits}
 use Rattle.placing.proofs.take_step.Statement.{statement}
 use Rattle.placing.proofs.take_step.Tie as tie

@@ -22,10 +22,10 @@ use Rattle.translation.specs.Narration.{narration, programOf}
 use Rattle.translation.specs.Listing.{eventWords, programWords}
 use Rattle.translation.specs.Places.{placeOf, isSend, isReceive, isEnd, placesOf}
 use Rattle.translation.specs.Places.Laws.{None, none-append, none-news, none-receiveAll, place-first}
-use Rattle.walking.specs.Walk.{stepDid, before}
-use Rattle.walking.specs.Walk.Laws.{step-sends, step-receives, step-idle, before-none, before-more, before-all}
-use Rattle.walking.specs.Long.{mostEvents}
-use Rattle.walking.specs.Long.Laws.{all-within}
+use Rattle.translation.specs.Steps.Laws.{step-sends, step-receives, step-idle, before-none, before-more, before-all}
+use Rattle.translation.specs.Steps.{stepDid, before}
+use Rattle.translation.specs.Long.{mostEvents}
+use Rattle.translation.specs.Long.Laws.{all-within}
 
 -- ---- the events of the steps before pass no test that looks for a later step
 pub record Quiet (t : Event → Bool) : Type 0 where

@@ -3,7 +3,7 @@ use mathlib.Core.Logic.{inl, inr}
 use mathlib.Core.Path.{_≡_}
 use mathlib.Core.Bool.{false}
 use Prim.Native.Nat.{ℕ, _-_, _≤_, _<_}
-use Rattle.book.specs.Rules.{agrees}
+use Rattle.book.specs.Rules.{alike}
 use Rattle.reader.proofs.Laws.{part-inside, part-before, before-part}
 use borrow.Author.Needs.{needs}
 use native.Mathlib.Omega.{arith}
@@ -11,7 +11,7 @@ use Rattle.reader.proofs.hunt_from.Statement.{statement}
 use Rattle.reader.proofs.hunt_from.Tie as tie
 
 abbrev Inv-loop : tie.InvT-loop
-Inv-loop book row first n from₀ j₀ from j = (j ≤ n) × ((k : ℕ) → k < from → agrees book row k ≡ false) × (from ≤ row)
+Inv-loop book row first n from₀ j₀ from j = (j ≤ n) × ((k : ℕ) → k < from → alike book row k ≡ false) × (from ≤ row)
 
 abbrev μ-loop : tie.MeasureT-loop
 μ-loop book row first n from₀ j₀ from j = n - j

@@ -1,6 +1,6 @@
 -- `reader::row_size` meets its contract: the sizes of the parts passed are added; each part is an earlier row, of size at most 1,024. Assumes nothing.
 use Rattle.book.specs.Layout.{kind, pooled, rowCount}
-use Rattle.terms.specs.Table.{own}
+use Rattle.terms.specs.Table.{ownSize}
 use Rattle.words.specs.Sum.Laws.{sum-none}
 use Rattle.words.specs.Sum.{sum}
 use lib.ListN.{getD}
@@ -13,7 +13,7 @@ use Rattle.reader.proofs.row_size.Statement.{statement}
 use Rattle.reader.proofs.row_size.Tie as tie
 
 abbrev Inv-loop : tie.InvT-loop
-Inv-loop book sizes row first n size₀ j₀ size j = (j ≤ n) × (size ≡ own (kind book row) + sum (λ i. getD sizes (pooled book first i) 0) j) × (size ≤ 3 + 1024 * j)
+Inv-loop book sizes row first n size₀ j₀ size j = (j ≤ n) × (size ≡ ownSize (kind book row) + sum (λ i. getD sizes (pooled book first i) 0) j) × (size ≤ 3 + 1024 * j)
 
 abbrev μ-loop : tie.MeasureT-loop
 μ-loop book sizes row first n size₀ j₀ size j = n - j
@@ -26,7 +26,7 @@ loop-holds c =
     let z = sum-none (λ i. getD (start .args .sizes .now) (pooled (start .args .book .now)
     (after-row-first .row-first .result) i) 0) in
     let y = c .own-size .ensures .0 in
-    let x = ap own (after-row-kind .row-kind .ensures) in
+    let x = ap ownSize (after-row-kind .row-kind .ensures) in
     (search needs, omega arith, omega arith)
 
 pooled-requires : tie.Need-pooled-requires Inv-loop μ-loop
@@ -99,7 +99,7 @@ returns c =
     let after-row-count : tie.After-row-count Inv-loop μ-loop = search in
     let after-row-first : tie.After-row-first Inv-loop μ-loop = search in
     let start : tie.Start Inv-loop μ-loop = search in
-    at-loop .loop .inv .1 ∙ ap (λ m. own (kind (start .args .book .now) (start .args .row)) + sum (λ i. getD
+    at-loop .loop .inv .1 ∙ ap (λ m. ownSize (kind (start .args .book .now) (start .args .row)) + sum (λ i. getD
     (start .args .sizes .now) (pooled (start .args .book .now) (after-row-first .row-first .result) i) 0) m)
     (let z : at-loop .loop .j ≡ rowCount (start .args .book .now) (start .args .row)
     = (let y = after-row-count .row-count .ensures .0 in omega arith) in z) ∙ size-sum _ (start .pre .1) _

@@ -8,7 +8,7 @@ use borrow.Author.Needs.{needs}
 use native.Mathlib.Omega.{arith}
 use Rattle.words.specs.First.Laws.{first-at, first-end}
 use Rattle.book.specs.Layout.{pooled}
-use Rattle.book.specs.Rules.{agrees}
+use Rattle.book.specs.Rules.{alike}
 use Rattle.reader.proofs.Laws.{part-inside, part-reach, agree-all, agree-kind, agree-tag, agree-count, agree-part}
 use Rattle.reader.proofs.twin.Statement.{statement}
 use Rattle.reader.proofs.twin.Tie as tie
@@ -20,7 +20,7 @@ abbrev μ-parts : tie.MeasureT-parts
 μ-parts book row kind tag first n k other j₀ j = n - j
 
 abbrev Inv-rows : tie.InvT-rows
-Inv-rows book row kind tag first n k₀ k = (k ≤ row) × ((m : ℕ) → m < k → agrees book row m ≡ false)
+Inv-rows book row kind tag first n k₀ k = (k ≤ row) × ((m : ℕ) → m < k → alike book row m ≡ false)
 
 abbrev μ-rows : tie.MeasureT-rows
 μ-rows book row kind tag first n k₀ k = row - k

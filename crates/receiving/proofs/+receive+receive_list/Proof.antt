@@ -17,8 +17,8 @@ use Rattle.receiving.proofs.+receive+receive_list.Lts-receive as receiv
 use Rattle.receiving.proofs.receive_list.Reads as receive-list
 use Rattle.receiving.proofs.receive_list.Kinds as receive-list-kinds
 use Rattle.receiving.proofs.+receive+receive_list.Lts-receive_list as receive-list-lts
-use Rattle.holding.proofs.entry.Reads as entry-reads
-use Rattle.holding.proofs.narrow.Reads as narrow-reads
+use Rattle.book.proofs.entry.Reads as entry-reads
+use Rattle.words.proofs.narrow.Reads as narrow-reads
 use Rattle.receiving.proofs.settle.Reads as settle-reads
 use Rattle.receiving.proofs.+receive+receive_list.{statement}
 use Rattle.receiving.proofs.+receive+receive_list.Tie.{close}

@@ -1,6 +1,6 @@
 -- `receiving::put_open` meets its contract: the event's head, then the image of the key's partner. Assumes nothing.
 use Rattle.receiving.proofs.Laws.{open-wrote}
-use Rattle.holding.specs.Half.Laws.{first-part}
+use Rattle.book.specs.Span.Laws.{some-part}
 use Rattle.book.specs.Headed.Laws.{valid-headed}
 use native.Mathlib.Omega.{arith}
 use borrow.Author.Needs.{needs}
@@ -10,7 +10,7 @@ use Rattle.receiving.proofs.put_open.Tie as tie
 sub-narrow : tie.Need-sub-narrow
 sub-narrow c =
     let start : tie.Start = search in
-    let h = first-part _ (start .pre .0) _ (start .pre .1) (omega arith) in
+    let h = some-part _ (start .pre .0) _ (start .pre .1) (omega arith) in
     omega arith
 
 first-part-requires : tie.Need-first-part-requires

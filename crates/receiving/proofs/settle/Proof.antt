@@ -4,7 +4,7 @@ use native.Mathlib.Omega.{arith}
 use borrow.Author.Needs.{needs}
 use Rattle.book.specs.Layout.{kind}
 use Rattle.book.specs.Headed.Laws.{valid-headed}
-use Rattle.holding.specs.Half.Laws.{first-part}
+use Rattle.book.specs.Span.Laws.{some-part}
 use Rattle.receiving.proofs.Laws.{settle-compare, settle-unlock, settle-store, opens-kind, few-rows}
 use Rattle.receiving.proofs.settle.Statement.{statement}
 use Rattle.receiving.proofs.settle.Tie as tie
@@ -22,7 +22,7 @@ sub-left : tie.Need-sub-left
 sub-left c =
     let here : tie.Start = search in
     let k = cipher (search) in
-    let first = first-part _ (here .pre .0) _ (here .pre .1) (omega arith) in
+    let first = some-part _ (here .pre .0) _ (here .pre .1) (omega arith) in
     omega arith
 
 pub settle-spec : {M : Type 1} → statement M

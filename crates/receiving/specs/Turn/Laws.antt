@@ -16,16 +16,15 @@ use Rattle.book.specs.Valid.Laws.{formed, row-kind}
 use Rattle.translation.specs.Dictionary.{Dictionary, buildable}
 use Rattle.translation.specs.Receive.{nothing, followed, Rule, canOpen, rule, byRule, compared, kept, receive, receiveAll}
 use Rattle.translation.specs.Receive.Laws.{rule-compare, rule-unlock, rule-store, opening, receive-rule}
-use Rattle.holding.specs.Span.{entry}
-use Rattle.holding.specs.Span.Laws.{list-none, list-more}
-use Rattle.holding.specs.Half.Laws.{first-part}
-use Rattle.receiving.specs.Turn.{inTurn, unlocked, settled, inside, freed, contents}
+use Rattle.book.specs.Span.{entry}
+use Rattle.book.specs.Span.Laws.{list-none, list-more, some-part}
+use Rattle.receiving.specs.Turn.{inTurn, unlocked, settled, contentsOf, freed, nextTerms}
 
 -- ---- receive: settled, then the contents in turn
 by-turn : (r : Rule) (t : Term) (p : ℕ) (δ : Dictionary) (n : ℕ)
     → byRule r (compared t p δ) (opening t p δ n) (kept t p δ)
     ≡ (let d = byRule r (compared t p δ) (unlocked t p δ n) (kept t p δ) in followed d (inTurn (freed r t) (d .dictionary) n))
-unfolding byRule opening unlocked inTurn freed inside receive listed
+unfolding byRule opening unlocked inTurn freed contentsOf receive listed
 by-turn Rule.compare t p δ n = refl
 by-turn Rule.store t p δ n = refl
 by-turn Rule.unlock (Term.atom r) p δ n = refl
@@ -34,8 +33,8 @@ by-turn Rule.unlock (Term.cipher k ts) p δ n = refl
 by-turn Rule.unlock (Term.public t) p δ n = refl
 by-turn Rule.unlock (Term.private t) p δ n = refl
 
-pub receive-turn : (t : Term) (p : ℕ) (δ : Dictionary) (n : ℕ) → receive t p δ n ≡ followed (settled t p δ n) (inTurn (contents δ t) (settled t p δ n .dictionary) n)
-unfolding settled contents
+pub receive-turn : (t : Term) (p : ℕ) (δ : Dictionary) (n : ℕ) → receive t p δ n ≡ followed (settled t p δ n) (inTurn (nextTerms δ t) (settled t p δ n .dictionary) n)
+unfolding settled nextTerms
 receive-turn t p δ n = receive-rule t p δ n ∙ by-turn (rule δ t) t p δ n
 
 -- ---- settled and contents, by the rule
@@ -52,16 +51,16 @@ module _ (t : Term) (p : ℕ) (δ : Dictionary) (n : ℕ) where
   unfolding settled byRule
   settled-store e f = rw (rule-store δ t e f)
 
-pub contents-compare : (δ : Dictionary) (t : Term) → buildable δ t ≡ true → contents δ t ≡ Terms.nil
-unfolding contents freed
+pub contents-compare : (δ : Dictionary) (t : Term) → buildable δ t ≡ true → nextTerms δ t ≡ Terms.nil
+unfolding nextTerms freed
 contents-compare δ t e = rw (rule-compare δ t e)
 
-pub contents-unlock : (δ : Dictionary) (t : Term) → buildable δ t ≡ false → canOpen δ t ≡ true → contents δ t ≡ inside t
-unfolding contents freed
+pub contents-unlock : (δ : Dictionary) (t : Term) → buildable δ t ≡ false → canOpen δ t ≡ true → nextTerms δ t ≡ contentsOf t
+unfolding nextTerms freed
 contents-unlock δ t e f = rw (rule-unlock δ t e f)
 
-pub contents-store : (δ : Dictionary) (t : Term) → buildable δ t ≡ false → canOpen δ t ≡ false → contents δ t ≡ Terms.nil
-unfolding contents freed
+pub contents-store : (δ : Dictionary) (t : Term) → buildable δ t ≡ false → canOpen δ t ≡ false → nextTerms δ t ≡ Terms.nil
+unfolding nextTerms freed
 contents-store δ t e f = rw (rule-store δ t e f)
 
 -- ---- a cipher's row
@@ -91,7 +90,7 @@ module _ (b : List ℕ) (v : Valid b) (r : ℕ) (h : r < rows b) where
   pub cipher-row : kind b r ≡ 2 → term (table b) r ≡ Term.cipher (term (table b) (entry b (rowFirst b r))) (terms (table b) (listAt b (rowFirst b r + 1) (rowCount b r - 1)))
   unfolding form terms gathered table
   cipher-row k =
-      let s = list-more b (rowFirst b r) (rowCount b r) (first-part b v r h (omega arith)) in
+      let s = list-more b (rowFirst b r) (rowCount b r) (some-part b v r h (omega arith)) in
       let t = term-row (rows b) (table b) (formed b v) r h in
       rw (t, k, s)
 

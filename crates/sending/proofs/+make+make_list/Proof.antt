@@ -1,6 +1,6 @@
 -- `sending::make` and `sending::make_list` meet their contracts: parts are rows before their row, and a list is made one row after another. Assumes nothing.
 use Rattle.sending.proofs.Laws.{held-makes, atom-makes, parts-makes, none-makes, more-makes}
-use Rattle.holding.specs.Span.Laws.{span-row, span-tail}
+use Rattle.book.specs.Span.Laws.{span-row, span-tail}
 use Rattle.book.specs.Headed.Laws.{valid-headed}
 use Prim.Native.Nat.{_+_, _*_}
 use borrow.Author.Needs.{needs}
@@ -17,7 +17,7 @@ use Rattle.sending.proofs.+make+make_list.Lts-make_list as make-list-lt
 use Rattle.book.proofs.row_count.Reads as row-count-reads
 use Rattle.book.proofs.row_first.Reads as row-first-reads
 use Rattle.book.proofs.row_kind.Reads as row-kind-reads
-use Rattle.holding.proofs.entry.Reads as entry-reads
+use Rattle.book.proofs.entry.Reads as entry-reads
 use Rattle.sending.proofs.first_taken.Reads as first-taken-reads
 use Rattle.words.proofs.put2.Reads as put2-reads
 use Rattle.words.proofs.wide.Reads as wide-reads

@@ -26,13 +26,13 @@ use Rattle.translation.specs.Receive.{Event}
 use Rattle.translation.specs.Program.{sent}
 use Rattle.translation.specs.Listing.{eventWords, programWords}
 use Rattle.translation.specs.Listing.Laws.{program-append}
-use Rattle.holding.specs.Span.{entry}
-use Rattle.holding.specs.Span.Laws.{list-none, list-more}
+use Rattle.book.specs.Span.{entry}
+use Rattle.book.specs.Span.Laws.{list-none, list-more}
 use Rattle.holding.specs.View.{heldOf, rowOf, view}
 use Rattle.holding.specs.View.Laws.{view-row, view-set}
 use Rattle.holding.specs.AtRow.{concat, imagesAt}
 use Rattle.holding.specs.AtRow.Laws.{held-zero, count-all, words-all}
-use Rattle.sending.specs.Sending.{Making, making, allMaking, orTaken, firstTaken}
+use Rattle.sending.specs.Sending.{Making, making, allMaking, orTaken, firstIn}
 
 -- ---- making: nothing, one atom, one after another
 abbrev pub nothing : Dictionary → Making
@@ -119,40 +119,40 @@ or-untaken t x r z e = pick-true _ _ _ (eq-eqb x 0 z) ∙ pick-false _ _ _ e
 
 -- ---- firstTaken
 module _ (t : ℕ → Bool) where
-  pub first-append : (x : ℕ) (l m : List ℕ) → firstTaken t x (l ++ m) ≡ firstTaken t (firstTaken t x l) m
-  unfolding firstTaken
+  pub first-append : (x : ℕ) (l m : List ℕ) → firstIn t x (l ++ m) ≡ firstIn t (firstIn t x l) m
+  unfolding firstIn
   first-append x [] m = refl
   first-append x (r ∷ l) m = first-append (orTaken x (t r) r) l m
 
-  first-stays : (x : ℕ) (rs : List ℕ) → (x ≡ 0 → ⊥) → firstTaken t x rs ≡ x
-  unfolding firstTaken
+  first-stays : (x : ℕ) (rs : List ℕ) → (x ≡ 0 → ⊥) → firstIn t x rs ≡ x
+  unfolding firstIn
   first-stays x [] n = refl
-  first-stays x (r ∷ rs) n = ap (λ y. firstTaken t y rs) (or-stays (t r) x r n) ∙ first-stays x rs n
+  first-stays x (r ∷ rs) n = ap (λ y. firstIn t y rs) (or-stays (t r) x r n) ∙ first-stays x rs n
 
   -- none of the rows is taken, or one is and none before it
   record NoneTaken (rs : List ℕ) : Type 0 where
     none : (k : ℕ) → k < length rs → t (getD rs k 0) ≡ false
-    zeroed : firstTaken t 0 rs ≡ 0
+    zeroed : firstIn t 0 rs ≡ 0
 
   record OneTaken (rs : List ℕ) : Type 0 where
     place : ℕ
     within : place < length rs
     before : (k : ℕ) → k < place → t (getD rs k 0) ≡ false
     taken : t (getD rs place 0) ≡ true
-    noted : firstTaken t 0 rs ≡ 1 + getD rs place 0
+    noted : firstIn t 0 rs ≡ 1 + getD rs place 0
 
   none-or-one : (rs : List ℕ) → NoneTaken rs ⊎ OneTaken rs
-  unfolding firstTaken
+  unfolding firstIn
   none-or-one [] = inl (record { none = λ k h. absurd (omega arith); zeroed = refl })
   none-or-one (r ∷ rs) = go (t r) refl (none-or-one rs)
     where
       go : (x : Bool) → t r ≡ x → NoneTaken rs ⊎ OneTaken rs → NoneTaken (r ∷ rs) ⊎ OneTaken (r ∷ rs)
       go true e s =
-          let n = ap (λ y. firstTaken t y rs) (or-taken (t r) 0 r refl e) ∙ first-stays (r + 1) rs (λ z. absurd (omega arith)) in
+          let n = ap (λ y. firstIn t y rs) (or-taken (t r) 0 r refl e) ∙ first-stays (r + 1) rs (λ z. absurd (omega arith)) in
           inr (record { place = 0; within = omega arith; before = λ k h. absurd (omega arith); taken = e; noted = omega arith })
       go false e s = ⊎-elim
-          (λ (n : NoneTaken rs). inl (record { none = λ k h. later k h (n .none); zeroed = ap (λ y. firstTaken t y rs) (or-untaken (t r) 0 r refl e) ∙ n .zeroed }))
-          (λ (n : OneTaken rs). inr (record { place = suc (n .place); within = let w = n .within in omega arith; before = λ k h. sooner k (n .place) h (n .before); taken = n .taken; noted = ap (λ y. firstTaken t y rs) (or-untaken (t r) 0 r refl e) ∙ n .noted }))
+          (λ (n : NoneTaken rs). inl (record { none = λ k h. later k h (n .none); zeroed = ap (λ y. firstIn t y rs) (or-untaken (t r) 0 r refl e) ∙ n .zeroed }))
+          (λ (n : OneTaken rs). inr (record { place = suc (n .place); within = let w = n .within in omega arith; before = λ k h. sooner k (n .place) h (n .before); taken = n .taken; noted = ap (λ y. firstIn t y rs) (or-untaken (t r) 0 r refl e) ∙ n .noted }))
           s
         where
           later : (k : ℕ) → k < length (r ∷ rs) → ((j : ℕ) → j < length rs → t (getD rs j 0) ≡ false) → t (getD (r ∷ rs) k 0) ≡ false
@@ -165,14 +165,14 @@ module _ (t : ℕ → Bool) where
 
   module _ (rs : List ℕ) where
     -- the first of the rows that is taken, where one is
-    pub some-taken : any (λ j. t (getD rs j 0)) (length rs) ≡ true → firstTaken t 0 rs ≡ 1 + getD rs (first (λ j. t (getD rs j 0)) (length rs)) 0
+    pub some-taken : any (λ j. t (getD rs j 0)) (length rs) ≡ true → firstIn t 0 rs ≡ 1 + getD rs (first (λ j. t (getD rs j 0)) (length rs)) 0
     some-taken a = ⊎-elim
         (λ (n : NoneTaken rs). absurd (clash a (any-none (λ j. t (getD rs j 0)) (length rs) (n .none))))
         (λ (n : OneTaken rs). n .noted ∙ ap (λ k. 1 + getD rs k 0) (first-at (λ j. t (getD rs j 0)) (length rs) (n .place) (n .within) (n .before) (n .taken)))
         (none-or-one rs)
 
     -- 0 exactly if none is
-    pub none-taken : (firstTaken t 0 rs ≡ 0) ↔ (any (λ j. t (getD rs j 0)) (length rs) ≡ false)
+    pub none-taken : (firstIn t 0 rs ≡ 0) ↔ (any (λ j. t (getD rs j 0)) (length rs) ≡ false)
     none-taken = (
       λ z. ⊎-elim (λ (n : NoneTaken rs). any-none (λ j. t (getD rs j 0)) (length rs) (n .none)) (λ (n : OneTaken rs). let y = n .noted in absurd (omega arith)) (none-or-one rs),
       λ a. ⊎-elim (λ (n : NoneTaken rs). n .zeroed) (λ (n : OneTaken rs). absurd (clash (any-at (λ j. t (getD rs j 0)) (length rs) (n .place) (n .within) (n .taken)) a)) (none-or-one rs),

@@ -26,7 +26,7 @@ Holds δ t = isHeld (δ t) ≡ true
 
 -- ---- what building does, from the dictionary δ to ε: the atoms made are new, each made once, each in the term; and the
 -- dictionary gains them and nothing else
-pub record Making (δ ε : Dictionary) (made : List ℕ) (In : ℕ → Type 0) : Type 0 where
+pub record Building (δ ε : Dictionary) (made : List ℕ) (In : ℕ → Type 0) : Type 0 where
   pub grows : Grows δ ε
   pub fresh : (r : ℕ) → List·Memᴰ r made → Holds δ (Term.atom r) → ⊥
   pub gained : (r : ℕ) → List·Memᴰ r made → Holds ε (Term.atom r)
@@ -34,14 +34,14 @@ pub record Making (δ ε : Dictionary) (made : List ℕ) (In : ℕ → Type 0) :
   pub within : (r : ℕ) → List·Memᴰ r made → In r
   pub back : (u : Term) → Holds ε u → Holds δ u ⊎ ((r : ℕ) × (u ≡ Term.atom r) × List·Memᴰ r made)
 
-making-none : (δ : Dictionary) (In : ℕ → Type 0) → Making δ δ [] In
+making-none : (δ : Dictionary) (In : ℕ → Type 0) → Building δ δ [] In
 making-none δ In =
     record { grows = λ u h. h; fresh = λ r m h. List·Memᴰ·not-nil m; gained = λ r m. absurd (List·Memᴰ·not-nil m); once = tt; within = λ r m. absurd (List·Memᴰ·not-nil m); back = λ u h. inl h }
 
-making-in : {δ ε : Dictionary} {made : List ℕ} {In Out : ℕ → Type 0} → ((r : ℕ) → In r → Out r) → Making δ ε made In → Making δ ε made Out
+making-in : {δ ε : Dictionary} {made : List ℕ} {In Out : ℕ → Type 0} → ((r : ℕ) → In r → Out r) → Building δ ε made In → Building δ ε made Out
 making-in f m = record { grows = m .grows; fresh = m .fresh; gained = m .gained; once = m .once; within = λ r h. f r (m .within r h); back = m .back }
 
-making-then : {δ ε ζ : Dictionary} {a b : List ℕ} {In : ℕ → Type 0} → Making δ ε a In → Making ε ζ b In → Making δ ζ (a ++ b) In
+making-then : {δ ε ζ : Dictionary} {a b : List ℕ} {In : ℕ → Type 0} → Building δ ε a In → Building ε ζ b In → Building δ ζ (a ++ b) In
 making-then {a = a} {b = b} p q =
     record {
       grows = λ u h. q .grows u (p .grows u h);
@@ -52,7 +52,7 @@ making-then {a = a} {b = b} p q =
       back = λ u h. ⊎-elim (λ x. ⊎-elim (λ y. inl y) (λ y. inr (y .0, y .1, Memᴰ·append-left b (y .2))) (p .back u x)) (λ x. inr (x .0, x .1, Memᴰ·append-right a (x .2))) (q .back u h);
     }
 
-making-one : (r : ℕ) (δ : Dictionary) → isHeld (δ (Term.atom r)) ≡ false → Making δ (enter δ (Term.atom r) Held.itself) (r ∷ []) (λ q. Occurs q (Term.atom r))
+making-one : (r : ℕ) (δ : Dictionary) → isHeld (δ (Term.atom r)) ≡ false → Building δ (enter δ (Term.atom r) Held.itself) (r ∷ []) (λ q. Occurs q (Term.atom r))
 making-one r δ e =
     record {
       grows = enter-grows δ (Term.atom r) Held.itself refl;
@@ -72,7 +72,7 @@ built-or P Held.itself t δ b f g = f _ refl (λ j. refl)
 built-or P (Held.placeholder x) t δ b f g = f _ refl (λ j. refl)
 
 abbrev Makes : Term → Dictionary → Built → Type 0
-Makes t δ b = Making δ (b .dictionary) (b .made) (λ r. Occurs r t)
+Makes t δ b = Building δ (b .dictionary) (b .made) (λ r. Occurs r t)
 
 or-makes : (t : Term) (δ : Dictionary) (b : Built) → (isHeld (δ t) ≡ false → Makes t δ b) → Makes t δ (builtOr (δ t) t δ b)
 or-makes t δ b g =
@@ -89,7 +89,7 @@ mutual
   build-makes (Term.public t) δ = or-makes (Term.public t) δ _ (λ e. making-in (λ r h. Occurs.public h) (build-makes t δ))
   build-makes (Term.private t) δ = or-makes (Term.private t) δ _ (λ e. making-in (λ r h. Occurs.private h) (build-makes t δ))
 
-  pub buildAll-makes : (ts : Terms) (δ : Dictionary) → Making δ ((buildAll ts δ) .dictionary) ((buildAll ts δ) .made) (λ r. OccursIn r ts)
+  pub buildAll-makes : (ts : Terms) (δ : Dictionary) → Building δ ((buildAll ts δ) .dictionary) ((buildAll ts δ) .made) (λ r. OccursIn r ts)
   buildAll-makes Terms.nil δ = making-none δ _
   buildAll-makes (Terms.cons t ts) δ = making-then (making-in (λ r h. OccursIn.here h) (build-makes t δ)) (making-in (λ r h. OccursIn.later h) (buildAll-makes ts _))
 

@@ -16,7 +16,7 @@ use Rattle.book.specs.Layout.{table, rows}
 use Rattle.book.specs.Valid.{Valid}
 use Rattle.book.specs.Valid.Laws.{formed}
 use Rattle.translation.specs.Receive.{Event}
-use Rattle.translation.specs.Program.{own}
+use Rattle.translation.specs.Program.{actsOf}
 use Rattle.translation.specs.Program.Laws.{program-own}
 use Rattle.translation.specs.Narration.{narration, knownTo, programOf}
 use Rattle.translation.specs.Listing.{pairWords, eventWords, programWords, partWords}
@@ -62,6 +62,6 @@ module _ (b c : List ℕ) (v : Valid b) (w : Valid c) (s : SameTable b c) where
       ∙ ap (λ n. first (λ r. choose (same (term (table c) r) t) true false) n) (s .many)
 
   -- with equal knowledge and equal own parts, the words of the party's program are equal
-  pub part-own : (p : ℕ) → knownTo (narration b) p ≡ knownTo (narration c) p → own p 0 (narration b .says) ≡ own p 0 (narration c .says) → partWords b p ≡ partWords c p
+  pub part-own : (p : ℕ) → knownTo (narration b) p ≡ knownTo (narration c) p → actsOf p 0 (narration b .says) ≡ actsOf p 0 (narration c .says) → partWords b p ≡ partWords c p
   unfolding partWords programOf
   part-own p k o = ap₂ programWords (mathlib.Core.Path.fun-ext same-numbers) (program-own k o)

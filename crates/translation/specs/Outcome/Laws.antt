@@ -19,14 +19,15 @@ use Rattle.book.specs.Said.{accepted, refusalSays}
 use Rattle.book.specs.Said.Laws.{refusal-number}
 use Rattle.book.specs.declared.Refusal.{Refusal}
 use Rattle.book.specs.Refusals.{Line, line, firstOf, readingTable, verdict}
-use Rattle.book.specs.Refusals.Laws.{Ruled, AllKeep, append-keep, keep-append, lines, lines-append, Cause, Apart, apart-append, given, caused, all-keep, none-given, firstOf-none, firstOf-stop}
+use Rattle.book.specs.Ruled.{Ruled, AllKeep, lines, Cause, Apart}
+use Rattle.book.specs.Refusals.Laws.{append-keep, keep-append, lines-append, apart-append, given, caused, all-keep, none-given, firstOf-none, firstOf-stop}
 use Rattle.book.specs.Valid.{Valid}
 use Rattle.book.specs.Valid.Laws.{nine, reading-lines, keep-valid, valid-keep}
 use Rattle.translation.specs.Narration.{narration}
-use Rattle.translation.specs.Taken.{unplayable, firstTaken, Playable}
-use Rattle.translation.specs.Taken.Laws.{playable-exact, NoDerivation, unplayable-exact, FirstTaken, first-taken}
+use Rattle.translation.specs.Taken.{unplayable, firstTaken, Playable, NoDerivation, FirstTaken}
+use Rattle.translation.specs.Taken.Laws.{playable-exact, unplayable-exact, first-taken}
 use Rattle.translation.specs.Listing.{listing}
-use Rattle.translation.specs.Outcome.{takenLine, roomLine, acceptance, translationSays, Outcome, laid, outcome, came}
+use Rattle.translation.specs.Outcome.{takenLine, roomLine, acceptance, translationSays, Outcome, laid, outcome, came, Plays, Unplayable, Promise}
 use Rattle.translation.specs.declared.Answer.the-variants.{Written, Refused}
 
 -- ---- refusal 12 is the last, behind the lines xs: "No room is said only when there is none."
@@ -130,17 +131,7 @@ module _ (b : List ℕ) where
       came-refused _ out ws f (book-first ls rest (λ z. refusal-number f (ap (λ (x : Said.Said). x .number) e ∙ z)) ∙ sym e)
 
   -- ---- refusal 10
-  -- the smallest step with a message that has no derivation from what its sender holds by then and atoms that are nobody's yet,
-  -- and the first taken atom that it would make, in building order
-  pub record Unplayable (vs : List ℕ) : Type 0 where
-    pub step : ℕ
-    pub within : step < steps b
-    pub none : NoDerivation (narration b) step
-    pub smallest : (k : ℕ) → k < step → Playable (narration b) k
-    pub atom : FirstTaken (narration b) step
-    pub says : vs ≡ step ∷ firstTaken (narration b) step ∷ []
-
-  cause-unplayable : (vs : List ℕ) → Cause taken-line vs → Unplayable vs
+  cause-unplayable : (vs : List ℕ) → Cause taken-line vs → Unplayable b vs
   cause-unplayable vs c =
       record {
         step = c .place;
@@ -155,58 +146,54 @@ module _ (b : List ℕ) where
       go true e = e
       go false e = absurd (c .broken (playable-exact (narration b) (c .place) .0 e))
 
-  unplayable-cause : (vs : List ℕ) → Unplayable vs → Cause taken-line vs
+  unplayable-cause : (vs : List ℕ) → Unplayable b vs → Cause taken-line vs
   unplayable-cause vs u =
       record { place = u .step; within = u .within; broken = unplayable-exact (narration b) (u .step) .1 (u .none); smallest = u .smallest; says = u .says }
 
   -- whatever lines ys stand behind
-  pub taken-exact : (ys : List Ruled) (rest : Said.Said) → Apart 10 ys → (rest .number ≡ 10 → ⊥) → (vs : List ℕ)
-      → (firstOf (lines (nine b) ++ (taken-line .line ∷ lines ys)) rest ≡ Said.said 10 vs) ↔ (Valid b × Unplayable vs)
-  taken-exact ys rest a n vs = (
+  pub takenLine-exact : (ys : List Ruled) (rest : Said.Said) → Apart 10 ys → (rest .number ≡ 10 → ⊥) → (vs : List ℕ)
+      → (firstOf (lines (nine b) ++ (taken-line .line ∷ lines ys)) rest ≡ Said.said 10 vs) ↔ (Valid b × Unplayable b vs)
+  takenLine-exact ys rest a n vs = (
     λ e. (let z = caused (nine b) taken-line ys rest vs (omega arith) a n e in (keep-valid b (z .0), cause-unplayable vs (z .1))),
     λ u. given (nine b) taken-line ys rest vs (valid-keep b (u .0)) (unplayable-cause vs (u .1)),
   )
 
-  pub exactly-10 : (out vs : List ℕ) → (translationSays b out ≡ Said.said 10 vs) ↔ (Valid b × Unplayable vs)
+  pub exactly-10 : (out vs : List ℕ) → (translationSays b out ≡ Said.said 10 vs) ↔ (Valid b × Unplayable b vs)
   exactly-10 out vs =
-      let r = taken-exact (room-line (length out) (length (listing b)) ∷ []) written (omega arith) (omega arith) vs in
+      let r = takenLine-exact (room-line (length out) (length (listing b)) ∷ []) written (omega arith) (omega arith) vs in
       (λ e. r .0 (sym (says-lines out) ∙ e), λ u. says-lines out ∙ r .1 u)
 
   -- the same with no buffer
-  pub accept-10 : (vs : List ℕ) → (acceptance b ≡ Said.said 10 vs) ↔ (Valid b × Unplayable vs)
-  accept-10 vs = let r = taken-exact [] accepted (omega arith) (omega arith) vs in (λ e. r .0 (sym accept-lines ∙ e), λ u. accept-lines ∙ r .1 u)
+  pub accept-10 : (vs : List ℕ) → (acceptance b ≡ Said.said 10 vs) ↔ (Valid b × Unplayable b vs)
+  accept-10 vs = let r = takenLine-exact [] accepted (omega arith) (omega arith) vs in (λ e. r .0 (sym accept-lines ∙ e), λ u. accept-lines ∙ r .1 u)
 
   -- ---- a playable book
-  pub record Plays : Type 0 where
-    pub valid : Valid b
-    pub playable : (s : ℕ) → s < steps b → Playable (narration b) s
-
-  pub keep-plays : AllKeep ten → Plays
+  pub keep-plays : AllKeep ten → Plays b
   keep-plays k = let r = keep-append (nine b) (taken-line ∷ []) k in record { valid = keep-valid b (r .0); playable = r .1 .0 }
 
-  pub plays-keep : Plays → AllKeep ten
+  pub plays-keep : Plays b → AllKeep ten
   plays-keep p = append-keep (nine b) (taken-line ∷ []) (valid-keep b (p .valid)) (p .playable, tt)
 
-  pub accepted-plays : (acceptance b ≡ accepted) ↔ Plays
+  pub accepted-plays : (acceptance b ≡ accepted) ↔ Plays b
   accepted-plays = (
     λ e. keep-plays (none-given ten accepted (omega arith) (ap (λ (s : Said.Said). s .number) (sym accept-lines ∙ e))),
     λ p. accept-lines ∙ all-keep ten [] accepted (plays-keep p) ∙ firstOf-none accepted,
   )
 
   -- ---- refusal 12
-  pub exactly-12 : (out vs : List ℕ) → (translationSays b out ≡ Said.said 12 vs) ↔ (Plays × (length out < length (listing b)) × (vs ≡ length (listing b) ∷ []))
+  pub exactly-12 : (out vs : List ℕ) → (translationSays b out ≡ Said.said 12 vs) ↔ (Plays b × (length out < length (listing b)) × (vs ≡ length (listing b) ∷ []))
   exactly-12 out vs =
       let r = room-exact ten (length out) (length (listing b)) (omega arith) vs in
       (λ e. (let z = r .0 (sym (says-lines out) ∙ e) in (keep-plays (z .0), z .1, z .2)), λ u. says-lines out ∙ r .1 (plays-keep (u .0), u .1, u .2))
 
   -- ---- acceptance
-  pub exactly-written : (out : List ℕ) → (translationSays b out .number ≡ 0) ↔ (Plays × (length (listing b) ≤ length out))
+  pub exactly-written : (out : List ℕ) → (translationSays b out .number ≡ 0) ↔ (Plays b × (length (listing b) ≤ length out))
   exactly-written out =
       let n = ap (λ (s : Said.Said). s .number) (says-lines out) in
       let r = fits-exact ten (length out) (length (listing b)) (omega arith) in
       (λ e. (let z = r .0 (sym n ∙ e) in (keep-plays (z .0), z .1)), λ u. n ∙ r .1 (plays-keep (u .0), u .1))
 
-  pub written-says : (out : List ℕ) → Plays → length (listing b) ≤ length out → translationSays b out ≡ written
+  pub written-says : (out : List ℕ) → Plays b → length (listing b) ≤ length out → translationSays b out ≡ written
   written-says out p h = says-lines out ∙ room-says ten (length out) (length (listing b)) (plays-keep p) h
 
   -- a refusal changes no lent word
@@ -225,9 +212,5 @@ module _ (b : List ℕ) where
   written-past out e = laid-past (translationSays b out) out (listing b) e (exactly-written out .0 e .1)
 
 -- ---- no two outcomes keep one promise
--- what a translator promises of the words b and the lent words out
-abbrev pub Promise : List ℕ → List ℕ → Outcome → Type 0
-Promise b out o = o ≡ outcome b out
-
 pub outcome-one : (b out : List ℕ) (o p : Outcome) → Promise b out o → Promise b out p → o ≡ p
 outcome-one b out o p e f = e ∙ sym f

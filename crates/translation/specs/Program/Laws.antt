@@ -12,21 +12,21 @@ use Rattle.words.specs.Choice.Laws.{pick-true, pick-false, pick-ap}
 use Rattle.terms.specs.Term.{Term}
 use Rattle.translation.specs.Dictionary.{Dictionary}
 use Rattle.translation.specs.Receive.{Did, followed}
-use Rattle.translation.specs.Program.{Step, Act, own, act, walk, program}
+use Rattle.translation.specs.Program.{Step, Act, actsOf, act, walk, program}
 
 -- ---- own: one step
 module _ (p i : ℕ) (s : Step) (ss : List Step) where
-  pub own-sends : eqb (s .sender) p ≡ true → own p i (s ∷ ss) ≡ Act.sends i (s .messages) ∷ own p (suc i) ss
-  unfolding own
-  own-sends e = pick-true _ _ _ e
+  pub acts-sends : eqb (s .sender) p ≡ true → actsOf p i (s ∷ ss) ≡ Act.sends i (s .messages) ∷ actsOf p (suc i) ss
+  unfolding actsOf
+  acts-sends e = pick-true _ _ _ e
 
-  pub own-receives : eqb (s .sender) p ≡ false → eqb (s .receiver) p ≡ true → own p i (s ∷ ss) ≡ Act.receives i (s .messages) ∷ own p (suc i) ss
-  unfolding own
-  own-receives e f = rw (pick-false (eqb (s .sender) p) (Act.sends i (s .messages) ∷ own p (suc i) ss) (pick (eqb (s .receiver) p) (Act.receives i (s .messages) ∷ own p (suc i) ss) (own p (suc i) ss)) e) (pick-true _ _ _ f)
+  pub acts-receives : eqb (s .sender) p ≡ false → eqb (s .receiver) p ≡ true → actsOf p i (s ∷ ss) ≡ Act.receives i (s .messages) ∷ actsOf p (suc i) ss
+  unfolding actsOf
+  acts-receives e f = rw (pick-false (eqb (s .sender) p) (Act.sends i (s .messages) ∷ actsOf p (suc i) ss) (pick (eqb (s .receiver) p) (Act.receives i (s .messages) ∷ actsOf p (suc i) ss) (actsOf p (suc i) ss)) e) (pick-true _ _ _ f)
 
-  pub own-idle : eqb (s .sender) p ≡ false → eqb (s .receiver) p ≡ false → own p i (s ∷ ss) ≡ own p (suc i) ss
-  unfolding own
-  own-idle e f = rw (pick-false (eqb (s .sender) p) (Act.sends i (s .messages) ∷ own p (suc i) ss) (pick (eqb (s .receiver) p) (Act.receives i (s .messages) ∷ own p (suc i) ss) (own p (suc i) ss)) e) (pick-false _ _ _ f)
+  pub acts-idle : eqb (s .sender) p ≡ false → eqb (s .receiver) p ≡ false → actsOf p i (s ∷ ss) ≡ actsOf p (suc i) ss
+  unfolding actsOf
+  acts-idle e f = rw (pick-false (eqb (s .sender) p) (Act.sends i (s .messages) ∷ actsOf p (suc i) ss) (pick (eqb (s .receiver) p) (Act.receives i (s .messages) ∷ actsOf p (suc i) ss) (actsOf p (suc i) ss)) e) (pick-false _ _ _ f)
 
 -- ---- program: equal knowledge and equal own parts give equal programs
 pub program-own : {k l : List Term} {a c : List Act} → k ≡ l → a ≡ c → program k a ≡ program l c
@@ -36,14 +36,14 @@ program-own e f = ap₂ program e f
 pick-two : {A B : Type 0} (f : A → B) (c d : Bool) (x y z : A) → f (pick c x (pick d y z)) ≡ pick c (f x) (pick d (f y) (f z))
 pick-two f c d x y z = pick-ap f c x (pick d y z) ∙ ap (pick c (f x)) (pick-ap f d y z)
 
-pub own-append : (p i : ℕ) (a b : List Step) → own p i (a ++ b) ≡ own p i a ++ own p (i + length a) b
-unfolding own
-own-append p i [] b = rw add-zero
-own-append p i (s ∷ a) b =
+pub acts-append : (p i : ℕ) (a b : List Step) → actsOf p i (a ++ b) ≡ actsOf p i a ++ actsOf p (i + length a) b
+unfolding actsOf
+acts-append p i [] b = rw add-zero
+acts-append p i (s ∷ a) b =
     let z : suc i + length a ≡ i + suc (length a) = omega arith in
-    let e : own p (suc i) (a ++ b) ≡ own p (suc i) a ++ own p (i + suc (length a)) b = own-append p (suc i) a b ∙ ap (λ n. own p (suc i) a ++ own p n b) z in
-    rw e (sym (pick-two (λ (l : List Act). l ++ own p (i + suc (length a)) b) (eqb (s .sender) p) (eqb (s .receiver) p)
-    (Act.sends i (s .messages) ∷ own p (suc i) a) (Act.receives i (s .messages) ∷ own p (suc i) a) (own p (suc i) a)))
+    let e : actsOf p (suc i) (a ++ b) ≡ actsOf p (suc i) a ++ actsOf p (i + suc (length a)) b = acts-append p (suc i) a b ∙ ap (λ n. actsOf p (suc i) a ++ actsOf p n b) z in
+    rw e (sym (pick-two (λ (l : List Act). l ++ actsOf p (i + suc (length a)) b) (eqb (s .sender) p) (eqb (s .receiver) p)
+    (Act.sends i (s .messages) ∷ actsOf p (suc i) a) (Act.receives i (s .messages) ∷ actsOf p (suc i) a) (actsOf p (suc i) a)))
 
 pub followed-assoc : (c d e : Did) → followed (followed c d) e ≡ followed c (followed d e)
 followed-assoc c d e =

@@ -22,7 +22,7 @@ use Rattle.translation.specs.Build.Laws.{buildAll-makes}
 use Rattle.translation.specs.Along.Laws.{buildAll-images}
 use Rattle.translation.specs.Receive.{Event, Did, nothing, followed, compared, kept, opened, receive, receiveAll}
 use Rattle.translation.specs.Receive.Laws.{by-rule}
-use Rattle.translation.specs.Program.{Step, Act, own, arrived, act, walk, walked, program}
+use Rattle.translation.specs.Program.{Step, Act, actsOf, arrived, act, walk, walked, program}
 use Rattle.translation.specs.Narration.{stepAt, narration, knownTo, programOf}
 use Rattle.translation.specs.Rows.{Names, NamesAll, StoredAll, ProgramNames}
 use Rattle.words.specs.Choice.Laws.{pick-ind}
@@ -171,8 +171,8 @@ module _ (tab : Table) (n : ℕ) (ok : Formed n tab) where
   StepsRows [] = Unit {0}
   StepsRows (s ∷ ss) = AllRows tab n (s .messages) × StepsRows ss
 
-  pub own-rows : (p i : ℕ) (ss : List Step) → StepsRows ss → ActsRows (own p i ss)
-  unfolding own
+  pub own-rows : (p i : ℕ) (ss : List Step) → StepsRows ss → ActsRows (actsOf p i ss)
+  unfolding actsOf
   own-rows p i [] h = tt
   own-rows p i (s ∷ ss) h =
       let rest = own-rows p (suc i) ss (h .1) in

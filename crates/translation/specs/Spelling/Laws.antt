@@ -12,7 +12,7 @@ use Rattle.terms.specs.Term.{Term}
 use Rattle.terms.specs.Table as Table
 use Rattle.terms.specs.Table.{number}
 use Rattle.terms.specs.Table.Laws.{number-back}
-use Rattle.terms.specs.Image.{Image, Images, count, words, wordsOf}
+use Rattle.terms.specs.Image.{Image, Images, countImages, words, wordsOf}
 use Rattle.book.specs.Layout.{table, rows, parties}
 use Rattle.book.specs.Valid.{Valid}
 use Rattle.book.specs.Valid.Laws.{formed}
@@ -73,7 +73,7 @@ module _ (term : ℕ → Term) (row : Term → ℕ) where
   Back t = term (row t) ≡ t
 
   mutual
-    unfolding readImage words count depth then
+    unfolding readImage words countImages depth then
 
     image-back : {i : Image} (f : ℕ) (w : List ℕ) → depth i ≤ f → Names Back i → readImage term f (words row i ++ w) ≡ some (i, w)
     image-back {i} zero w l h = let z = depth-one i in absurd (omega arith)
@@ -84,7 +84,7 @@ module _ (term : ℕ → Term) (row : Term → ℕ) where
     image-back (suc f) w l (Names.public h) = rw (image-back f w (omega arith) h)
     image-back (suc f) w l (Names.private h) = rw (image-back f w (omega arith) h)
 
-    images-back : {is : Images} (f : ℕ) (w : List ℕ) → depths is ≤ f → NamesAll Back is → readImages term f (count is) (wordsOf row is ++ w) ≡ some (is, w)
+    images-back : {is : Images} (f : ℕ) (w : List ℕ) → depths is ≤ f → NamesAll Back is → readImages term f (countImages is) (wordsOf row is ++ w) ≡ some (is, w)
     images-back {is} zero w l h = let z = depths-one is in absurd (omega arith)
     images-back (suc f) w l NamesAll.nil = refl
     images-back (suc f) w l (NamesAll.cons {is = is} h k) = rw (append-assoc, image-back f (wordsOf row is ++ w) (omega arith) h, images-back f w (omega arith) k)

@@ -21,7 +21,7 @@ use Rattle.translation.specs.Build.{buildAll}
 use Rattle.translation.specs.Build.Laws.{buildAll-makes}
 use Rattle.translation.specs.Receive.{Did, nothing, followed, rule, byRule, compared, kept, receive, receiveAll}
 use Rattle.translation.specs.Receive.Laws.{rule-compare, by-rule}
-use Rattle.translation.specs.Program.{Act, own, act, walk, walked}
+use Rattle.translation.specs.Program.{Act, actsOf, act, walk, walked}
 use Rattle.translation.specs.Narration.{stepAt}
 use Rattle.translation.specs.Rows.Laws.{ActRows, ActsRows, own-rows, steps-rows}
 use Rattle.translation.specs.Stored.{rowsHeld}
@@ -107,7 +107,7 @@ module _ (tab : Table) (n : ℕ) where
     walk-few acts δ m r = let h = walk-raises acts δ m r in let k = held-most (walk acts δ m .dictionary) in omega arith
 
 -- ---- for a valid book: a party's first i steps, whatever it knows
-pub walked-few : (b : List ℕ) → Valid b → (known : List Term) (p i : ℕ) → i ≤ steps b → length (walked known (own p 0 (values (stepAt b) 0 i)) .stored) ≤ rows b
+pub walked-few : (b : List ℕ) → Valid b → (known : List Term) (p i : ℕ) → i ≤ steps b → length (walked known (actsOf p 0 (values (stepAt b) 0 i)) .stored) ≤ rows b
 unfolding walked
 walked-few b v known p i h =
     walk-few (table b) (rows b) (formed b v) _ (start known) 0 (own-rows (table b) (rows b) (formed b v) p 0 _ (steps-rows b v 0 i (omega arith)))

@@ -19,7 +19,7 @@ use Rattle.translation.specs.Build.{build}
 use Rattle.translation.specs.Build.Laws.{AllFree, derives-free, free-derives, derivesAll-free, freeAll-derives}
 use Rattle.translation.specs.Program.{Step}
 use Rattle.translation.specs.Narration.{Narration, stepAt, narration}
-use Rattle.translation.specs.Taken.{joined, said, claimed, occursInOne, taken, Taken, Nobodys, stepOf, holdsBefore, madeAt, takenAt, unplayable, firstTaken, Playable}
+use Rattle.translation.specs.Taken.{joined, allMessages, claimed, occursInOne, taken, Taken, Nobodys, stepOf, holdsBefore, madeAt, takenAt, unplayable, firstTaken, Playable, NoDerivation, FirstTaken}
 
 -- ---- the steps of a book
 module _ (b : List ℕ) where
@@ -60,19 +60,19 @@ joined-in {a = a} l (k ∷ ls) m h =
     let rest = joined-in l ls in
     ⊎-elim (λ e. Memᴰ·append-left (joined ls) (subst (List·Memᴰ a) e h)) (λ n. Memᴰ·append-right k (rest n h)) (List·Memᴰ·cases-cons m)
 
-in-said : {t : Term} (ss : List Step) → List·Memᴰ t (said ss) → (a : Step) × List·Memᴰ a ss × List·Memᴰ t (listed (a .messages))
-unfolding said
+in-said : {t : Term} (ss : List Step) → List·Memᴰ t (allMessages ss) → (a : Step) × List·Memᴰ a ss × List·Memᴰ t (listed (a .messages))
+unfolding allMessages
 in-said [] m = absurd (List·Memᴰ·not-nil m)
 in-said (s ∷ ss) m =
     let rest = in-said ss in
     ⊎-elim (λ x. (s, List·Memᴰ·head refl, x)) (λ y. let z = rest y in (z .0, List·Memᴰ·tail (z .1), z .2)) (List·Memᴰ·append-cases (listed (s .messages)) m)
 
-said-in : {t : Term} (a : Step) (ss : List Step) → List·Memᴰ a ss → List·Memᴰ t (listed (a .messages)) → List·Memᴰ t (said ss)
-unfolding said
+said-in : {t : Term} (a : Step) (ss : List Step) → List·Memᴰ a ss → List·Memᴰ t (listed (a .messages)) → List·Memᴰ t (allMessages ss)
+unfolding allMessages
 said-in a [] m h = absurd (List·Memᴰ·not-nil m)
 said-in {t} a (s ∷ ss) m h =
     let rest = said-in a ss in
-    ⊎-elim (λ e. Memᴰ·append-left (said ss) (subst (λ (z : Step). List·Memᴰ t (listed (z .messages))) e h)) (λ n. Memᴰ·append-right (listed (s .messages)) (rest n h)) (List·Memᴰ·cases-cons m)
+    ⊎-elim (λ e. Memᴰ·append-left (allMessages ss) (subst (λ (z : Step). List·Memᴰ t (listed (z .messages))) e h)) (λ n. Memᴰ·append-right (listed (s .messages)) (rest n h)) (List·Memᴰ·cases-cons m)
 
 module _ (N : Narration) (s q : ℕ) where
   to-taken : taken N s q ≡ true → Taken N s q
@@ -129,15 +129,7 @@ module _ (N : Narration) (s : ℕ) where
   unfolding madeAt
   playable-exact = (λ e. freeAll-derives (Nobodys N s) _ _ (none-free e), λ d. free-none (derivesAll-free (Nobodys N s) _ _ d))
 
-  -- the row of the refusal: taken, made at this step, and no atom made before it is taken
-  pub record FirstTaken : Type 0 where
-    pub place : ℕ
-    pub within : place < length (madeAt N s)
-    pub row : firstTaken N s ≡ getD (madeAt N s) place 0
-    pub isTaken : Taken N s (getD (madeAt N s) place 0)
-    pub first-such : (k : ℕ) → k < place → Nobodys N s (getD (madeAt N s) k 0)
-
-  pub first-taken : unplayable N s ≡ true → FirstTaken
+  pub first-taken : unplayable N s ≡ true → FirstTaken N s
   unfolding unplayable firstTaken takenAt
   first-taken e =
       let l = any-first (takenAt N s) (length (madeAt N s)) e in
@@ -183,12 +175,6 @@ message-not Terms.nil m d = absurd (List·Memᴰ·not-nil m)
 message-not {free} {δ} (Terms.cons u ts) m (DerivesAll.cons d e) =
     let rest = message-not ts in
     ⊎-elim (λ p. subst (Derives free δ) (sym p) d) (λ n. rest n e) (List·Memᴰ·cases-cons m)
-
--- some message of step s has no derivation
-pub record NoDerivation (N : Narration) (s : ℕ) : Type 0 where
-  pub message : Term
-  pub among : List·Memᴰ message (listed (stepOf N s .messages))
-  pub none : Derives (Nobodys N s) (holdsBefore N (stepOf N s .sender) s) message → ⊥
 
 pub unplayable-exact : (N : Narration) (s : ℕ) → (Playable N s → ⊥) ↔ NoDerivation N s
 unplayable-exact N s = (

@@ -2,7 +2,7 @@
 use mathlib.Core.Logic.{inl, inr}
 use Prim.Native.Nat.{_-_}
 use Rattle.book.specs.Headed.Laws.{valid-headed}
-use Rattle.translator.specs.Found.Laws.{among-within}
+use Rattle.translator.specs.Among.Laws.{among-within}
 use Rattle.translator.proofs.Laws.{Measuring, heads-start, few-parties, heads-on, heads-off, heads-end}
 use borrow.Author.Needs.{needs}
 use native.Mathlib.Omega.{arith}

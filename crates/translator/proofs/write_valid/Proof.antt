@@ -1,5 +1,5 @@
 -- `translator::write_valid` meets its contract: refusal 10, then 12, and then the output. Assumes nothing.
-use Rattle.translator.specs.Found.Laws.{among-nobody}
+use Rattle.translator.specs.Among.Laws.{among-nobody}
 use Rattle.translator.specs.Came.{taken-came, room-came, output-came}
 use borrow.Author.Needs.{needs}
 use Rattle.translator.proofs.write_valid.Statement.{statement}

@@ -1,6 +1,6 @@
 -- `walking::act` meets its contract: by who the party is in the step. Assumes nothing.
 use Rattle.book.specs.Headed.Laws.{valid-headed}
-use Rattle.holding.specs.Span.Laws.{span-step}
+use Rattle.book.specs.Span.Laws.{span-step}
 use Rattle.walking.proofs.Laws.{acts-send, acts-receive, acts-empty, acts-idle, step-span, step-fits}
 use native.Mathlib.Omega.{arith}
 use borrow.Author.Needs.{needs}

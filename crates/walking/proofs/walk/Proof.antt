@@ -6,7 +6,7 @@ use Rattle.walking.proofs.Laws.{along-start, along-on, along-fits, alon
 use Rattle.walking.specs.Walk.{Unrefused}
 use Rattle.walking.specs.Found.Laws.{found-exact, found-here, unrefused-on, unrefused-skip}
 use Rattle.walking.specs.Walking.{Along}
-use Rattle.walking.specs.Long.Laws.{all-within}
+use Rattle.translation.specs.Long.Laws.{all-within}
 use Rattle.holding.specs.View.{rowOf}
 use Prim.Native.Nat.{_+_, _-_, _≤_}
 use Rattle.book.specs.Headed.Laws.{valid-headed}

@@ -16,13 +16,15 @@ use Rattle.translation.specs.Dictionary.{Dictionary}
 use Rattle.translation.specs.Build.{buildAll}
 use Rattle.translation.specs.Narration.{stepAt, narration}
 use Rattle.translation.specs.Taken.{taken, holdsBefore, madeAt, takenAt, unplayable, firstTaken}
-use Rattle.holding.specs.Since.{takenIn}
-use Rattle.sending.specs.Sending.{firstTaken as firstIn}
+use Rattle.claims.specs.Since.{takenIn}
+use Rattle.sending.specs.Sending.{firstIn}
 use Rattle.sending.specs.Sending.Laws.{some-taken, none-taken}
 use Rattle.claims.specs.Claims.{Claims}
 use Rattle.translation.specs.Taken.Laws.{step-is}
-use Rattle.walking.specs.Walk.{before, refusedFor, Unrefused, NextOwn}
-use Rattle.walking.specs.Walk.Laws.{before-holds, refused-idle}
+use Rattle.translation.specs.Steps.{before}
+use Rattle.walking.specs.Walk.{refusedFor, Unrefused, IdleUntil}
+use Rattle.translation.specs.Steps.Laws.{before-holds}
+use Rattle.walking.specs.Walk.Laws.{refused-idle}
 use Rattle.walking.specs.Found.{foundAt, FoundBefore}
 
 module _ (b : List ℕ) (s : ℕ) (h : s < steps b) where
@@ -74,7 +76,7 @@ module _ (b : List ℕ) (p i x : ℕ) (e : x ≡ pick (refusedFor b p i) (firstT
       go false r d = r
 
 -- ---- steps in which the party has no part
-pub unrefused-skip : {b : List ℕ} {p i r : ℕ} → NextOwn b p i r → Unrefused b p i → Unrefused b p r
+pub unrefused-skip : {b : List ℕ} {p i r : ℕ} → IdleUntil b p i r → Unrefused b p i → Unrefused b p r
 unrefused-skip {b} {p} {i} w u k l = elim (decLt k i) [ yes h ↦ u k h | no h ↦ refused-idle b p k (w .idle k (omega arith) l .0) ]
 
 -- ---- where nothing is refused, nothing is found

@@ -1,86 +1,18 @@
 -- Laws of a party's walk. Assumes nothing.
 use Prim.Native.Nat.{ℕ, zero, suc, _+_, _-_, _≤_, _<_}
-use native.Mathlib.Nat.{zero-add, add-zero, add-suc}
+use native.Mathlib.Nat.{add-zero, add-suc}
 use native.Mathlib.Omega.{arith}
-use mathlib.Core.List.{List, [], _∷_, _++_, map, append-nil}
+use mathlib.Core.List.{List}
 use mathlib.Core.Bool.{false}
-use mathlib.Core.Path.{_≡_, refl, sym, ap, ap₂, _∙_}
+use mathlib.Core.Path.{_≡_, sym, ap, _∙_}
 use lib.ListN.{length}
-use borrow.Author.Tests.{eq-eqb, ne-eqb}
+use borrow.Author.Tests.{ne-eqb}
 use Rattle.words.specs.Choice.Laws.{pick-false}
-use Rattle.words.specs.Run.{values}
-use Rattle.words.specs.Run.Laws.{values-last, values-length, values-getD, values-take}
-use Rattle.terms.specs.Term.{count}
-use Rattle.terms.specs.Table.{term, terms}
-use Rattle.book.specs.Layout.{table, parties, steps, known, sender, receiver, messages}
-use Rattle.translation.specs.Dictionary.{Dictionary, start}
-use Rattle.translation.specs.Build.{buildAll}
-use Rattle.translation.specs.Receive.{Did, Event, nothing, followed, receiveAll}
-use Rattle.translation.specs.Program.{Act, own, act, walk, walked, program, sent, arrived}
-use Rattle.translation.specs.Program.Laws.{own-sends, own-receives, own-idle, own-append, walk-append}
-use Rattle.translation.specs.Narration.{stepAt, narration, knownTo, programOf}
-use Rattle.translation.specs.Taken.{holdsBefore}
-use Rattle.walking.specs.Walk.{stepDid, before, refusedFor, NextOwn}
-
--- ---- a Did with nothing behind it
-pub followed-nothing : (d : Did) → followed d (nothing (d .dictionary)) ≡ d
-followed-nothing d =
-    λ i. record { dictionary = d .dictionary; given = append-nil (d .given) i; events = append-nil (d .events) i; stored = append-nil (d .stored) i }
-
-walk-one : (a : Act) (δ : Dictionary) (n : ℕ) → walk (a ∷ []) δ n ≡ act a δ n
-unfolding walk
-walk-one a δ n = followed-nothing (act a δ n)
-
--- ---- one step, by who the party is in it
-module _ (b : List ℕ) (p i : ℕ) (δ : Dictionary) (n : ℕ) where
-  pub step-sends : sender b i ≡ p → stepDid b p i δ n ≡ sent i (buildAll (terms (table b) (messages b i)) δ)
-  unfolding stepDid stepAt act terms own
-  step-sends e =
-      ap (λ l. walk l δ n) (own-sends p i (stepAt b i) [] (eq-eqb (sender b i) p e))
-      ∙ walk-one (Act.sends i (terms (table b) (messages b i))) δ n
-
-  pub step-receives : (sender b i ≡ p → ⊥) → receiver b i ≡ p
-      → stepDid b p i δ n ≡ followed (arrived i (terms (table b) (messages b i)) δ n) (receiveAll (terms (table b) (messages b i)) n δ (n + count (terms (table b) (messages b i))))
-  unfolding stepDid stepAt act terms own
-  step-receives e f =
-      ap (λ l. walk l δ n) (own-receives p i (stepAt b i) [] (ne-eqb (sender b i) p e) (eq-eqb (receiver b i) p f))
-      ∙ walk-one (Act.receives i (terms (table b) (messages b i))) δ n
-
-  pub step-idle : (sender b i ≡ p → ⊥) → (receiver b i ≡ p → ⊥) → stepDid b p i δ n ≡ nothing δ
-  unfolding stepDid stepAt own walk
-  step-idle e f = ap (λ l. walk l δ n) (own-idle p i (stepAt b i) [] (ne-eqb (sender b i) p e) (ne-eqb (receiver b i) p f))
-
--- ---- the steps before a step
-module _ (b : List ℕ) (p : ℕ) where
-  pub before-none : before b p 0 ≡ nothing (start (map (term (table b)) (known b p)))
-  unfolding before walked walk own values
-  before-none = refl
-
-  pub before-more : (i : ℕ) → before b p (suc i) ≡ followed (before b p i) (stepDid b p i (before b p i .dictionary) (length (before b p i .given)))
-  unfolding before walked stepDid
-  before-more i =
-      let δ = start (map (term (table b)) (known b p)) in
-      let w = walk (own p 0 (values (stepAt b) 0 i)) δ 0 in
-      let past = values (stepAt b) 0 i in
-      let z : 0 + length past ≡ i = zero-add (length past) ∙ values-length (stepAt b) 0 i in
-      ap (λ l. walk (own p 0 l) δ 0) (values-last (stepAt b) 0 i ∙ ap (λ k. past ++ stepAt b k ∷ []) (zero-add i))
-      ∙ ap (λ l. walk l δ 0) (own-append p 0 past (stepAt b i ∷ []) ∙ ap (λ k. own p 0 past ++ own p k (stepAt b i ∷ [])) z)
-      ∙ walk-append (own p 0 past) (own p i (stepAt b i ∷ [])) δ 0 ∙ ap (λ k. followed w (walk (own p i (stepAt b i ∷ [])) (w .dictionary) k)) (zero-add (length (w .given)))
-
-  module _ (h : p < parties b) where
-    knows : knownTo (narration b) p ≡ map (term (table b)) (known b p)
-    unfolding knownTo narration
-    knows = values-getD (λ q. map (term (table b)) (known b q)) 0 (parties b) p [] h ∙ ap (λ q. map (term (table b)) (known b q)) (zero-add p)
-
-    -- the whole program
-    pub before-all : programOf (narration b) p ≡ before b p (steps b) .events ++ Event.ends (before b p (steps b) .stored) ∷ []
-    unfolding programOf program before narration
-    before-all = ap (λ k. program k (own p 0 (values (stepAt b) 0 (steps b)))) knows
-
-    -- what refusal 10 looks at
-    pub before-holds : (i : ℕ) → i ≤ steps b → holdsBefore (narration b) p i ≡ before b p i .dictionary
-    unfolding holdsBefore before narration
-    before-holds i l = ap₂ (λ k s. walked k (own p 0 s) .dictionary) knows (values-take (stepAt b) 0 (steps b) i l)
+use Rattle.book.specs.Layout.{sender, receiver}
+use Rattle.translation.specs.Receive.{followed}
+use Rattle.translation.specs.Steps.{before}
+use Rattle.translation.specs.Steps.Laws.{followed-nothing, step-idle, before-more}
+use Rattle.walking.specs.Walk.{refusedFor, IdleUntil}
 
 -- ---- steps in which the party has no part
 module _ (b : List ℕ) (p : ℕ) where
@@ -92,7 +24,7 @@ module _ (b : List ℕ) (p : ℕ) where
       ap (before b p) (add-suc i d) ∙ before-more b p (i + d) ∙ ap (followed g) (step-idle b p (i + d) (g .dictionary) (length (g .given)) (n .0) (n .1)) ∙ followed-nothing g
       ∙ before-idle i d (λ k x y. h k x (omega arith))
 
-  pub before-skip : {i r : ℕ} → NextOwn b p i r → before b p r ≡ before b p i
+  pub before-skip : {i r : ℕ} → IdleUntil b p i r → before b p r ≡ before b p i
   before-skip {i} {r} n =
       let l = n .from in
       let e : i + (r - i) ≡ r = omega arith in

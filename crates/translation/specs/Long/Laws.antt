@@ -15,21 +15,21 @@ use Rattle.book.specs.Layout.{table, rows, parties, steps, begins, sender, rece
 use Rattle.book.specs.Valid.{Valid}
 use Rattle.book.specs.Valid.Laws.{formed}
 use Rattle.book.specs.Headed.Laws.{valid-headed}
 use Rattle.translation.specs.Dictionary.{Dictionary, image}
 use Rattle.translation.specs.Dictionary.Laws.{image-short}
 use Rattle.translation.specs.Build.{buildAll}
 use Rattle.translation.specs.Build.Laws.{buildAll-made}
 use Rattle.translation.specs.Along.Laws.{buildAll-short}
 use Rattle.translation.specs.Receive.{Event, Did, nothing, followed, rule, byRule, compared, kept, opened, receive, receiveAll}
 use Rattle.translation.specs.Receive.Laws.{by-rule}
 use Rattle.translation.specs.Program.{sent, arrived}
 use Rattle.translation.specs.Stored.Laws.{walked-few}
 use Rattle.translation.specs.Listing.{pairWords, eventWords, programWords, heads, bodies, framed, partWords, listing}
 use Rattle.translation.specs.Spelling.Laws.{heads-length}
-use Rattle.walking.specs.Walk.{stepDid, before}
-use Rattle.walking.specs.Walk.Laws.{step-sends, step-receives, step-idle, before-none, before-more, before-all}
+use Rattle.translation.specs.Steps.Laws.{step-sends, step-receives, step-idle, before-none, before-more, before-all}
+use Rattle.translation.specs.Steps.{stepDid, before}
 use Rattle.translation.specs.Listing.Laws.{program-append}
-use Rattle.walking.specs.Long.{stepSize, stepWords, mostPlaceholders, mostEvents, mostPart, mostListing, Small, Within}
+use Rattle.translation.specs.Long.{stepSize, stepWords, mostPlaceholders, mostEvents, mostPart, mostListing, Small, Within}
 
 module _ (row : Term → ℕ) where
   program-then : (es fs : List Event) → length (programWords row (es ++ fs)) ≡ length (programWords row es) + length (programWords row fs)

@@ -1,9 +1,9 @@
--- `holding::entry` meets its contract: the pool's word. Assumes nothing.
-use Rattle.holding.specs.Span.Laws.{span-head, span-index}
+-- `book::entry` meets its contract: the pool's word. Assumes nothing.
+use Rattle.book.specs.Span.Laws.{span-head, span-index}
 use Rattle.book.specs.Headed.Laws.{valid-headed}
 use native.Mathlib.Omega.{arith}
-use Rattle.holding.proofs.entry.Statement.{statement}
-use Rattle.holding.proofs.entry.Tie as tie
+use Rattle.book.proofs.entry.Statement.{statement}
+use Rattle.book.proofs.entry.Tie as tie
 
 pooled-requires : tie.Need-pooled-requires
 pooled-requires c κs =

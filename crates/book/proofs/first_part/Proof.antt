@@ -1,8 +1,8 @@
--- `holding::first_part` meets its contract: the first word of its list. Assumes nothing.
-use Rattle.holding.proofs.Laws.{part-index, part-at}
+-- `book::first_part` meets its contract: the first word of its list. Assumes nothing.
+use Rattle.book.specs.Span.Laws.{part-index, part-at}
 use Rattle.book.specs.Headed.Laws.{valid-headed}
-use Rattle.holding.proofs.first_part.Statement.{statement}
-use Rattle.holding.proofs.first_part.Tie as tie
+use Rattle.book.proofs.first_part.Statement.{statement}
+use Rattle.book.proofs.first_part.Tie as tie
 
 row-first-requires : tie.Need-row-first-requires
 row-first-requires c κs = let start : tie.Start = search in (valid-headed _ (start .pre .0), start .pre .1)

@@ -1,15 +1,15 @@
 -- Laws of spans. Assumes nothing.
 use Prim.Native.Nat.{ℕ, zero, suc, _+_, _-_, _≤_, _<_}
 use mathlib.Core.List.{List, [], _∷_}
-use mathlib.Core.Path.{_≡_, ap, _∙_}
+use mathlib.Core.Path.{_≡_, refl, ap, _∙_}
 use native.Mathlib.Omega.{arith}
 use Rattle.words.specs.Run.{run}
 use Rattle.words.specs.Run.Laws.{run-none, run-more, all-run}
-use Rattle.book.specs.Layout.{at, begins, rows, steps, pool, kind, rowFirst, rowCount, stepFirst, stepCount, listAt}
-use Rattle.book.specs.Rules.{largest}
+use Rattle.book.specs.Layout.{at, begins, rows, steps, pool, kind, rowFirst, rowCount, stepFirst, stepCount, listAt, pooled}
+use Rattle.book.specs.Rules.{fewest, largest}
 use Rattle.book.specs.Valid.{Valid}
 use Rattle.book.specs.Valid.Laws.{row-before}
-use Rattle.holding.specs.Span.{entry, Span}
+use Rattle.book.specs.Span.{entry, Span}
 
 pub list-none : (b : List ℕ) (f n : ℕ) → n ≤ 0 → listAt b f n ≡ []
 list-none b f n h = run-none b (begins b 3 + f) n h
@@ -54,3 +54,24 @@ module _ (b : List ℕ) (d f n : ℕ) (s : Span b d f n) (h : 0 < n) where
 
   pub span-index : f + 0 < pool b
   span-index = let l = s .inside in omega arith
+
+-- ---- a row's first part: a cipher's key, a half's part
+parts-some : (k n : ℕ) → 2 ≤ k → fewest k ≤ n → 0 < n
+unfolding fewest
+parts-some zero n h l = absurd (omega arith)
+parts-some (suc zero) n h l = absurd (omega arith)
+parts-some (suc (suc k)) n h l = l
+
+module _ (b : List ℕ) (v : Valid b) where
+  pub some-part : (r : ℕ) → r < rows b → 2 ≤ kind b r → 0 < rowCount b r
+  some-part r h k = parts-some (kind b r) (rowCount b r) k (v .rowsKeep r h .listed .low)
+
+  pub part-low : (r : ℕ) → r < rows b → 2 ≤ kind b r → entry b (rowFirst b r) < r
+  part-low r h k = span-head b r (rowFirst b r) (rowCount b r) (span-row b v _ _ r h refl refl) (some-part r h k)
+
+module _ (b : List ℕ) (v : Valid b) (r f : ℕ) (h : r < rows b) (k : 2 ≤ kind b r) (d : f ≡ rowFirst b r) where
+  pub part-index : f + 0 < pool b
+  part-index = span-index b r f (rowCount b r) (span-row b v f (rowCount b r) r h d refl) (some-part b v r h k)
+
+  pub part-at : (p : ℕ) → p ≡ pooled b f 0 → (p ≡ entry b (rowFirst b r)) × (p < r)
+  part-at p e = let l = part-low b v r h k in let z : p ≡ entry b (rowFirst b r) = e ∙ ap (entry b) d in (z, omega arith)

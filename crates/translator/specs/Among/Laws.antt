@@ -15,7 +15,7 @@ use Rattle.translation.specs.Narration.{narration}
 use Rattle.translation.specs.Taken.{unplayable, firstTaken}
 use Rattle.walking.specs.Walk.{refusedFor, Unrefused}
 use Rattle.walking.specs.Found.{FoundBefore}
-use Rattle.translator.specs.Found.{NobodyRefused, FoundAmong}
+use Rattle.translator.specs.Among.{NobodyRefused, FoundAmong}
 
 -- ---- one party more
 module _ (b : List ℕ) where

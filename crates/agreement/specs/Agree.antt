@@ -11,7 +11,7 @@ use mathlib.Core.Path.{_≡_}
 use lib.ListN.{length, getElem?}
 use Rattle.terms.specs.Term.{Term, Terms}
 use Rattle.translation.specs.Receive.{Event}
-use Rattle.translation.specs.Build.Laws.{NoRepeat}
+use Rattle.words.specs.Run.{NoRepeat}
 use Rattle.translation.specs.Program.{own, walked}
 use Rattle.translation.specs.Narration.{Narration, knownTo}
 use Rattle.translation.specs.Taken.{Nobodys, stepOf}

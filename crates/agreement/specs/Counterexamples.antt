@@ -10,7 +10,7 @@ use mathlib.Core.Bool.{Bool, true, true≢false}
 use mathlib.Core.List.{List, [], _∷_, List·Memᴰ·head}
 use mathlib.Core.Option.{some, Option·some-ne-none}
 use mathlib.Core.Path.{_≡_, refl, sym, subst}
-use Rattle.words.specs.Choice.{pick, choose}
+use Rattle.words.specs.Choice.{pick, choose, then}
 use Rattle.words.specs.First.{first, firstFrom, any}
 use Rattle.terms.specs.Term.{Term, Terms, same, count, listed, partner, occurs, Occurs}
 use Rattle.terms.specs.Image.{Image, Images}
@@ -20,7 +20,7 @@ use Rattle.translation.specs.Receive.{Event, canOpen, rule, byRule, receive}
 use Rattle.translation.specs.Program.{Step, own, act, walk, walked, program}
 use Rattle.translation.specs.Narration.{Narration, knownTo, programOf}
 use Rattle.translation.specs.Taken.{joined, said, claimed, occursInOne, taken, Taken, stepOf, holdsBefore, madeAt, takenAt, unplayable}
-use Rattle.translation.specs.Spelling.{then}
+use Rattle.translation.specs.Standing.{standingAt, ifWaits}
 use Rattle.agreement.specs.View.{holds, value, change, bind}
 use Rattle.agreement.specs.Machine.{sending, comparing, contents, opening, effect, takes, next, turn, handed, delivered, System, sentAfter, madeAfter, Move, move, begin, Reach}
 use Rattle.agreement.specs.Sequence.{sequence, sequence-reach}
@@ -48,7 +48,7 @@ unfolding ℕ-discrete pick choose same count listed partner enter start buildab
 refused N s = unplayable N s
 
 unfoldable pub after : Narration → (ℕ → List Event) → List Move → System
-unfolding ℕ-discrete pick choose same count partner stepOf knownTo then holds value change bind sending comparing contents opening effect takes next turn handed delivered sentAfter madeAfter move begin sequence receiverOf
+unfolding ℕ-discrete pick choose same count partner stepOf knownTo then holds value change bind sending comparing contents opening effect takes next turn standingAt ifWaits handed delivered sentAfter madeAfter move begin sequence receiverOf
 after N programs ms = sequence (receiverOf N) ms (begin (knownTo N) programs)
 
 -- ---- the narrations: A, B and C are parties 0, 1 and 2, with the names of rows 0, 1 and 2; other atoms from row 3 on

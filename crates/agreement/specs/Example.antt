@@ -5,23 +5,24 @@ use native.Mathlib.Decide.{ℕ-discrete}
 use mathlib.Core.List.{List, [], _∷_}
 use mathlib.Core.Path.{_≡_, refl}
 use lib.ListN.{getD}
-use Rattle.words.specs.Choice.{pick, choose}
+use Rattle.words.specs.Choice.{pick, choose, then}
 use Rattle.words.specs.Run.{run, values}
 use Rattle.terms.specs.Term.{Term, same, count, partner, gathered}
 use Rattle.terms.specs.Table.{level, unfold-by, form, term, terms}
 use Rattle.book.specs.Layout.{table, parties}
 use Rattle.translation.specs.Receive.{Event}
+use Rattle.translation.specs.Standing.{standingAt, ifWaits}
 use Rattle.translation.specs.Narration.{stepAt, narration, knownTo}
 use Rattle.translation.specs.Taken.{stepOf}
-use Rattle.translation.specs.Spelling.{then, readImage, readPairs, readEvent, readEvents, readProgram, partOf}
+use Rattle.translation.specs.Spelling.{readImage, readPairs, readEvent, readEvents, readProgram, partOf}
+use Rattle.translation.specs.Spelled.{orEnd, spelled}
 use Rattle.translation.specs.Outcome.{outcome}
 use Rattle.translation.specs.Trials.{trial, trials, computed}
 use Rattle.agreement.specs.View.{holds, value, change, bind}
-use Rattle.agreement.specs.Machine.{sending, comparing, contents, opening, effect, takes, next, turn, handed, delivered, System, sentAfter, madeAfter, Move, move, begin, Reach}
+use Rattle.agreement.specs.Machine.{sending, comparing, contents, opening, effect, takes, next, turn, handed, delivered, System, sentAfter, madeAfter, Move, move, begin, started, Reach}
 use Rattle.agreement.specs.Agree.{receiverOf, Agree}
 use Rattle.agreement.specs.Agree.Laws.{parties-agree}
 use Rattle.agreement.specs.Sequence.{sequence, sequence-reach}
-use Rattle.agreement.specs.Spelled.{orEnd, spelled, started}
 
 -- the third of the P trials: its book, and the lent words
 unfoldable pub book : List ℕ
@@ -39,7 +40,7 @@ unfoldable pub moves : List Move
 moves = Move.own 1 ∷ Move.own 1 ∷ Move.delivery 0 ∷ Move.own 0 ∷ Move.delivery 1 ∷ Move.own 1 ∷ []
 
 unfoldable pub ended : System
-unfolding ℕ-discrete pick choose run values same count partner gathered level unfold-by form term terms table stepAt narration knownTo stepOf then readImage readPairs readEvent readEvents readProgram partOf holds value change bind sending comparing contents opening effect takes next turn handed delivered sentAfter madeAfter move begin receiverOf sequence orEnd spelled started
+unfolding ℕ-discrete pick choose run values same count partner gathered level unfold-by form term terms table stepAt narration knownTo stepOf then readImage readPairs readEvent readEvents readProgram partOf holds value change bind sending comparing contents opening effect takes next turn standingAt ifWaits handed delivered sentAfter madeAfter move begin receiverOf sequence orEnd spelled started
 ended = sequence (receiverOf (narration book)) moves (started book (outcome book lent .lent))
 
 -- the events left, and how many were done

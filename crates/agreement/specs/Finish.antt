@@ -10,6 +10,7 @@ use lib.ListN.{length}
 use Rattle.words.specs.Sum.{sum}
 use Rattle.terms.specs.Term.{Terms}
 use Rattle.translation.specs.Receive.{Event}
+use Rattle.translation.specs.Places.{placeOf, isEnd}
 use Rattle.translation.specs.Narration.{Narration}
 use Rattle.agreement.specs.Machine.{System, Move, move}
 use Rattle.agreement.specs.Agree.{receiverOf, AtEnd, Does}
@@ -18,13 +19,7 @@ pub mod Laws
 
 -- ---- events left to do: those before END
 unfoldable pub toDo : List Event → ℕ
-toDo [] = 0
-toDo (Event.new r ∷ es) = suc (toDo es)
-toDo (Event.sends s is ∷ es) = suc (toDo es)
-toDo (Event.receives s f n ∷ es) = suc (toDo es)
-toDo (Event.checks x i ∷ es) = suc (toDo es)
-toDo (Event.opens x f n i ∷ es) = suc (toDo es)
-toDo (Event.ends ps ∷ es) = 0
+toDo es = placeOf isEnd es
 
 -- by the first Q parties together
 unfoldable pub toDoAll : ℕ → System → ℕ

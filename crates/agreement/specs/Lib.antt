@@ -11,7 +11,6 @@ pub mod Progress
 pub mod Making
 pub mod Log
 pub mod Start
-pub mod Spelled
 pub mod Finish
 pub mod Sequence
 pub mod Rehearsal

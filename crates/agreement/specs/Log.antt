@@ -3,7 +3,7 @@
 use Prim.Native.Nat.{ℕ}
 use mathlib.Core.List.{List, List·Memᴰ}
 use mathlib.Core.Path.{_≡_}
-use Rattle.translation.specs.Build.Laws.{NoRepeat}
+use Rattle.words.specs.Run.{NoRepeat}
 use Rattle.agreement.specs.Machine.{System}
 use Rattle.agreement.specs.Making.{news}
 pub mod Laws

@@ -11,10 +11,12 @@ use mathlib.Core.Bool.{Bool, true, false}
 use mathlib.Core.List.{List, [], _∷_}
 use mathlib.Core.Option.{Option, none, some}
 use lib.Dec.{eqb}
-use Rattle.words.specs.Choice.{pick, choose}
+use Rattle.words.specs.Choice.{pick, choose, then}
 use Rattle.terms.specs.Term.{Term, Terms, same, count, partner}
 use Rattle.translation.specs.Receive.{Event}
-use Rattle.translation.specs.Spelling.{then}
+use Rattle.translation.specs.Standing.{standingAt, ifWaits}
+use Rattle.translation.specs.Narration.{narration, knownTo}
+use Rattle.translation.specs.Spelled.{spelled}
 use Rattle.agreement.specs.View.{View, value, valueAll, change, binds, gains}
 pub mod Laws
 
@@ -94,15 +96,14 @@ next (e ∷ es) P = takes (effect e (P .view)) P es
 unfoldable pub turn : Party → Turn
 turn P = pick (P .halted) (stays P) (next (P .left) P)
 
+-- it gets the messages of the step that it waits for, which asks for n, in the placeholders from f on; es are left
+abbrev pub gets : ℕ → ℕ → Terms → Party → List Event → Party
+gets f n ts P es = pick (eqb n (count ts)) (goes P es (binds f ts (P .view))) (halts P)
+
 -- a copy of step s's messages is handed over to a party that has the events left
 unfoldable pub handed : List Event → ℕ → Terms → Party → Party
 handed [] s ts P = P
-handed (Event.new r ∷ es) s ts P = P
-handed (Event.sends a is ∷ es) s ts P = P
-handed (Event.receives a f n ∷ es) s ts P = pick (eqb a s) (pick (eqb n (count ts)) (goes P es (binds f ts (P .view))) (halts P)) P
-handed (Event.checks x i ∷ es) s ts P = P
-handed (Event.opens x f n i ∷ es) s ts P = P
-handed (Event.ends ps ∷ es) s ts P = P
+handed (e ∷ es) s ts P = ifWaits (standingAt e) (λ a f n. pick (eqb a s) (gets f n ts P es) P) P
 
 unfoldable pub delivered : ℕ → Option Terms → Party → Party
 delivered s none P = P
@@ -146,6 +147,10 @@ begin known programs =
       sent = λ s. none;
       made = [];
     }
+
+-- of the book b and the words w of a listing: each party knows what the book says, and has the program that the words spell
+unfoldable pub started : List ℕ → List ℕ → System
+started b w = begin (knownTo (narration b)) (spelled b w)
 
 pub data Reach (receiver : ℕ → ℕ) (B : System) : System → Type 0 where
   start : Reach receiver B B

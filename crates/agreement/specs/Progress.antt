@@ -13,6 +13,7 @@ use Rattle.words.specs.Choice.Laws.{pick-true, pick-false}
 use Rattle.terms.specs.Term.{Terms, count}
 use Rattle.terms.specs.Image.{Image, Images}
 use Rattle.translation.specs.Receive.{Event}
+use Rattle.translation.specs.Standing.{standingAt, ifWaits}
 use Rattle.translation.specs.Narration.{Narration}
 use Rattle.translation.specs.Taken.{stepOf}
 use Rattle.agreement.specs.View.{View, binds}
@@ -68,7 +69,7 @@ module _ (N : Narration) where
 
     -- ---- a copy of the step that a party waits for is taken
     pub delivered-takes : (s f n : ℕ) (es : List Event) (ts : Terms) → P .left ≡ Event.receives s f n ∷ es → Said N s ts → delivered s (some ts) P ≡ goes P es (binds f ts (P .view))
-    unfolding delivered handed
+    unfolding delivered handed standingAt ifWaits
     delivered-takes s f n es ts l w =
         let k : Safe N (meant N p) (Event.receives s f n ∷ es) (g .holding) (g .bound) = subst (λ fs. Safe N (meant N p) fs (g .holding) (g .bound)) l (g .safe) in
         pick-false (P .halted) _ _ (g .standing) ∙ ap (λ fs. handed fs s ts P) l ∙ pick-true (eqb s s) _ _ (eq-eqb s s refl)

@@ -12,12 +12,12 @@ use Rattle.book.specs.Layout.{parties}
 use Rattle.book.specs.Said.{Said, said}
 use Rattle.book.specs.Refusals.{Line, line, here, firstOf, readingTable}
 use Rattle.translation.specs.Receive.{Event}
+use Rattle.translation.specs.Standing.{standing, ifWaits}
 use Rattle.translation.specs.Narration.{narration}
 use Rattle.translation.specs.Listing.{listing}
 use Rattle.translation.specs.Outcome.{Outcome, takenLine, roomLine, laid}
-use Rattle.agreement.specs.Machine.{System, Move, move}
+use Rattle.agreement.specs.Machine.{System, Move, move, started}
 use Rattle.agreement.specs.Agree.{receiverOf}
-use Rattle.agreement.specs.Spelled.{started}
 pub mod Laws
 pub mod Came
 pub mod Trials
@@ -26,13 +26,7 @@ pub mod Idle
 -- ---- the play
 -- the move that party p makes with these events left: it takes the copy of the step that it waits for, or moves by itself
 unfoldable pub moveOf : ℕ → List Event → Move
-moveOf p [] = Move.own p
-moveOf p (Event.new r ∷ es) = Move.own p
-moveOf p (Event.sends s is ∷ es) = Move.own p
-moveOf p (Event.receives s f n ∷ es) = Move.delivery s
-moveOf p (Event.checks x i ∷ es) = Move.own p
-moveOf p (Event.opens x f n i ∷ es) = Move.own p
-moveOf p (Event.ends ps ∷ es) = Move.own p
+moveOf p es = ifWaits (standing es) (λ s f n. Move.delivery s) (Move.own p)
 
 -- the parties of a schedule move one after another
 unfoldable pub played : (ℕ → ℕ) → List ℕ → System → System

@@ -1,17 +1,23 @@
 -- Laws: demand 3 for a playable narration, whose parties start with their programs. Assumes nothing.
-use Prim.Native.Nat.{ℕ, _≤_, _<_}
+use Prim.Native.Nat.{ℕ, _<_}
 use native.Mathlib.Decide.{decLt}
 use native.Mathlib.Omega.{arith}
-use mathlib.Core.List.{List, [], _∷_, List·Memᴰ, List·Memᴰ·not-nil}
+use mathlib.Core.List.{List, [], List·Memᴰ, List·Memᴰ·not-nil}
 use mathlib.Core.Logic.{inl}
 use mathlib.Core.Option.{Option·some-ne-none}
 use mathlib.Core.Path.{_≡_, refl, sym, subst}
 use lib.ListN.{length}
-use Rattle.translation.specs.Build.Laws.{NoRepeat}
+use Rattle.words.specs.Run.{NoRepeat}
+use Rattle.book.specs.Layout.{parties, steps}
 use Rattle.translation.specs.Receive.{Event}
-use Rattle.translation.specs.Program.{own}
-use Rattle.translation.specs.Narration.{Narration, knownTo, programOf}
+use Rattle.translation.specs.Program.{Step, own}
+use Rattle.translation.specs.Narration.{Narration, stepAt, narration, knownTo, programOf}
 use Rattle.translation.specs.Taken.{Nobodys, stepOf, Playable}
+use Rattle.translation.specs.Taken.Laws.{steps-length, step-is}
+use Rattle.translation.specs.Spelled.{endAlone, Programs}
+use Rattle.translation.specs.Spelled.Laws.{accepted-plays}
+use Rattle.translation.specs.Outcome.{outcome}
+use Rattle.translation.specs.Outcome.Laws.{Plays}
 use Rattle.agreement.specs.Machine.{System, begin, Reach}
 use Rattle.agreement.specs.Agree.{meant, receiverOf, AtEnd, Agree}
 use Rattle.agreement.specs.Sound.{seen}
@@ -35,16 +41,11 @@ pub record Played (N : Narration) (Q : ℕ) : Type 0 where
   pub senders : (s : ℕ) → s < length (N .says) → stepOf N s .sender < Q
   pub playable : (s : ℕ) → s < length (N .says) → Playable N s
 
--- each party has its program, and a number that is no party's has nothing to do
-pub record Programs (N : Narration) (Q : ℕ) (programs : ℕ → List Event) : Type 0 where
-  pub party : (p : ℕ) → p < Q → programs p ≡ programOf N p
-  pub nobody : (p : ℕ) → Q ≤ p → programs p ≡ Event.ends [] ∷ []
-
 module _ (N : Narration) (Q : ℕ) (programs : ℕ → List Event) (v : Played N Q) (w : Programs N Q programs) where
   abbrev pub starting : System
   starting = begin (knownTo N) programs
 
-  each : (A : ℕ → List Event → Type 0) → ((p : ℕ) → A p (programOf N p)) → ((p : ℕ) → A p (Event.ends [] ∷ [])) → (p : ℕ) → A p (programs p)
+  each : (A : ℕ → List Event → Type 0) → ((p : ℕ) → A p (programOf N p)) → ((p : ℕ) → A p endAlone) → (p : ℕ) → A p (programs p)
   each A f g p = elim (decLt p Q) [ yes l ↦ subst (A p) (sym (w .party p l)) (f p) | no l ↦ subst (A p) (sym (w .nobody p (omega arith))) (g p) ]
 
   start-going : Going N starting
@@ -104,3 +105,18 @@ module _ (N : Narration) (Q : ℕ) (programs : ℕ → List Event) (v : Played N
           made = record { once = l .once; untaken = l .fresh };
           moves = progress N Q (v .senders) S reached-going reached-flow;
         }
+
+-- ---- a book that plays, and one whose outcome is a listing
+pub plays-played : (b : List ℕ) → Plays b → Played (narration b) (parties b)
+unfolding stepAt
+plays-played b plays =
+    let e = steps-length b in
+    record {
+      senders = λ s l.
+          let k : s < steps b = omega arith in
+          subst (λ (a : Step). a .sender < parties b) (sym (step-is b s k)) (plays .valid .stepsKeep s k .sends);
+      playable = λ s l. plays .playable s (omega arith);
+    }
+
+pub accepted-played : (b out : List ℕ) → outcome b out .says .number ≡ 0 → Played (narration b) (parties b)
+accepted-played b out accepted = plays-played b (accepted-plays b out accepted)

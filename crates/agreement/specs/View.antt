@@ -7,10 +7,9 @@ use mathlib.Core.Bool.{Bool, true, false}
 use mathlib.Core.List.{List, [], _∷_}
 use mathlib.Core.Option.{Option, none, some}
 use lib.Dec.{eqb}
-use Rattle.words.specs.Choice.{pick, choose}
+use Rattle.words.specs.Choice.{pick, choose, then}
 use Rattle.terms.specs.Term.{Term, Terms, same}
 use Rattle.terms.specs.Image.{Image, Images}
-use Rattle.translation.specs.Spelling.{then}
 
 pub record View : Type 0 where
   -- the terms that it holds as themselves: known at the start, or made

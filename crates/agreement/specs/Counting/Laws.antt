@@ -9,6 +9,7 @@ use mathlib.Core.Path.{_≡_, refl, sym, ap, _∙_, subst, fun-ext}
 use lib.ListN.{length}
 use lib.Dec.{eqb, ltb}
 use borrow.Author.Tests.{eqb-true, eq-eqb, le-leb, lt-leb, lt-ltb, le-ltb}
+use Rattle.words.specs.Choice.{pick}
 use Rattle.words.specs.Choice.Laws.{pick-ind, pick-true, pick-false}
 use Rattle.words.specs.First.Laws.{any-at, any-none}
 use Rattle.words.specs.Run.{All, values}
@@ -20,10 +21,13 @@ use Rattle.translation.specs.Narration.{Narration, stepAt, narration, knownTo, 
 use Rattle.translation.specs.Taken.{stepOf}
 use Rattle.translation.specs.Taken.Laws.{steps-length, step-is}
 use Rattle.translation.specs.Listing.{listing}
-use Rattle.translation.specs.Places.{Places, placesOf, placeOf, isSend, isReceive}
+use Rattle.translation.specs.Standing.{standingAt, standing, ifWaits, ifEnded}
+use Rattle.translation.specs.Places.{Places, placesOf, placeOf, isSend, isReceive, isEnd}
+use Rattle.translation.specs.Spelled.{spelled}
+use Rattle.translation.specs.Spelled.Laws.{plays-programs}
 use Rattle.translation.specs.Outcome.Laws.{Plays}
 use Rattle.agreement.specs.View.{change}
-use Rattle.agreement.specs.Machine.{Party, stays, takes, next, effect, turn, delivered, System, Move, move, begin, Reach}
+use Rattle.agreement.specs.Machine.{Party, stays, takes, next, effect, turn, delivered, System, Move, move, begin, started, Reach}
 use Rattle.agreement.specs.Machine.Laws.{change-ap, change-none}
 use Rattle.agreement.specs.Agree.{receiverOf, AtEnd}
 use Rattle.agreement.specs.Order.{Sends, Of, Holds}
@@ -31,14 +35,12 @@ use Rattle.agreement.specs.Order.Laws.{program-rising, sends-holds}
 use Rattle.agreement.specs.Going.{Going}
 use Rattle.agreement.specs.Flow.{Posted, Flow}
 use Rattle.agreement.specs.Progress.{Own, Next, rising-next, turn-own, delivered-takes}
-use Rattle.agreement.specs.Start.{reached-going, reached-flow}
-use Rattle.agreement.specs.Spelled.{spelled, started}
-use Rattle.agreement.specs.Spelled.Laws.{plays-programs, plays-played}
+use Rattle.agreement.specs.Start.{reached-going, reached-flow, plays-played}
 use Rattle.agreement.specs.Finish.{toDo}
 use Rattle.agreement.specs.Finish.Counts.{end-toDo, reach-adds}
 use Rattle.agreement.specs.Rehearsal.{moveOf, played, eventsDone}
 use Rattle.agreement.specs.Counting.{waitsFor, waits, ticked, counted}
-use Rattle.agreement.specs.Counting.Standing.{Behind, place-upto, place-passes, rising-place, send-of, receive-of, end-place}
+use Rattle.agreement.specs.Counting.Standing.{Behind, place-upto, place-passes, rising-place, send-of, receive-of}
 use Rattle.agreement.specs.Counting.Reached.{reach-behind, reach-sent}
 
 -- ---- waits and ticked, from the counts
@@ -76,7 +78,7 @@ changed-done f p R = fun-ext (change-ap (λ (P : Party). P .done) f p R)
 -- ---- one move
 -- an event of a party's own: the party moves by itself, it is no RECEIVE, and it is one to do
 own-next : {e : Event} → Own e → (p s : ℕ) (es : List Event) → (moveOf p (e ∷ es) ≡ Move.own p) × (isReceive s e ≡ false) × (toDo (e ∷ es) ≡ suc (toDo es))
-unfolding moveOf isReceive toDo
+unfolding moveOf standing standingAt ifWaits isReceive toDo placeOf isEnd ifEnded pick
 own-next Own.new p s es = (refl, refl, refl)
 own-next Own.sends p s es = (refl, refl, refl)
 own-next Own.checks p s es = (refl, refl, refl)
@@ -104,8 +106,8 @@ module _ (b : List ℕ) (plays : Plays b) {S : System} (r : Reach (receiverOf (n
   behind p l = subst (λ es. Behind (d p) es (S .party p .left)) (plays-programs b plays .party p l) (reach-behind (knownTo N) (spelled b (listing b)) again p)
 
   adds : (p : ℕ) → p < parties b → toDo (S .party p .left) + d p ≡ placesOf b .ends p
-  unfolding placesOf begin
-  adds p l = reach-adds again p ∙ (let z : toDo (spelled b (listing b) p) + 0 ≡ toDo (spelled b (listing b) p) = omega arith in z) ∙ ap toDo (plays-programs b plays .party p l) ∙ sym (end-place (programOf N p))
+  unfolding placesOf toDo begin
+  adds p l = reach-adds again p ∙ (let z : toDo (spelled b (listing b) p) + 0 ≡ toDo (spelled b (listing b) p) = omega arith in z) ∙ ap toDo (plays-programs b plays .party p l)
 
   -- ---- a step's SEND is done exactly if the step was sent
   module _ (s : ℕ) (l : s < steps b) where
@@ -145,7 +147,7 @@ module _ (b : List ℕ) (plays : Plays b) {S : System} (r : Reach (receiverOf (n
         place-passes (isReceive s) (subst (Behind (d p) (programOf N p)) z (behind p l)) (subst (λ q. placeOf (isReceive s) (programOf N q) ≡ d p) c h)
 
     receives-next : {s f n : ℕ} {es : List Event} → S .party p .left ≡ Event.receives s f n ∷ es → receiver b s ≡ p → placesOf b .receives s ≡ d p
-    unfolding placesOf isReceive
+    unfolding placesOf isReceive standingAt ifWaits
     receives-next {s} {f} {n} {es} z c =
         let k = subst (Behind (d p) (programOf N p)) z (behind p l) in
         let u = place-upto (isReceive s) k (eq-eqb s s refl) in
@@ -154,7 +156,7 @@ module _ (b : List ℕ) (plays : Plays b) {S : System} (r : Reach (receiverOf (n
         subst (λ q. placeOf (isReceive s) (programOf N q) ≡ d p) (sym c) w
 
     move-ended : {es : List Event} → S .party p .left ≡ es → AtEnd es → Ticks (moveOf p es)
-    unfolding moveOf move turn next takes effect
+    unfolding moveOf standing standingAt ifWaits move turn next takes effect
     move-ended z AtEnd.end =
         let t : turn (S .party p) ≡ stays (S .party p) = pick-false (S .party p .halted) _ _ (going .parties p .standing) ∙ ap (λ es. next es (S .party p)) z in
         let a = adds p l in
@@ -174,7 +176,7 @@ module _ (b : List ℕ) (plays : Plays b) {S : System} (r : Reach (receiverOf (n
 
     module _ (s f n : ℕ) (es : List Event) (z : S .party p .left ≡ Event.receives s f n ∷ es) (i : s < steps b) (c : receiver b s ≡ p) where
       move-takes : (ts : Terms) → S .sent s ≡ some ts → Ticks (Move.delivery s)
-      unfolding move toDo isReceive
+      unfolding move toDo placeOf isEnd isReceive standingAt ifWaits ifEnded pick
       move-takes ts m =
           let a = adds p l in
           let k : toDo (S .party p .left) ≡ suc (toDo es) = ap toDo z in
@@ -202,7 +204,7 @@ module _ (b : List ℕ) (plays : Plays b) {S : System} (r : Reach (receiverOf (n
       move-receives (some ts) m = move-takes ts m
 
     move-next : {es : List Event} → S .party p .left ≡ es → Next N p es → Ticks (moveOf p es)
-    unfolding moveOf
+    unfolding moveOf standing standingAt ifWaits
     move-next z (Next.ended h) = move-ended z h
     move-next z (Next.waits {s = s} {f = f} {n = n} {es = es} w c h) =
         let i : s < steps b = (let e = steps-length b in omega arith) in

@@ -11,7 +11,9 @@ use Rattle.terms.specs.Term.{Term, Terms}
 use Rattle.translation.specs.Receive.{Event}
 use Rattle.translation.specs.Narration.{Narration, knownTo}
 use Rattle.translation.specs.Taken.{stepOf}
+use Rattle.translation.specs.Standing.{standingAt, ifSends}
 use Rattle.translation.specs.Places.{placeOf, isSend}
+use Rattle.translation.specs.Spelled.{Programs}
 use Rattle.agreement.specs.View.{change}
 use Rattle.agreement.specs.Machine.{Party, Turn, turn, System, sentAfter, Move, move, begin, Reach}
 use Rattle.agreement.specs.Machine.Laws.{change-ind, change-same, Showing, Turned, turn-cases, Delivered, move-parties}
@@ -19,7 +21,7 @@ use Rattle.agreement.specs.Agree.{receiverOf}
 use Rattle.agreement.specs.Order.{Rising}
 use Rattle.agreement.specs.Order.Laws.{rising-sender}
 use Rattle.agreement.specs.Flow.{Posted}
-use Rattle.agreement.specs.Start.{Played, Programs, reached-flow}
+use Rattle.agreement.specs.Start.{Played, reached-flow}
 use Rattle.agreement.specs.Counting.Standing.{Behind, behind-next, place-upto}
 
 -- ---- a party stays where it was, or its next event is done
@@ -57,7 +59,7 @@ reach-behind {receiver} known programs (Reach.after {S = S} m r) p = onward-behi
 module _ (N : Narration) (p : ℕ) (es : List Event) where
   turned-sent : {P : Party} {t : Turn} → Rising N p 0 (P .left) → Behind (P .done) es (P .left) → Turned P t → (f : ℕ → Option Terms) (s : ℕ)
       → Posted (sentAfter (t .shown) f s) → Posted (f s) ⊎ ((stepOf N s .sender ≡ p) × (placeOf (isSend s) es < t .party .done))
-  unfolding sentAfter isSend
+  unfolding sentAfter isSend standingAt ifSends
   turned-sent h b Turned.stayed f s k = inl k
   turned-sent h b (Turned.halted l c) f s k = inl k
   turned-sent h b (Turned.did l Showing.new) f s k = inl k

@@ -3,16 +3,15 @@ use Prim.Native.Nat.{ℕ, suc, _≤_}
 use native.Mathlib.Omega.{arith}
 use mathlib.Core.Bool.{Bool, true, true≢false}
 use mathlib.Core.List.{List, [], _∷_}
-use mathlib.Core.Path.{_≡_, refl, sym, ap, _∙_, subst}
+use mathlib.Core.Path.{_≡_, sym, _∙_, subst}
 use borrow.Author.Tests.{eqb-true}
-use Rattle.words.specs.Choice.{pick}
 use Rattle.words.specs.Choice.Laws.{pick-ind}
 use Rattle.translation.specs.Receive.{Event}
 use Rattle.translation.specs.Narration.{Narration}
-use Rattle.translation.specs.Places.{placeOf, isSend, isReceive, isEnd}
+use Rattle.translation.specs.Standing.Laws.{sends-ind, waits-ind}
+use Rattle.translation.specs.Places.{placeOf, isSend, isReceive}
 use Rattle.agreement.specs.Order.{Rising, Of, Holds}
 use Rattle.agreement.specs.Order.Laws.{rising-once, rising-left}
-use Rattle.agreement.specs.Finish.{toDo}
 
 -- ---- behind the first n events of a list, a list is left
 pub data Behind : ℕ → List Event → List Event → Type 0 where
@@ -50,32 +49,15 @@ module _ (t : Event → Bool) where
       let a = rising-place f (rising-left h (behind-holds b k)) b k in
       pick-ind (λ i. suc n ≤ i) (t x) _ _ (λ q. absurd (rising-once h (behind-holds b k) (f x q))) (λ q. omega arith)
 
--- ---- the three tests
+-- ---- the tests for a step
 pub send-of : (s : ℕ) (e : Event) → isSend s e ≡ true → Of s e
 unfolding isSend
-send-of s (Event.new r) k = absurd (true≢false (sym k))
-send-of s (Event.sends a is) k = subst (λ i. Of i (Event.sends a is)) (eqb-true a s k) Of.sends
-send-of s (Event.receives a f n) k = absurd (true≢false (sym k))
-send-of s (Event.checks x i) k = absurd (true≢false (sym k))
-send-of s (Event.opens x f n i) k = absurd (true≢false (sym k))
-send-of s (Event.ends ps) k = absurd (true≢false (sym k))
+send-of s e =
+    sends-ind (λ t. t ≡ true → Of s e) e _ _
+    (λ a is z k. subst (Of s) (sym z) (subst (λ i. Of i (Event.sends a is)) (eqb-true a s k) Of.sends)) (λ k. absurd (true≢false (sym k)))
 
 pub receive-of : (s : ℕ) (e : Event) → isReceive s e ≡ true → Of s e
 unfolding isReceive
-receive-of s (Event.new r) k = absurd (true≢false (sym k))
-receive-of s (Event.sends a is) k = absurd (true≢false (sym k))
-receive-of s (Event.receives a f n) k = subst (λ i. Of i (Event.receives a f n)) (eqb-true a s k) Of.receives
-receive-of s (Event.checks x i) k = absurd (true≢false (sym k))
-receive-of s (Event.opens x f n i) k = absurd (true≢false (sym k))
-receive-of s (Event.ends ps) k = absurd (true≢false (sym k))
-
--- END stands behind all that there is to do
-pub end-place : (es : List Event) → placeOf isEnd es ≡ toDo es
-unfolding placeOf isEnd toDo pick
-end-place [] = refl
-end-place (Event.new r ∷ es) = ap suc (end-place es)
-end-place (Event.sends s is ∷ es) = ap suc (end-place es)
-end-place (Event.receives s f n ∷ es) = ap suc (end-place es)
-end-place (Event.checks x i ∷ es) = ap suc (end-place es)
-end-place (Event.opens x f n i ∷ es) = ap suc (end-place es)
-end-place (Event.ends ps ∷ es) = refl
+receive-of s e =
+    waits-ind (λ t. t ≡ true → Of s e) e _ _
+    (λ a f n z k. subst (Of s) (sym z) (subst (λ i. Of i (Event.receives a f n)) (eqb-true a s k) Of.receives)) (λ k. absurd (true≢false (sym k)))

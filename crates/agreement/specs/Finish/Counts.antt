@@ -7,10 +7,13 @@ use mathlib.Core.List.{List, _∷_}
 use mathlib.Core.Logic.{_⊎_, inl, inr}
 use mathlib.Core.Option.{Option}
 use mathlib.Core.Path.{_≡_, refl, sym, ap, _∙_, subst}
+use Rattle.words.specs.Choice.{pick}
 use Rattle.words.specs.Sum.{sum}
 use Rattle.words.specs.Sum.Laws.{sum-same}
 use Rattle.terms.specs.Term.{Terms, count}
 use Rattle.translation.specs.Receive.{Event}
+use Rattle.translation.specs.Standing.{standingAt, ifEnded}
+use Rattle.translation.specs.Places.{placeOf, isEnd}
 use Rattle.translation.specs.Narration.{Narration}
 use Rattle.agreement.specs.View.{change}
 use Rattle.agreement.specs.Machine.{Shown, Party, Turn, System, sentAfter, madeAfter, Move, move, Reach}
@@ -61,11 +64,11 @@ sum-some f (suc n) h = go (decLt 0 (f n)) (λ k. sum-some f n k)
 
 -- ---- toDo
 pub end-toDo : {es : List Event} → AtEnd es → toDo es ≡ 0
-unfolding toDo
+unfolding toDo placeOf isEnd standingAt ifEnded pick
 end-toDo AtEnd.end = refl
 
 showing-toDo : {e : Event} {o : Shown} (es : List Event) → Showing e o → toDo (e ∷ es) ≡ suc (toDo es)
-unfolding toDo
+unfolding toDo placeOf isEnd standingAt ifEnded pick
 showing-toDo es Showing.new = refl
 showing-toDo es Showing.sends = refl
 showing-toDo es Showing.checks = refl
@@ -73,7 +76,7 @@ showing-toDo es Showing.opens = refl
 
 -- events that rise end in END
 rising-toDo : {N : Narration} {p low : ℕ} {es : List Event} → Rising N p low es → AtEnd es ⊎ (0 < toDo es)
-unfolding toDo
+unfolding toDo placeOf isEnd standingAt ifEnded pick
 rising-toDo Rising.end = inl AtEnd.end
 rising-toDo (Rising.new h) = inr (omega arith)
 rising-toDo (Rising.sends l e h) = inr (omega arith)
@@ -91,7 +94,7 @@ turned-adds (Turned.halted l c) = refl
 turned-adds (Turned.did {es = es} l w) = let a = ap toDo l ∙ showing-toDo es w in omega arith
 
 delivered-adds : {s : ℕ} {o : Option Terms} {P R : Party} → Delivered s o P R → Adds P R
-unfolding toDo
+unfolding toDo placeOf isEnd standingAt ifEnded pick
 delivered-adds Delivered.dropped = refl
 delivered-adds (Delivered.halted l e c) = refl
 delivered-adds (Delivered.took l e) = let a = ap toDo l in omega arith
@@ -127,7 +130,7 @@ module _ (N : Narration) (Q : ℕ) (S : System) (going : Going N S) (flow : Flow
   afterDelivery p R = record { party = change (S .party) p R; sent = S .sent; made = S .made }
 
   delivered-lowers : (p s : ℕ) {R : Party} → Delivered s (S .sent s) (S .party p) R → (afterDelivery p R ≡ S) ⊎ (suc (toDoAll Q (afterDelivery p R)) ≡ toDoAll Q S)
-  unfolding toDoAll toDo
+  unfolding toDoAll toDo placeOf isEnd standingAt ifEnded pick
   delivered-lowers p s Delivered.dropped = inl (λ i. record { party = change-none (S .party) p i; sent = S .sent; made = S .made })
   delivered-lowers p s (Delivered.halted {f = f} {n = n} {es = es} {ts = ts} l e c) =
       let g = going .parties p in

@@ -12,12 +12,12 @@ use Rattle.book.specs.Layout.{parties}
 use Rattle.translation.specs.Receive.{Event}
 use Rattle.translation.specs.Narration.{Narration, narration, knownTo}
 use Rattle.translation.specs.Outcome.{outcome}
-use Rattle.agreement.specs.Machine.{System, Move, move, begin, Reach}
+use Rattle.translation.specs.Spelled.{spelled, Programs}
+use Rattle.translation.specs.Spelled.Laws.{accepted-programs}
+use Rattle.agreement.specs.Machine.{System, Move, move, begin, started, Reach}
 use Rattle.agreement.specs.Agree.{receiverOf, Does, CanMove}
 use Rattle.agreement.specs.Flow.Laws.{does-handed}
-use Rattle.agreement.specs.Start.{Played, Programs, reached-going, reached-flow, reached-agree}
-use Rattle.agreement.specs.Spelled.{spelled, started}
-use Rattle.agreement.specs.Spelled.Laws.{accepted-played, accepted-programs}
+use Rattle.agreement.specs.Start.{Played, reached-going, reached-flow, reached-agree, accepted-played}
 use Rattle.agreement.specs.Finish.{toDo, toDoAll, Lowers, Run, AllAtEnd, Finishes, state, Fair, Ends}
 use Rattle.agreement.specs.Finish.Counts.{sum-some, end-toDo, move-lowers, does-changes, none-left}
 

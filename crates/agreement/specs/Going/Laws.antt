@@ -7,11 +7,12 @@ use native.Mathlib.Omega.{arith}
 use lib.ListN.{length, getElem?, length-append}
 use lib.Dec.{eqb}
 use borrow.Author.Tests.{eqb-true, eqb-false, eq-eqb}
+use Rattle.words.specs.Choice.{then}
 use Rattle.words.specs.Choice.Laws.{pick-ind, pick-true, choose-yes}
 use Rattle.terms.specs.Term.{Term, Terms, same, count, listed, partner}
 use Rattle.terms.specs.Term.Laws.{partner-partner}
 use Rattle.translation.specs.Receive.{Event}
-use Rattle.translation.specs.Spelling.{then}
+use Rattle.translation.specs.Standing.Laws.{waits-ind}
 use Rattle.translation.specs.Narration.{Narration}
 use Rattle.agreement.specs.View.{View, change, bind, binds}
 use Rattle.agreement.specs.Machine.{Shown, Effect, sending, comparing, contents, opening, effect, Party, Turn, stays, takes, next, turn, handed, delivered, System, sentAfter, Move, move, Reach}
@@ -104,26 +105,25 @@ module _ (N : Narration) where
   handed-well : (p : ℕ) (es : List Event) (s : ℕ) (ts : Terms) (P : Party) → Goes N p P → P .left ≡ es → Said N s ts → Goes N p (handed es s ts P)
   unfolding handed
   handed-well p [] s ts P g l w = g
-  handed-well p (Event.new r ∷ es) s ts P g l w = g
-  handed-well p (Event.sends a is ∷ es) s ts P g l w = g
-  handed-well p (Event.receives a f n ∷ es) s ts P g l w =
-      let k : Safe N (meant N p) (Event.receives a f n ∷ es) (g .holding) (g .bound) = subst (λ fs. Safe N (meant N p) fs (g .holding) (g .bound)) l (g .safe) in
+  handed-well p (e ∷ es) s ts P g l w =
+      waits-ind (Goes N p) e _ _
+      (λ a f n q.
+      let k : Safe N (meant N p) (Event.receives a f n ∷ es) (g .holding) (g .bound) =
+      subst (λ fs. Safe N (meant N p) fs (g .holding) (g .bound)) (l ∙ ap (λ d. d ∷ es) q) (g .safe) in
       pick-ind (Goes N p) (eqb a s) _ _
-      (λ e.
-      let z : k .0 ≡ ts = said-one (subst (λ b. Said N b (k .0)) (eqb-true a s e) (k .1)) w in
+      (λ c.
+      let z : k .0 ≡ ts = said-one (subst (λ b. Said N b (k .0)) (eqb-true a s c) (k .1)) w in
       pick-ind (Goes N p) (eqb n (count ts)) _ _
-      (λ c. record {
+      (λ d. record {
         standing = g .standing;
         holding = g .holding;
         bound = g .bound ++ listed ts;
         sees = ap₂ (λ x (v : View). binds x ts v) (k .2) (g .sees) ∙ binds-seen ts (g .holding) (g .bound);
         safe = subst (λ us. Safe N (meant N p) es (g .holding) (g .bound ++ listed us)) z (k .4);
       })
-      (λ c. absurd (eqb-false n (count ts) c (k .3 ∙ ap count z))))
-      (λ e. g)
-  handed-well p (Event.checks x i ∷ es) s ts P g l w = g
-  handed-well p (Event.opens x f n i ∷ es) s ts P g l w = g
-  handed-well p (Event.ends ps ∷ es) s ts P g l w = g
+      (λ d. absurd (eqb-false n (count ts) d (k .3 ∙ ap count z))))
+      (λ c. g))
+      g
 
   delivered-well : (p s : ℕ) (o : Option Terms) (P : Party) → Goes N p P → ((ts : Terms) → o ≡ some ts → Said N s ts) → Goes N p (delivered s o P)
   unfolding delivered

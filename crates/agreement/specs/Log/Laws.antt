@@ -5,7 +5,7 @@ use mathlib.Core.Logic.{⊎-elim}
 use mathlib.Core.Option.{Option}
 use mathlib.Core.Path.{_≡_, refl, sym, ap, _∙_, subst, fun-ext}
 use Rattle.terms.specs.Term.{Terms}
-use Rattle.translation.specs.Build.Laws.{NoRepeat}
+use Rattle.words.specs.Run.{NoRepeat}
 use Rattle.translation.specs.Receive.{Event}
 use Rattle.agreement.specs.View.{change}
 use Rattle.agreement.specs.Machine.{Shown, Party, Turn, turn, delivered, System, madeAfter, Move, move, Reach}

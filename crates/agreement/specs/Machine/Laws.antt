@@ -9,6 +9,7 @@ use Rattle.words.specs.Choice.Laws.{pick-ind, pick-true, pick-false, pick-ap, c
 use Rattle.terms.specs.Term.{Term, Terms, same, count}
 use Rattle.terms.specs.Image.{Image, Images}
 use Rattle.translation.specs.Receive.{Event}
+use Rattle.translation.specs.Standing.Laws.{waits-ind}
 use Rattle.agreement.specs.View.{View, change, binds}
 use Rattle.agreement.specs.Machine.{Shown, Effect, sending, comparing, opening, effect, Party, halts, goes, Turn, stays, takes, next, turn, handed, delivered, System, Move, move}
 
@@ -103,17 +104,14 @@ pub data Delivered (s : ℕ) (sent : Option Terms) (P : Party) : Party → Type 
 handed-cases : (es : List Event) (s : ℕ) (ts : Terms) (P : Party) → P .left ≡ es → Delivered s (some ts) P (handed es s ts P)
 unfolding handed
 handed-cases [] s ts P l = Delivered.dropped
-handed-cases (Event.new r ∷ es) s ts P l = Delivered.dropped
-handed-cases (Event.sends a is ∷ es) s ts P l = Delivered.dropped
-handed-cases (Event.receives a f n ∷ es) s ts P l =
-    pick-ind (Delivered s (some ts) P) (eqb a s) _ _
-    (λ e.
-    let z : P .left ≡ Event.receives s f n ∷ es = l ∙ ap (λ b. Event.receives b f n ∷ es) (eqb-true a s e) in
-    pick-ind (Delivered s (some ts) P) (eqb n (count ts)) _ _ (λ c. Delivered.took z refl) (λ c. Delivered.halted z refl (eqb-false n (count ts) c)))
-    (λ e. Delivered.dropped)
-handed-cases (Event.checks x i ∷ es) s ts P l = Delivered.dropped
-handed-cases (Event.opens x f n i ∷ es) s ts P l = Delivered.dropped
-handed-cases (Event.ends ps ∷ es) s ts P l = Delivered.dropped
+handed-cases (e ∷ es) s ts P l =
+    waits-ind (Delivered s (some ts) P) e _ _
+    (λ a f n w. pick-ind (Delivered s (some ts) P) (eqb a s) _ _
+    (λ c.
+    let z : P .left ≡ Event.receives s f n ∷ es = l ∙ ap (λ d. d ∷ es) w ∙ ap (λ b. Event.receives b f n ∷ es) (eqb-true a s c) in
+    pick-ind (Delivered s (some ts) P) (eqb n (count ts)) _ _ (λ d. Delivered.took z refl) (λ d. Delivered.halted z refl (eqb-false n (count ts) d)))
+    (λ c. Delivered.dropped))
+    Delivered.dropped
 
 pub delivered-cases : (s : ℕ) (sent : Option Terms) (P : Party) → Delivered s sent P (delivered s sent P)
 unfolding delivered

@@ -11,11 +11,13 @@ use lib.Seq.{take-append-seam}
 use lib.Dec.{eqb}
 use borrow.Author.Tests.{eqb-true}
 use Rattle.words.specs.Choice.Laws.{pick-ind}
+use Rattle.words.specs.Run.{NoRepeat}
+use Rattle.words.specs.Run.Laws.{no-repeat-append}
 use Rattle.terms.specs.Term.{Term, Terms, count, listed, Occurs, OccursIn}
 use Rattle.terms.specs.Image.{Images}
 use Rattle.translation.specs.Dictionary.{Dictionary, start}
 use Rattle.translation.specs.Build.{buildAll}
-use Rattle.translation.specs.Build.Laws.{NoRepeat, no-repeat-append, buildAll-makes, derivesAll-free}
+use Rattle.translation.specs.Build.Laws.{buildAll-makes, derivesAll-free}
 use Rattle.translation.specs.Receive.{Event, Did, followed, receiveAll}
 use Rattle.translation.specs.Receive.Laws.{Quiet, receiveAll-quiet}
 use Rattle.translation.specs.Program.{Step, Act, own, act, walk, walked, program}

@@ -6,6 +6,7 @@ use mathlib.Core.Path.{_≡_, refl}
 use lib.ListN.{getD, replicate}
 use Rattle.book.specs.Said.{said}
 use Rattle.translation.specs.Outcome.{Outcome}
+use Rattle.translation.specs.Standing.{standing}
 use Rattle.translation.specs.Trials as Translation
 use Rattle.agreement.specs.Example.{book, ended}
 use Rattle.agreement.specs.Rehearsal.{moveOf, played, eventsDone, longLine, moveLine, rehearsalSays, rehearsal}
@@ -47,7 +48,7 @@ trials =
 
 -- what the definitions say of each
 unfoldable pub computed : List Trial → List Outcome
-unfolding Translation.computed ended moveOf played eventsDone longLine moveLine rehearsalSays rehearsal
+unfolding Translation.computed ended standing moveOf played eventsDone longLine moveLine rehearsalSays rehearsal
 computed [] = []
 computed (t ∷ ts) = rehearsal (t .book) (t .schedule) (t .lent) ∷ computed ts
 

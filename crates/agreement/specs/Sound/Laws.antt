@@ -5,6 +5,7 @@ use mathlib.Core.List.{List, [], _∷_, _++_}
 use mathlib.Core.Option.{some, Option·some-ne-none}
 use mathlib.Core.Path.{_≡_, refl, sym, ap, _∙_, subst}
 use lib.ListN.{length, getElem?}
+use Rattle.words.specs.Choice.{then}
 use Rattle.words.specs.Choice.Laws.{pick-true, choose-ind, choose-yes}
 use Rattle.terms.specs.Term.{Term, Terms, same}
 use Rattle.terms.specs.Image.{Image}
@@ -13,7 +14,6 @@ use Rattle.translation.specs.Dictionary.Laws.{enter-ind, buildable-exact, allBu
 use Rattle.translation.specs.Build.{Built, builtOr, build, buildAll}
 use Rattle.translation.specs.Build.Laws.{built-or}
 use Rattle.translation.specs.Along.Laws.{buildAll-buildable, buildAll-images}
-use Rattle.translation.specs.Spelling.{then}
 use Rattle.agreement.specs.View.{holds, value, valueAll}
 use Rattle.agreement.specs.Sound.{seen, Right, Sound}
 

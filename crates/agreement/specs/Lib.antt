@@ -13,7 +13,5 @@ pub mod Log
 pub mod Start
 pub mod Finish
 pub mod Sequence
-pub mod Rehearsal
-pub mod Counting
 pub mod Example
 pub mod Counterexamples

@@ -29,11 +29,11 @@ use Rattle.translation.specs.Outcome.Laws.{Plays}
 use Rattle.translation.specs.Places.{Places, placesOf}
 use Rattle.agreement.specs.View.{change}
 use Rattle.agreement.specs.Machine.Laws.{change-ind}
-use Rattle.agreement.specs.Rehearsal.{eventsDone, mostMoves, rehearsal}
-use Rattle.agreement.specs.Rehearsal.Laws.{done-length}
-use Rattle.agreement.specs.Rehearsal.Came.{refused-came, long-came, move-came, room-came, played-came}
-use Rattle.agreement.specs.Counting.{waitsFor, waits, ticked, counted}
-use Rattle.agreement.specs.Counting.Laws.{done-counted}
+use Rattle.playing.specs.Rehearsal.{eventsDone, mostMoves, rehearsal}
+use Rattle.playing.specs.Rehearsal.Laws.{done-length}
+use Rattle.playing.specs.Rehearsal.Came.{refused-came, long-came, move-came, room-came, played-came}
+use Rattle.playing.specs.Counting.{waitsFor, waits, ticked, counted}
+use Rattle.playing.specs.Counting.Laws.{done-counted}
 use Rattle.placing.specs.Placed.{Placed}
 use Rattle.rehearsal.specs.Kept.{places, counts}
 

@@ -23,8 +23,8 @@ ghost use Rattle.book.specs.Layout.{parties as partiesOf, steps as stepsOf};
 ghost use Rattle.book.specs.Valid.{Valid};
 ghost use Rattle.translation.specs.Outcome.{came};
 ghost use Rattle.translation.specs.Outcome.Laws.{Plays};
-ghost use Rattle.agreement.specs.Rehearsal.{eventsDone, rehearsal};
-ghost use Rattle.agreement.specs.Counting.{waitsFor, waits as waitsAt, ticked, counted};
+ghost use Rattle.playing.specs.Rehearsal.{eventsDone, rehearsal};
+ghost use Rattle.playing.specs.Counting.{waitsFor, waits as waitsAt, ticked, counted};
 ghost use Rattle.rehearsal.specs.Kept.{places, counts};
 
 // The first move that names no party, or the schedule's length.

@@ -1,6 +1,6 @@
 -- `rehearsal::play` meets its contract: one move more. Assumes nothing.
 use Rattle.rehearsal.specs.Kept.{places, counts}
-use Rattle.agreement.specs.Counting.{counted}
+use Rattle.playing.specs.Counting.{counted}
 use Rattle.book.specs.Layout.{parties}
 use Rattle.words.specs.Run.Laws.{all-getD}
 use mathlib.Core.Path.{_≡_}

@@ -16,11 +16,11 @@ use Rattle.translation.specs.Standing.{standing, ifWaits}
 use Rattle.translation.specs.Narration.{narration}
 use Rattle.translation.specs.Listing.{listing}
 use Rattle.translation.specs.Outcome.{Outcome, takenLine, roomLine, laid}
 use Rattle.agreement.specs.Machine.{System, Move, move, started}
 use Rattle.agreement.specs.Agree.{receiverOf}
 pub mod Laws
 pub mod Came
-pub mod Trials
+pub mod Rehearsals
 pub mod Idle
 
 -- ---- the play

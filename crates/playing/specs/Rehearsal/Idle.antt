@@ -14,9 +14,9 @@ use Rattle.book.specs.Layout.{parties}
 use Rattle.book.specs.Said.{said}
 use Rattle.translation.specs.Outcome.{Outcome}
 use Rattle.translation.specs.Trials as Translation
 use Rattle.agreement.specs.Example.{book}
-use Rattle.agreement.specs.Rehearsal.{rehearsalSays, rehearsal}
-use Rattle.agreement.specs.Rehearsal.Trials.{computed}
+use Rattle.playing.specs.Rehearsal.{rehearsalSays, rehearsal}
+use Rattle.playing.specs.Rehearsal.Rehearsals.{computed}
 
 -- of a book, a schedule and the lent words
 abbrev pub Rehearser : Type 0

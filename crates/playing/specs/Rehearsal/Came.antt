@@ -13,8 +13,8 @@ use Rattle.book.specs.Said.{readingSays}
 use Rattle.translation.specs.Outcome.{acceptance, came}
 use Rattle.translation.specs.Outcome.Laws.{Plays, book-came, came-refused, came-written}
 use Rattle.translation.specs.declared.Answer.the-variants.{Written, Refused}
-use Rattle.agreement.specs.Rehearsal.{eventsDone, mostMoves, rehearsalSays, rehearsal}
-use Rattle.agreement.specs.Rehearsal.Laws.{BadMoves, Named, exactly-11, exactly-12, played-says}
+use Rattle.playing.specs.Rehearsal.{eventsDone, mostMoves, rehearsalSays, rehearsal}
+use Rattle.playing.specs.Rehearsal.Laws.{BadMoves, Named, exactly-11, exactly-12, played-says}
 
 module _ (b ms out : List ℕ) where
   -- a refusal that is the book's

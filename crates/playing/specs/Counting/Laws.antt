@@ -26,22 +26,22 @@ use Rattle.translation.specs.Places.{Places, placesOf, placeOf, isSend, isRecei
 use Rattle.translation.specs.Spelled.{spelled}
 use Rattle.translation.specs.Spelled.Laws.{plays-programs}
 use Rattle.translation.specs.Outcome.Laws.{Plays}
 use Rattle.agreement.specs.View.{change}
 use Rattle.agreement.specs.Machine.{Party, stays, takes, next, effect, turn, delivered, System, Move, move, begin, started, Reach}
 use Rattle.agreement.specs.Machine.Laws.{change-ap, change-none}
 use Rattle.agreement.specs.Agree.{receiverOf, AtEnd}
 use Rattle.agreement.specs.Order.{Sends, Of, Holds}
 use Rattle.agreement.specs.Order.Laws.{program-rising, sends-holds}
 use Rattle.agreement.specs.Going.{Going}
 use Rattle.agreement.specs.Flow.{Posted, Flow}
 use Rattle.agreement.specs.Progress.{Own, Next, rising-next, turn-own, delivered-takes}
 use Rattle.agreement.specs.Start.{reached-going, reached-flow, plays-played}
 use Rattle.agreement.specs.Finish.{toDo}
 use Rattle.agreement.specs.Finish.Counts.{end-toDo, reach-adds}
-use Rattle.agreement.specs.Rehearsal.{moveOf, played, eventsDone}
-use Rattle.agreement.specs.Counting.{waitsFor, waits, ticked, counted}
-use Rattle.agreement.specs.Counting.Standing.{Behind, place-upto, place-passes, rising-place, send-of, receive-of}
-use Rattle.agreement.specs.Counting.Reached.{reach-behind, reach-sent}
+use Rattle.playing.specs.Rehearsal.{moveOf, played, eventsDone}
+use Rattle.playing.specs.Counting.{waitsFor, waits, ticked, counted}
+use Rattle.playing.specs.Counting.Behind.{Behind, place-upto, place-passes, rising-place, send-of, receive-of}
+use Rattle.playing.specs.Counting.Reached.{reach-behind, reach-sent}
 
 -- ---- waits and ticked, from the counts
 module _ (b : List ℕ) (P : Places) (d : ℕ → ℕ) (p : ℕ) where

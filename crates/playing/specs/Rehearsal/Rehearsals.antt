@@ -8,8 +8,8 @@ use Rattle.book.specs.Said.{said}
 use Rattle.translation.specs.Outcome.{Outcome}
 use Rattle.translation.specs.Standing.{standing}
 use Rattle.translation.specs.Trials as Translation
 use Rattle.agreement.specs.Example.{book, ended}
-use Rattle.agreement.specs.Rehearsal.{moveOf, played, eventsDone, longLine, moveLine, rehearsalSays, rehearsal}
+use Rattle.playing.specs.Rehearsal.{moveOf, played, eventsDone, longLine, moveLine, rehearsalSays, rehearsal}
 
 pub record Trial : Type 0 where
   pub book : List ℕ

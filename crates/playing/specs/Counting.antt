@@ -9,8 +9,8 @@ use Rattle.words.specs.Choice.{pick}
 use Rattle.words.specs.First.{any}
 use Rattle.book.specs.Layout.{steps, sender, receiver}
 use Rattle.translation.specs.Places.{Places}
 use Rattle.agreement.specs.View.{change}
-pub mod Standing
+pub mod Behind
 pub mod Reached
 pub mod Laws
 

@@ -20,7 +20,7 @@ use Rattle.book.specs.Refusals.Laws.{Ruled, AllKeep, append-keep, keep-append, 
 use Rattle.book.specs.Valid.{Valid}
 use Rattle.translation.specs.Outcome.{roomLine, acceptance, Outcome}
 use Rattle.translation.specs.Outcome.Laws.{room-line, ends-in-room, room-exact, room-says, fits-exact, laid-keeps, laid-lays, laid-past, ten, ten-lines, book-first, Unplayable, taken-exact, Plays, keep-plays, plays-keep}
-use Rattle.agreement.specs.Rehearsal.{eventsDone, mostMoves, longLine, moveLine, rehearsalSays, rehearsal}
+use Rattle.playing.specs.Rehearsal.{eventsDone, mostMoves, longLine, moveLine, rehearsalSays, rehearsal}
 
 -- ---- refusal 11
 -- more than 4,096 moves; or at most that many, and place i is the smallest whose move names none of the q parties

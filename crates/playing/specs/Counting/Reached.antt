@@ -14,15 +14,15 @@ use Rattle.translation.specs.Taken.{stepOf}
 use Rattle.translation.specs.Standing.{standingAt, ifSends}
 use Rattle.translation.specs.Places.{placeOf, isSend}
 use Rattle.translation.specs.Spelled.{Programs}
 use Rattle.agreement.specs.View.{change}
 use Rattle.agreement.specs.Machine.{Party, Turn, turn, System, sentAfter, Move, move, begin, Reach}
 use Rattle.agreement.specs.Machine.Laws.{change-ind, change-same, Showing, Turned, turn-cases, Delivered, move-parties}
 use Rattle.agreement.specs.Agree.{receiverOf}
 use Rattle.agreement.specs.Order.{Rising}
 use Rattle.agreement.specs.Order.Laws.{rising-sender}
 use Rattle.agreement.specs.Flow.{Posted}
 use Rattle.agreement.specs.Start.{Played, reached-flow}
-use Rattle.agreement.specs.Counting.Standing.{Behind, behind-next, place-upto}
+use Rattle.playing.specs.Counting.Behind.{Behind, behind-next, place-upto}
 
 -- ---- a party stays where it was, or its next event is done
 data Onward (P R : Party) : Type 0 where

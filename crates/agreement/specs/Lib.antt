@@ -1,4 +1,4 @@
-pub mod View
+pub mod Sight
 pub mod Machine
 pub mod Agree
 pub mod Sound
@@ -8,10 +8,11 @@ pub mod Parts
 pub mod Order
 pub mod Flow
 pub mod Progress
-pub mod Making
+pub mod News
 pub mod Log
 pub mod Start
 pub mod Finish
 pub mod Sequence
+pub mod Computing
 pub mod Example
 pub mod Counterexamples

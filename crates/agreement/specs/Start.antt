@@ -25,23 +25,23 @@ use Rattle.agreement.specs.Safe.{Safe}
 use Rattle.agreement.specs.Safe.Laws.{program-safe}
 use Rattle.agreement.specs.Going.{Going}
 use Rattle.agreement.specs.Going.Laws.{reach-going, going-bound, going-faithful}
-use Rattle.agreement.specs.Parts.Laws.{own-parts, parts-said}
-use Rattle.agreement.specs.Order.{Rising, Sends}
-use Rattle.agreement.specs.Order.Laws.{program-rising, program-sends}
+use Rattle.agreement.specs.Parts.Laws.{own-parts, parts-narrated}
+use Rattle.agreement.specs.Order.{Rising, ToSend}
+use Rattle.agreement.specs.Order.Laws.{program-rising, program-toSend}
 use Rattle.agreement.specs.Flow.{Flow}
 use Rattle.agreement.specs.Flow.Laws.{reach-flow}
 use Rattle.agreement.specs.Progress.{progress}
-use Rattle.agreement.specs.Making.{news}
-use Rattle.agreement.specs.Making.Laws.{program-free, program-once, program-apart}
+use Rattle.agreement.specs.News.{news}
+use Rattle.agreement.specs.News.Laws.{program-free, program-once, program-apart}
 use Rattle.agreement.specs.Log.{Logged}
 use Rattle.agreement.specs.Log.Laws.{reach-logged}
 
 -- a narration among the first Q parties that refusal 10 lets pass
-pub record Played (N : Narration) (Q : ℕ) : Type 0 where
+pub record PlayableAmong (N : Narration) (Q : ℕ) : Type 0 where
   pub senders : (s : ℕ) → s < length (N .says) → stepOf N s .sender < Q
   pub playable : (s : ℕ) → s < length (N .says) → Playable N s
 
-module _ (N : Narration) (Q : ℕ) (programs : ℕ → List Event) (v : Played N Q) (w : Programs N Q programs) where
+module _ (N : Narration) (Q : ℕ) (programs : ℕ → List Event) (v : PlayableAmong N Q) (w : Programs N Q programs) where
   abbrev pub starting : System
   starting = begin (knownTo N) programs
 
@@ -53,7 +53,7 @@ module _ (N : Narration) (Q : ℕ) (programs : ℕ → List Event) (v : Played N
   start-going =
       record {
         parties = λ p. record {
-          standing = refl;
+          unhalted = refl;
           holding = knownTo N p;
           bound = [];
           sees = refl;
@@ -63,14 +63,14 @@ module _ (N : Narration) (Q : ℕ) (programs : ℕ → List Event) (v : Played N
       }
     where
       safe : (q : ℕ) → Safe N (meant N q) (programOf N q) (knownTo N q) []
-      safe q = unfold programOf meant in program-safe N _ (knownTo N q) (own q 0 (N .says)) (parts-said N q (own-parts N q)) refl
+      safe q = unfold programOf meant in program-safe N _ (knownTo N q) (own q 0 (N .says)) (parts-narrated N q (own-parts N q)) refl
 
   start-flow : Flow N Q starting
   unfolding begin
   start-flow =
       record {
         rising = each (λ p es. Rising N p 0 es) (λ p. program-rising N p) (λ p. Rising.end);
-        sends = λ s l. inl (subst (Sends s) (sym (w .party _ (v .senders s l))) (program-sends N s l));
+        sends = λ s l. inl (subst (ToSend s) (sym (w .party _ (v .senders s l))) (program-toSend N s l));
         nobody = λ p l. subst AtEnd (sym (w .nobody p l)) AtEnd.end;
       }
 
@@ -107,9 +107,9 @@ module _ (N : Narration) (Q : ℕ) (programs : ℕ → List Event) (v : Played N
         }
 
 -- ---- a book that plays, and one whose outcome is a listing
-pub plays-played : (b : List ℕ) → Plays b → Played (narration b) (parties b)
+pub plays-playable : (b : List ℕ) → Plays b → PlayableAmong (narration b) (parties b)
 unfolding stepAt
-plays-played b plays =
+plays-playable b plays =
     let e = steps-length b in
     record {
       senders = λ s l.
@@ -118,5 +118,5 @@ plays-played b plays =
       playable = λ s l. plays .playable s (omega arith);
     }
 
-pub accepted-played : (b out : List ℕ) → outcome b out .says .number ≡ 0 → Played (narration b) (parties b)
-accepted-played b out accepted = plays-played b (accepted-plays b out accepted)
+pub accepted-playable : (b out : List ℕ) → outcome b out .says .number ≡ 0 → PlayableAmong (narration b) (parties b)
+accepted-playable b out accepted = plays-playable b (accepted-plays b out accepted)

@@ -9,7 +9,7 @@ use Rattle.words.specs.Choice.{pick}
 use Rattle.words.specs.First.{any}
 use Rattle.book.specs.Layout.{steps, sender, receiver}
 use Rattle.translation.specs.Places.{Places}
-use Rattle.agreement.specs.View.{change}
+use Rattle.agreement.specs.Sight.{change}
 pub mod Behind
 pub mod Reached
 pub mod Laws
@@ -28,6 +28,6 @@ module _ (b : List ℕ) (P : Places) where
   ticked p d = pick (ltb (d p) (P .ends p)) (pick (waits d p) d (change d p (suc (d p)))) d
 
   -- the parties of a schedule move one after another
-  unfoldable pub counted : List ℕ → (ℕ → ℕ) → ℕ → ℕ
-  counted [] d = d
-  counted (p ∷ ps) d = counted ps (ticked p d)
+  unfoldable pub tickedAll : List ℕ → (ℕ → ℕ) → ℕ → ℕ
+  tickedAll [] d = d
+  tickedAll (p ∷ ps) d = tickedAll ps (ticked p d)

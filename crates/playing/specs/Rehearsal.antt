@@ -3,11 +3,12 @@
 -- sent. The output is Q words: events done by each party, END not counted. .. The rehearsal is the case in which a sent step's copy is
 -- handed over whenever its waiting receiver is moved." So a move of the rehearsal is a move of the plain machine, and the machine
 -- starts from the programs that the listing's words spell.
-use Prim.Native.Nat.{ℕ}
+use Prim.Native.Nat.{ℕ, _≤_, _<_}
 use mathlib.Core.List.{List, [], _∷_, _++_}
+use mathlib.Core.Path.{_≡_}
 use lib.ListN.{length, getD}
 use lib.Dec.{ltb, leb}
-use Rattle.words.specs.Run.{values}
+use Rattle.words.specs.Run.{All, values}
 use Rattle.book.specs.Layout.{parties}
 use Rattle.book.specs.Said.{Said, said}
 use Rattle.book.specs.Refusals.{Line, line, here, firstOf, readingTable}
@@ -57,3 +58,19 @@ rehearsalSays b ms out =
 -- of the words b, the schedule ms and the lent words out
 unfoldable pub rehearsal : List ℕ → List ℕ → List ℕ → Outcome
 rehearsal b ms out = laid (rehearsalSays b ms out) out (eventsDone b ms)
+
+-- ---- the words of what is said of it (Laws)
+-- what it promises of the words b, the schedule ms and the lent words out
+abbrev pub RehearsalPromise : List ℕ → List ℕ → List ℕ → Outcome → Type 0
+RehearsalPromise b ms out o = o ≡ rehearsal b ms out
+
+-- refusal 11 is due with the values vs: more than 4,096 moves; or at most that many, and place i is the smallest whose move names none
+-- of the q parties
+pub data BadMoves (q : ℕ) (ms vs : List ℕ) : Type 0 where
+  long : mostMoves < length ms → vs ≡ mostMoves ∷ [] → BadMoves q ms vs
+  nameless : length ms ≤ mostMoves → (i : ℕ) → i < length ms → q ≤ getD ms i 0
+      → ((k : ℕ) → k < i → getD ms k 0 < q) → vs ≡ i ∷ [] → BadMoves q ms vs
+
+-- every move names a party
+abbrev pub Named : ℕ → List ℕ → Type 0
+Named q ms = All (λ p. p < q) ms

@@ -15,13 +15,13 @@ use Rattle.translation.specs.Receive.{Event}
 use Rattle.translation.specs.Standing.{standingAt, ifEnded}
 use Rattle.translation.specs.Places.{placeOf, isEnd}
 use Rattle.translation.specs.Narration.{Narration}
-use Rattle.agreement.specs.View.{change}
+use Rattle.agreement.specs.Sight.{change}
 use Rattle.agreement.specs.Machine.{Shown, Party, Turn, System, sentAfter, madeAfter, Move, move, Reach}
 use Rattle.agreement.specs.Machine.Laws.{change-same, change-other, change-none, Showing, Turned, turn-cases, Delivered, delivered-cases, move-parties}
 use Rattle.agreement.specs.Agree.{meant, receiverOf, AtEnd, Does}
 use Rattle.agreement.specs.Safe.{Safe}
 use Rattle.agreement.specs.Going.{Going}
-use Rattle.agreement.specs.Going.Laws.{said-one, EffectWell, goes-effect}
+use Rattle.agreement.specs.Going.Laws.{narrated-one, EffectWell, goes-effect}
 use Rattle.agreement.specs.Order.{Rising}
 use Rattle.agreement.specs.Flow.{Flow}
 use Rattle.agreement.specs.Finish.{toDo, toDoAll, Lowers, AllAtEnd}
@@ -135,7 +135,7 @@ module _ (N : Narration) (Q : ℕ) (S : System) (going : Going N S) (flow : Flow
   delivered-lowers p s (Delivered.halted {f = f} {n = n} {es = es} {ts = ts} l e c) =
       let g = going .parties p in
       let k : Safe N (meant N p) (Event.receives s f n ∷ es) (g .holding) (g .bound) = subst (λ fs. Safe N (meant N p) fs (g .holding) (g .bound)) l (g .safe) in
-      absurd (c (k .3 ∙ ap count (said-one N (k .1) (going .messages s ts e))))
+      absurd (c (k .3 ∙ ap count (narrated-one N (k .1) (going .messages s ts e))))
   delivered-lowers p s (Delivered.took l e) = inr (lowered p _ (sym (ap toDo l)))
 
   pub move-lowers : (m : Move) → Lowers N Q S m
@@ -145,7 +145,7 @@ module _ (N : Narration) (Q : ℕ) (S : System) (going : Going N S) (flow : Flow
 
   -- a move that gets something done changes something
   pub does-changes : {m : Move} {p : ℕ} → Does N S m p → move (receiverOf N) m S ≡ S → ⊥
-  does-changes {m} {p} d e = let z = sym (d .counted) ∙ ap (λ (T : System). T .party p .done) e in omega arith
+  does-changes {m} {p} d e = let z = sym (d .oneMore) ∙ ap (λ (T : System). T .party p .done) e in omega arith
 
   -- when nothing is left to do all are at END
   pub none-left : toDoAll Q S ≡ 0 → AllAtEnd Q S

@@ -10,8 +10,8 @@ use Rattle.terms.specs.Term.{Term, Terms, same, count}
 use Rattle.terms.specs.Image.{Image, Images}
 use Rattle.translation.specs.Receive.{Event}
 use Rattle.translation.specs.Standing.Laws.{waits-ind}
-use Rattle.agreement.specs.View.{View, change, binds}
-use Rattle.agreement.specs.Machine.{Shown, Effect, sending, comparing, opening, effect, Party, halts, goes, Turn, stays, takes, next, turn, handed, delivered, System, Move, move}
+use Rattle.agreement.specs.Sight.{Sight, change, binds}
+use Rattle.agreement.specs.Machine.{Shown, Effect, sendEffect, checkEffect, openEffect, effect, Party, halts, goes, Turn, stays, takes, next, turn, handed, delivered, System, Move, move}
 
 -- ---- change
 module _ {A : Type 0} (f : ℕ → A) (p : ℕ) (a : A) where
@@ -37,21 +37,21 @@ pub change-none : {A : Type 0} (f : ℕ → A) (p : ℕ) → change f p (f p) �
 change-none f p = fun-ext (λ q. change-ind f p (f p) (λ a. a ≡ f q) q (λ e. ap f e) (λ n. refl))
 
 -- ---- the effects, case by case
-pub sending-ind : (P : Effect → Type 0) (s : ℕ) (o : Option Terms) (v : View) → P Effect.fails → ((ts : Terms) → P (Effect.does (Shown.sent s ts) v)) → P (sending s o v)
-unfolding sending
-sending-ind P s none v f g = f
-sending-ind P s (some ts) v f g = g ts
+pub sendEffect-ind : (P : Effect → Type 0) (s : ℕ) (o : Option Terms) (v : Sight) → P Effect.fails → ((ts : Terms) → P (Effect.does (Shown.sent s ts) v)) → P (sendEffect s o v)
+unfolding sendEffect
+sendEffect-ind P s none v f g = f
+sendEffect-ind P s (some ts) v f g = g ts
 
-pub comparing-ind : (P : Effect → Type 0) (t u : Option Term) (v : View) → P Effect.fails → P (Effect.does Shown.nothing v) → P (comparing t u v)
-unfolding comparing
-comparing-ind P none u v f g = f
-comparing-ind P (some t) none v f g = f
-comparing-ind P (some t) (some u) v f g = choose-ind P (same t u) _ _ (λ e. g) (λ n. f)
+pub checkEffect-ind : (P : Effect → Type 0) (t u : Option Term) (v : Sight) → P Effect.fails → P (Effect.does Shown.nothing v) → P (checkEffect t u v)
+unfolding checkEffect
+checkEffect-ind P none u v f g = f
+checkEffect-ind P (some t) none v f g = f
+checkEffect-ind P (some t) (some u) v f g = choose-ind P (same t u) _ _ (λ e. g) (λ n. f)
 
-pub opening-ind : (P : Effect → Type 0) (x : ℕ) (o : Option Terms) (v : View) → P Effect.fails → ((w : View) → P (Effect.does Shown.nothing w)) → P (opening x o v)
-unfolding opening
-opening-ind P x none v f g = f
-opening-ind P x (some ts) v f g = g (binds x ts v)
+pub openEffect-ind : (P : Effect → Type 0) (x : ℕ) (o : Option Terms) (v : Sight) → P Effect.fails → ((w : Sight) → P (Effect.does Shown.nothing w)) → P (openEffect x o v)
+unfolding openEffect
+openEffect-ind P x none v f g = f
+openEffect-ind P x (some ts) v f g = g (binds x ts v)
 
 -- an event that a party does by its own move, and what others can see of it
 pub data Showing : Event → Shown → Type 0 where
@@ -65,22 +65,22 @@ ShowingIn e Effect.fails = Unit {0}
 ShowingIn e Effect.idles = Unit {0}
 ShowingIn e (Effect.does o v) = Showing e o
 
-effect-showing : (e : Event) (v : View) → ShowingIn e (effect e v)
+effect-showing : (e : Event) (v : Sight) → ShowingIn e (effect e v)
 unfolding effect
 effect-showing (Event.new r) v = Showing.new
-effect-showing (Event.sends s is) v = sending-ind (ShowingIn (Event.sends s is)) s _ v tt (λ ts. Showing.sends)
+effect-showing (Event.sends s is) v = sendEffect-ind (ShowingIn (Event.sends s is)) s _ v tt (λ ts. Showing.sends)
 effect-showing (Event.receives s f n) v = tt
-effect-showing (Event.checks x i) v = comparing-ind (ShowingIn (Event.checks x i)) _ _ v tt Showing.checks
-effect-showing (Event.opens x f n i) v = opening-ind (ShowingIn (Event.opens x f n i)) f _ v tt (λ w. Showing.opens)
+effect-showing (Event.checks x i) v = checkEffect-ind (ShowingIn (Event.checks x i)) _ _ v tt Showing.checks
+effect-showing (Event.opens x f n i) v = openEffect-ind (ShowingIn (Event.opens x f n i)) f _ v tt (λ w. Showing.opens)
 effect-showing (Event.ends ps) v = tt
 
 -- ---- a party's own move comes to nothing, or it halts, or it does its next event
 pub data Turned (P : Party) : Turn → Type 0 where
   stayed : Turned P (stays P)
-  halted : {e : Event} {es : List Event} → P .left ≡ e ∷ es → effect e (P .view) ≡ Effect.fails → Turned P (stays (halts P))
-  did : {e : Event} {es : List Event} {o : Shown} {v : View} → P .left ≡ e ∷ es → Showing e o → Turned P (record { party = goes P es v; shown = o })
+  halted : {e : Event} {es : List Event} → P .left ≡ e ∷ es → effect e (P .sight) ≡ Effect.fails → Turned P (stays (halts P))
+  did : {e : Event} {es : List Event} {o : Shown} {v : Sight} → P .left ≡ e ∷ es → Showing e o → Turned P (record { party = goes P es v; shown = o })
 
-takes-cases : (P : Party) (e : Event) (es : List Event) (f : Effect) → P .left ≡ e ∷ es → effect e (P .view) ≡ f → ShowingIn e f → Turned P (takes f P es)
+takes-cases : (P : Party) (e : Event) (es : List Event) (f : Effect) → P .left ≡ e ∷ es → effect e (P .sight) ≡ f → ShowingIn e f → Turned P (takes f P es)
 unfolding takes
 takes-cases P e es Effect.fails l c k = Turned.halted l c
 takes-cases P e es Effect.idles l c k = Turned.stayed
@@ -89,7 +89,7 @@ takes-cases P e es (Effect.does o v) l c k = Turned.did l k
 next-cases : (es : List Event) (P : Party) → P .left ≡ es → Turned P (next es P)
 unfolding next
 next-cases [] P l = Turned.stayed
-next-cases (e ∷ es) P l = takes-cases P e es (effect e (P .view)) l refl (effect-showing e (P .view))
+next-cases (e ∷ es) P l = takes-cases P e es (effect e (P .sight)) l refl (effect-showing e (P .sight))
 
 pub turn-cases : (P : Party) → Turned P (turn P)
 unfolding turn
@@ -99,7 +99,7 @@ turn-cases P = pick-ind (Turned P) (P .halted) (stays P) (next (P .left) P) (λ 
 pub data Delivered (s : ℕ) (sent : Option Terms) (P : Party) : Party → Type 0 where
   dropped : Delivered s sent P P
   halted : {f n : ℕ} {es : List Event} {ts : Terms} → P .left ≡ Event.receives s f n ∷ es → sent ≡ some ts → (n ≡ count ts → ⊥) → Delivered s sent P (halts P)
-  took : {f n : ℕ} {es : List Event} {ts : Terms} → P .left ≡ Event.receives s f n ∷ es → sent ≡ some ts → Delivered s sent P (goes P es (binds f ts (P .view)))
+  took : {f n : ℕ} {es : List Event} {ts : Terms} → P .left ≡ Event.receives s f n ∷ es → sent ≡ some ts → Delivered s sent P (goes P es (binds f ts (P .sight)))
 
 handed-cases : (es : List Event) (s : ℕ) (ts : Terms) (P : Party) → P .left ≡ es → Delivered s (some ts) P (handed es s ts P)
 unfolding handed

@@ -13,8 +13,8 @@ use Rattle.words.specs.Choice.Laws.{pick-ind}
 use Rattle.translation.specs.Program.{Step, Act, own}
 use Rattle.translation.specs.Narration.{Narration}
 use Rattle.translation.specs.Taken.{stepOf}
-use Rattle.agreement.specs.Agree.{Said}
-use Rattle.agreement.specs.Safe.Laws.{ActsSaid}
+use Rattle.agreement.specs.Agree.{Narrated}
+use Rattle.agreement.specs.Safe.Laws.{ActsNarrated}
 use Rattle.agreement.specs.Parts.{Parts}
 
 module _ (N : Narration) where
@@ -23,8 +23,8 @@ module _ (N : Narration) where
   unfolding stepOf
   step-seam before a later e = rw e (getD-append-seam before a later _)
 
-  said-seam : (before : List Step) (a : Step) (later : List Step) → N .says ≡ before ++ a ∷ later → Said N (length before) (a .messages)
-  said-seam before a later e =
+  narrated-seam : (before : List Step) (a : Step) (later : List Step) → N .says ≡ before ++ a ∷ later → Narrated N (length before) (a .messages)
+  narrated-seam before a later e =
       let l = ap length e ∙ length-append before (a ∷ later) in
       record { within = omega arith; messages = ap (λ (b : Step). b .messages) (step-seam before a later e) }
 
@@ -46,7 +46,7 @@ module _ (N : Narration) where
     own-parts-from before [] e = Parts.nil
     own-parts-from before (a ∷ later) e =
         let rest : Parts N p (suc (length before)) (own p (suc (length before)) later) = subst (λ n. Parts N p n (own p n later)) (length-on before a) (own-parts-from (before ++ a ∷ []) later (split-on before a later e)) in
-        let w = said-seam before a later e in
+        let w = narrated-seam before a later e in
         let z = step-seam before a later e in
         pick-ind (Parts N p (length before)) (eqb (a .sender) p) _ _
         (λ c. Parts.sends (le-refl _) w (ap (λ (b : Step). b .sender) z ∙ eqb-true _ _ c) rest)
@@ -57,10 +57,10 @@ module _ (N : Narration) where
     pub own-parts : Parts N p 0 (own p 0 (N .says))
     own-parts = own-parts-from [] (N .says) refl
 
-    pub parts-said : {low : ℕ} {acts : List Act} → Parts N p low acts → ActsSaid N acts
-    parts-said Parts.nil = tt
-    parts-said (Parts.sends m w e r) = (w, parts-said r)
-    parts-said (Parts.receives m w e r) = (w, parts-said r)
+    pub parts-narrated : {low : ℕ} {acts : List Act} → Parts N p low acts → ActsNarrated N acts
+    parts-narrated Parts.nil = tt
+    parts-narrated (Parts.sends m w e r) = (w, parts-narrated r)
+    parts-narrated (Parts.receives m w e r) = (w, parts-narrated r)
 
     -- a step that the party sends is among its acts
     own-sends-from : (before later : List Step) (s : ℕ) → N .says ≡ before ++ later → length before ≤ s → s < length (N .says) → stepOf N s .sender ≡ p

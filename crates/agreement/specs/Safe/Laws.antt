@@ -14,7 +14,7 @@ use Rattle.translation.specs.Receive.{Event, Did, nothing, followed, canOpen, r
 use Rattle.translation.specs.Receive.Laws.{rule-ind}
 use Rattle.translation.specs.Program.{Act, arrived, sent, act, walk, walked, program}
 use Rattle.translation.specs.Narration.{Narration}
-use Rattle.agreement.specs.Agree.{Said}
+use Rattle.agreement.specs.Agree.{Narrated}
 use Rattle.agreement.specs.Sound.{Right, Sound}
 use Rattle.agreement.specs.Sound.Laws.{at-append, sound-append, sound-enter, start-sound, image-value, plus, buildAll-value, buildAll-sound}
 use Rattle.agreement.specs.Safe.{Safe}
@@ -46,12 +46,12 @@ longer ns ts n e = let a = length-append ns (listed ts) in let c = count-listed 
 
 -- ---- the acts are at steps of the narration, with their messages
 abbrev ActSaid : Narration → Act → Type 0
-ActSaid N (Act.sends s ts) = Said N s ts
-ActSaid N (Act.receives s ts) = Said N s ts
+ActSaid N (Act.sends s ts) = Narrated N s ts
+ActSaid N (Act.receives s ts) = Narrated N s ts
 
-abbrev pub ActsSaid : Narration → List Act → Type 0
-ActsSaid N [] = Unit {0}
-ActsSaid N (a ∷ acts) = ActSaid N a × ActsSaid N acts
+abbrev pub ActsNarrated : Narration → List Act → Type 0
+ActsNarrated N [] = Unit {0}
+ActsNarrated N (a ∷ acts) = ActSaid N a × ActsNarrated N acts
 
 module _ (N : Narration) (all : List Term) where
   -- ---- what a party's doing adds goes well, from holding hs to holding ks
@@ -133,7 +133,7 @@ module _ (N : Narration) (all : List Term) where
         (good-receiveAll ts n δ (n + count ts) (longer ns ts n l) (sound-append (listed ts) s) (subst (λ y. AllAt (ns ++ listed ts) y ts) (sym l) (allAt-seam ns ts))),
   )
 
-  good-walk : (acts : List Act) (δ : Dictionary) (n : ℕ) {hs ns : List Term} → ActsSaid N acts → n ≡ length ns → Sound δ hs ns → (ks : List Term) × Good hs ks ns (walk acts δ n)
+  good-walk : (acts : List Act) (δ : Dictionary) (n : ℕ) {hs ns : List Term} → ActsNarrated N acts → n ≡ length ns → Sound δ hs ns → (ks : List Term) × Good hs ks ns (walk acts δ n)
   unfolding walk
   good-walk [] δ n {hs} w l s = (hs, good-nothing δ s)
   good-walk (a ∷ acts) δ n {ns = ns} w l s =
@@ -144,7 +144,7 @@ module _ (N : Narration) (all : List Term) where
       (r .0, good-followed d _ (g .1) (r .1))
 
   -- ---- program
-  pub program-safe : (known : List Term) (acts : List Act) → ActsSaid N acts → walked known acts .given ≡ all → Safe N all (program known acts) known []
+  pub program-safe : (known : List Term) (acts : List Act) → ActsNarrated N acts → walked known acts .given ≡ all → Safe N all (program known acts) known []
   unfolding program walked
   program-safe known acts w e =
       let g = good-walk acts (start known) 0 w refl (start-sound known) in

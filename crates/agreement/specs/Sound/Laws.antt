@@ -14,7 +14,7 @@ use Rattle.translation.specs.Dictionary.Laws.{enter-ind, buildable-exact, allBu
 use Rattle.translation.specs.Build.{Built, builtOr, build, buildAll}
 use Rattle.translation.specs.Build.Laws.{built-or}
 use Rattle.translation.specs.Along.Laws.{buildAll-buildable, buildAll-images}
-use Rattle.agreement.specs.View.{holds, value, valueAll}
+use Rattle.agreement.specs.Sight.{holds, value, valueAll}
 use Rattle.agreement.specs.Sound.{seen, Right, Sound}
 
 -- ---- lists of terms by their places

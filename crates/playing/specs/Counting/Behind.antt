@@ -10,7 +10,7 @@ use Rattle.translation.specs.Receive.{Event}
 use Rattle.translation.specs.Narration.{Narration}
 use Rattle.translation.specs.Standing.Laws.{sends-ind, waits-ind}
 use Rattle.translation.specs.Places.{placeOf, isSend, isReceive}
-use Rattle.agreement.specs.Order.{Rising, Of, Holds}
+use Rattle.agreement.specs.Order.{Rising, Of, Among}
 use Rattle.agreement.specs.Order.Laws.{rising-once, rising-left}
 
 -- ---- behind the first n events of a list, a list is left
@@ -22,9 +22,9 @@ pub behind-next : {n : ℕ} {e : Event} {es fs : List Event} → Behind n es (e 
 behind-next Behind.all = Behind.past Behind.all
 behind-next (Behind.past h) = Behind.past (behind-next h)
 
-behind-holds : {s n : ℕ} {es fs : List Event} → Behind n es fs → Holds s fs → Holds s es
-behind-holds Behind.all k = k
-behind-holds (Behind.past h) k = Holds.later (behind-holds h k)
+behind-among : {s n : ℕ} {es fs : List Event} → Behind n es fs → Among s fs → Among s es
+behind-among Behind.all k = k
+behind-among (Behind.past h) k = Among.later (behind-among h k)
 
 -- ---- placeOf, for any test
 module _ (t : Event → Bool) where
@@ -42,12 +42,12 @@ module _ (t : Event → Bool) where
       pick-ind (λ i. i ≡ suc n → t e ≡ true) (t x) _ _ (λ q y. absurd (omega arith)) (λ q y. place-passes h (omega arith)) z
 
   -- where the test passes events of step s only, and one of that step is left, none that passes was done
-  pub rising-place : {N : Narration} {p low s n : ℕ} {es fs : List Event} → ((e : Event) → t e ≡ true → Of s e) → Rising N p low es → Behind n es fs → Holds s fs → n ≤ placeOf t es
+  pub rising-place : {N : Narration} {p low s n : ℕ} {es fs : List Event} → ((e : Event) → t e ≡ true → Of s e) → Rising N p low es → Behind n es fs → Among s fs → n ≤ placeOf t es
   unfolding placeOf
   rising-place f h Behind.all k = omega arith
   rising-place {n = suc n} f h (Behind.past {e = x} b) k =
-      let a = rising-place f (rising-left h (behind-holds b k)) b k in
-      pick-ind (λ i. suc n ≤ i) (t x) _ _ (λ q. absurd (rising-once h (behind-holds b k) (f x q))) (λ q. omega arith)
+      let a = rising-place f (rising-left h (behind-among b k)) b k in
+      pick-ind (λ i. suc n ≤ i) (t x) _ _ (λ q. absurd (rising-once h (behind-among b k) (f x q))) (λ q. omega arith)
 
 -- ---- the tests for a step
 pub send-of : (s : ℕ) (e : Event) → isSend s e ≡ true → Of s e

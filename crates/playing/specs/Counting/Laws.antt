@@ -26,20 +26,20 @@ use Rattle.translation.specs.Places.{Places, placesOf, placeOf, isSend, isRecei
 use Rattle.translation.specs.Spelled.{spelled}
 use Rattle.translation.specs.Spelled.Laws.{plays-programs}
 use Rattle.translation.specs.Outcome.Laws.{Plays}
-use Rattle.agreement.specs.View.{change}
+use Rattle.agreement.specs.Sight.{change}
 use Rattle.agreement.specs.Machine.{Party, stays, takes, next, effect, turn, delivered, System, Move, move, begin, started, Reach}
 use Rattle.agreement.specs.Machine.Laws.{change-ap, change-none}
 use Rattle.agreement.specs.Agree.{receiverOf, AtEnd}
-use Rattle.agreement.specs.Order.{Sends, Of, Holds}
-use Rattle.agreement.specs.Order.Laws.{program-rising, sends-holds}
+use Rattle.agreement.specs.Order.{ToSend, Of, Among}
+use Rattle.agreement.specs.Order.Laws.{program-rising, toSend-among}
 use Rattle.agreement.specs.Going.{Going}
 use Rattle.agreement.specs.Flow.{Posted, Flow}
 use Rattle.agreement.specs.Progress.{Own, Next, rising-next, turn-own, delivered-takes}
-use Rattle.agreement.specs.Start.{reached-going, reached-flow, plays-played}
+use Rattle.agreement.specs.Start.{reached-going, reached-flow, plays-playable}
 use Rattle.agreement.specs.Finish.{toDo}
 use Rattle.agreement.specs.Finish.Counts.{end-toDo, reach-adds}
 use Rattle.playing.specs.Rehearsal.{moveOf, played, eventsDone}
-use Rattle.playing.specs.Counting.{waitsFor, waits, ticked, counted}
+use Rattle.playing.specs.Counting.{waitsFor, waits, ticked, tickedAll}
 use Rattle.playing.specs.Counting.Behind.{Behind, place-upto, place-passes, rising-place, send-of, receive-of}
 use Rattle.playing.specs.Counting.Reached.{reach-behind, reach-sent}
 
@@ -96,10 +96,10 @@ module _ (b : List ℕ) (plays : Plays b) {S : System} (r : Reach (receiverOf (n
   again = r
 
   going : Going N S
-  going = reached-going N (parties b) (spelled b (listing b)) (plays-played b plays) (plays-programs b plays) again
+  going = reached-going N (parties b) (spelled b (listing b)) (plays-playable b plays) (plays-programs b plays) again
 
   flow : Flow N (parties b) S
-  flow = reached-flow N (parties b) (spelled b (listing b)) (plays-played b plays) (plays-programs b plays) again
+  flow = reached-flow N (parties b) (spelled b (listing b)) (plays-playable b plays) (plays-programs b plays) again
 
   -- ---- the parties, with their programs
   behind : (p : ℕ) → p < parties b → Behind (d p) (programOf N p) (S .party p .left)
@@ -129,11 +129,11 @@ module _ (b : List ℕ) (plays : Plays b) {S : System} (r : Reach (receiverOf (n
     unfolding placesOf
     sent-done h =
         subst (λ es. placeOf (isSend s) es < d (sender b s)) (plays-programs b plays .party (sender b s) sender-within)
-        (subst (λ q. placeOf (isSend s) (spelled b (listing b) q) < d q) sender-is (reach-sent N (parties b) (spelled b (listing b)) (plays-played b plays) (plays-programs b plays) again s h))
+        (subst (λ q. placeOf (isSend s) (spelled b (listing b) q) < d q) sender-is (reach-sent N (parties b) (spelled b (listing b)) (plays-playable b plays) (plays-programs b plays) again s h))
 
-    unsent-left : Sends s (S .party (sender b s) .left) → d (sender b s) ≤ placesOf b .sends s
+    unsent-left : ToSend s (S .party (sender b s) .left) → d (sender b s) ≤ placesOf b .sends s
     unfolding placesOf
-    unsent-left h = rising-place (isSend s) (send-of s) (program-rising N (sender b s)) (behind (sender b s) sender-within) (sends-holds h)
+    unsent-left h = rising-place (isSend s) (send-of s) (program-rising N (sender b s)) (behind (sender b s) sender-within) (toSend-among h)
 
   -- ---- party p's move, by what its next event is
   module _ (p : ℕ) (l : p < parties b) where
@@ -151,14 +151,14 @@ module _ (b : List ℕ) (plays : Plays b) {S : System} (r : Reach (receiverOf (n
     receives-next {s} {f} {n} {es} z c =
         let k = subst (Behind (d p) (programOf N p)) z (behind p l) in
         let u = place-upto (isReceive s) k (eq-eqb s s refl) in
-        let v = rising-place (isReceive s) (receive-of s) (program-rising N p) k (Holds.here Of.receives) in
+        let v = rising-place (isReceive s) (receive-of s) (program-rising N p) k (Among.here Of.receives) in
         let w : placeOf (isReceive s) (programOf N p) ≡ d p = omega arith in
         subst (λ q. placeOf (isReceive s) (programOf N q) ≡ d p) (sym c) w
 
     move-ended : {es : List Event} → S .party p .left ≡ es → AtEnd es → Ticks (moveOf p es)
     unfolding moveOf standing standingAt ifWaits move turn next takes effect
     move-ended z AtEnd.end =
-        let t : turn (S .party p) ≡ stays (S .party p) = pick-false (S .party p .halted) _ _ (going .parties p .standing) ∙ ap (λ es. next es (S .party p)) z in
+        let t : turn (S .party p) ≡ stays (S .party p) = pick-false (S .party p .halted) _ _ (going .parties p .unhalted) ∙ ap (λ es. next es (S .party p)) z in
         let a = adds p l in
         let k : toDo (S .party p .left) ≡ 0 = ap toDo z ∙ end-toDo AtEnd.end in
         rw t (ap doneBy (change-none (S .party) p) ∙ sym (ticked-ended b (placesOf b) d p (omega arith)))
@@ -193,10 +193,10 @@ module _ (b : List ℕ) (plays : Plays b) {S : System} (r : Reach (receiverOf (n
           unsent : Posted (S .sent s) → ⊥
           unsent h = elim (subst Posted m h) [ ]
 
-          go : Sends s (S .party (stepOf N s .sender) .left) ⊎ Posted (S .sent s) → Ticks (Move.delivery s)
+          go : ToSend s (S .party (stepOf N s .sender) .left) ⊎ Posted (S .sent s) → Ticks (Move.delivery s)
           go (inl h) =
               rw m (ap doneBy (change-none (S .party) (receiverOf N s))
-              ∙ sym (ticked-waits b (placesOf b) d p (waits-one b (placesOf b) d p s i c (receives-next z c) (unsent-left s i (subst (λ q. Sends s (S .party q .left)) (sender-is s i) h)))))
+              ∙ sym (ticked-waits b (placesOf b) d p (waits-one b (placesOf b) d p s i c (receives-next z c) (unsent-left s i (subst (λ q. ToSend s (S .party q .left)) (sender-is s i) h)))))
           go (inr h) = absurd (unsent h)
 
       move-receives : (o : Option Terms) → S .sent s ≡ o → Ticks (Move.delivery s)
@@ -217,23 +217,23 @@ module _ (b : List ℕ) (plays : Plays b) {S : System} (r : Reach (receiverOf (n
 -- ---- a schedule
 module _ (b : List ℕ) (plays : Plays b) where
   played-counted : (ms : List ℕ) → All (λ q. q < parties b) ms → {S : System} → Reach (receiverOf (narration b)) (started b (listing b)) S
-      → doneBy (played (receiverOf (narration b)) ms S .party) ≡ counted b (placesOf b) ms (doneBy (S .party))
-  unfolding played counted
+      → doneBy (played (receiverOf (narration b)) ms S .party) ≡ tickedAll b (placesOf b) ms (doneBy (S .party))
+  unfolding played tickedAll
   played-counted [] a r = refl
-  played-counted (p ∷ ms) a r = played-counted ms (a .1) (Reach.after _ r) ∙ ap (counted b (placesOf b) ms) (move-ticks b plays r p (a .0))
+  played-counted (p ∷ ms) a r = played-counted ms (a .1) (Reach.after _ r) ∙ ap (tickedAll b (placesOf b) ms) (move-ticks b plays r p (a .0))
 
   -- the events done, as a function of the party
-  pub counts-same : (ms : List ℕ) → All (λ q. q < parties b) ms → doneBy (played (receiverOf (narration b)) ms (started b (listing b)) .party) ≡ counted b (placesOf b) ms (λ q. 0)
-  counts-same ms a = played-counted ms a Reach.start ∙ ap (counted b (placesOf b) ms) begins
+  pub counts-same : (ms : List ℕ) → All (λ q. q < parties b) ms → doneBy (played (receiverOf (narration b)) ms (started b (listing b)) .party) ≡ tickedAll b (placesOf b) ms (λ q. 0)
+  counts-same ms a = played-counted ms a Reach.start ∙ ap (tickedAll b (placesOf b) ms) begins
     where
       begins : doneBy (started b (listing b) .party) ≡ (λ q. 0)
       begins = unfold started begin in refl
 
 pub counts-agree : (b : List ℕ) → Plays b → (ms : List ℕ) → All (λ q. q < parties b) ms → (p : ℕ) → p < parties b
-    → played (receiverOf (narration b)) ms (started b (listing b)) .party p .done ≡ counted b (placesOf b) ms (λ q. 0) p
+    → played (receiverOf (narration b)) ms (started b (listing b)) .party p .done ≡ tickedAll b (placesOf b) ms (λ q. 0) p
 counts-agree b plays ms a p l = ap (λ (f : ℕ → ℕ). f p) (counts-same b plays ms a)
 
 pub done-counted : (b : List ℕ) → Plays b → (ms : List ℕ) → All (λ q. q < parties b) ms
-    → eventsDone b ms ≡ values (counted b (placesOf b) ms (λ q. 0)) 0 (parties b)
+    → eventsDone b ms ≡ values (tickedAll b (placesOf b) ms (λ q. 0)) 0 (parties b)
 unfolding eventsDone
 done-counted b plays ms a = ap (λ (f : ℕ → ℕ). values f 0 (parties b)) (counts-same b plays ms a)

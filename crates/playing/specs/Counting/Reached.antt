@@ -14,14 +14,14 @@ use Rattle.translation.specs.Taken.{stepOf}
 use Rattle.translation.specs.Standing.{standingAt, ifSends}
 use Rattle.translation.specs.Places.{placeOf, isSend}
 use Rattle.translation.specs.Spelled.{Programs}
-use Rattle.agreement.specs.View.{change}
+use Rattle.agreement.specs.Sight.{change}
 use Rattle.agreement.specs.Machine.{Party, Turn, turn, System, sentAfter, Move, move, begin, Reach}
 use Rattle.agreement.specs.Machine.Laws.{change-ind, change-same, Showing, Turned, turn-cases, Delivered, move-parties}
 use Rattle.agreement.specs.Agree.{receiverOf}
 use Rattle.agreement.specs.Order.{Rising}
 use Rattle.agreement.specs.Order.Laws.{rising-sender}
 use Rattle.agreement.specs.Flow.{Posted}
-use Rattle.agreement.specs.Start.{Played, reached-flow}
+use Rattle.agreement.specs.Start.{PlayableAmong, reached-flow}
 use Rattle.playing.specs.Counting.Behind.{Behind, behind-next, place-upto}
 
 -- ---- a party stays where it was, or its next event is done
@@ -71,7 +71,7 @@ module _ (N : Narration) (p : ℕ) (es : List Event) where
   turned-sent h b (Turned.did l Showing.checks) f s k = inl k
   turned-sent h b (Turned.did l Showing.opens) f s k = inl k
 
-module _ (N : Narration) (Q : ℕ) (programs : ℕ → List Event) (v : Played N Q) (w : Programs N Q programs) where
+module _ (N : Narration) (Q : ℕ) (programs : ℕ → List Event) (v : PlayableAmong N Q) (w : Programs N Q programs) where
   abbrev SentDone : System → ℕ → Type 0
   SentDone S s = Posted (S .sent s) → placeOf (isSend s) (programs (stepOf N s .sender)) < S .party (stepOf N s .sender) .done
 

@@ -25,7 +25,7 @@ use Rattle.translation.specs.Program.Laws.{own-append, walk-append}
 use Rattle.translation.specs.Narration.{Narration, knownTo, programOf}
 use Rattle.translation.specs.Taken.{Taken, Nobodys, stepOf, holdsBefore, madeAt, Playable}
 use Rattle.agreement.specs.Parts.Laws.{step-seam, split-on, length-on}
-use Rattle.agreement.specs.Making.{news, MadeFrom}
+use Rattle.agreement.specs.News.{news, MadeFrom}
 
 -- ---- news
 news-append : (es fs : List Event) → news (es ++ fs) ≡ news es ++ news fs

@@ -11,7 +11,7 @@ use Rattle.words.specs.Choice.{pick, choose, then}
 use Rattle.terms.specs.Term.{Term, Terms, same}
 use Rattle.terms.specs.Image.{Image, Images}
 
-pub record View : Type 0 where
+pub record Sight : Type 0 where
   -- the terms that it holds as themselves: known at the start, or made
   pub itself : List Term
   -- its bound placeholders, by the number that the listing names
@@ -23,7 +23,7 @@ holds (u ∷ us) t = choose (same u t) true (holds us t)
 
 -- ---- the term that an image stands for
 unfoldable mutual
-  pub value : View → Image → Option Term
+  pub value : Sight → Image → Option Term
   value v (Image.itself t) = pick (holds (v .itself) t) (some t) none
   value v (Image.placeholder x) = v .placeholders x
   value v (Image.operation g is) = then (valueAll v is) (λ ts. some (Term.operation g ts))
@@ -31,7 +31,7 @@ unfoldable mutual
   value v (Image.public i) = then (value v i) (λ t. some (Term.public t))
   value v (Image.private i) = then (value v i) (λ t. some (Term.private t))
 
-  pub valueAll : View → Images → Option Terms
+  pub valueAll : Sight → Images → Option Terms
   valueAll v Images.nil = some Terms.nil
   valueAll v (Images.cons i is) = then (value v i) (λ t. then (valueAll v is) (λ ts. some (Terms.cons t ts)))
 
@@ -45,8 +45,8 @@ unfoldable pub bind : ℕ → Terms → (ℕ → Option Term) → ℕ → Option
 bind x Terms.nil f = f
 bind x (Terms.cons t ts) f = bind (suc x) ts (change f x (some t))
 
-abbrev pub binds : ℕ → Terms → View → View
+abbrev pub binds : ℕ → Terms → Sight → Sight
 binds x ts v = record { itself = v .itself; placeholders = bind x ts (v .placeholders) }
 
-abbrev pub gains : ℕ → View → View
+abbrev pub gains : ℕ → Sight → Sight
 gains r v = record { itself = Term.atom r ∷ v .itself; placeholders = v .placeholders }

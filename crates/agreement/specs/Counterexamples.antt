@@ -68,12 +68,18 @@ duplicates =
       says = stepFrom 0 1 (twoTerms (Term.cipher key (oneTerm nonce)) (Term.cipher key (oneTerm token))) ∷ [];
     }
 
-pub duplicates-right : programOf duplicates 1 ≡ Event.receives 0 0 2 ∷ Event.checks 0 (Image.itself (Term.cipher key (oneTerm nonce))) ∷ Event.opens 1 2 1 (Image.itself key) ∷ Event.ends ((token, 2) ∷ []) ∷ []
+pub duplicates-right : programOf duplicates 1
+    ≡ Event.receives 0 0 2 ∷ Event.checks 0 (Image.itself (Term.cipher key (oneTerm nonce)))
+    ∷ Event.opens 1 2 1 (Image.itself key) ∷ Event.ends ((token, 2) ∷ []) ∷ []
 unfolding computes duplicates
 duplicates-right = refl
 
 unfoldable pub row-by-row : ℕ → List Event
-row-by-row = instead 1 (Event.receives 0 0 2 ∷ Event.opens 0 2 1 (Image.itself key) ∷ Event.opens 1 3 1 (Image.itself key) ∷ Event.ends ((nonce, 2) ∷ (token, 3) ∷ []) ∷ []) (programOf duplicates)
+row-by-row =
+    instead 1
+    (Event.receives 0 0 2 ∷ Event.opens 0 2 1 (Image.itself key)
+    ∷ Event.opens 1 3 1 (Image.itself key) ∷ Event.ends ((nonce, 2) ∷ (token, 3) ∷ []) ∷ [])
+    (programOf duplicates)
 
 pub row-by-row-breaks : Breaks duplicates row-by-row (Bound duplicates)
 unfolding computes stateAfter duplicates row-by-row
@@ -88,14 +94,20 @@ row-by-row-breaks =
 -- ---- (b) "Opening with the cipher's own key where its partner is asked": B halts.
 unfoldable pub sealed : Narration
 sealed =
-    record { names = partyName 0 ∷ partyName 1 ∷ []; knows = (Term.public key ∷ []) ∷ (key ∷ []) ∷ []; says = stepFrom 0 1 (oneTerm (Term.cipher (Term.public key) (oneTerm nonce))) ∷ [] }
+    record {
+      names = partyName 0 ∷ partyName 1 ∷ [];
+      knows = (Term.public key ∷ []) ∷ (key ∷ []) ∷ [];
+      says = stepFrom 0 1 (oneTerm (Term.cipher (Term.public key) (oneTerm nonce))) ∷ [];
+    }
 
-pub sealed-right : programOf sealed 1 ≡ Event.receives 0 0 1 ∷ Event.opens 0 1 1 (Image.private (Image.itself key)) ∷ Event.ends ((nonce, 1) ∷ []) ∷ []
+pub sealed-right : programOf sealed 1
+    ≡ Event.receives 0 0 1 ∷ Event.opens 0 1 1 (Image.private (Image.itself key)) ∷ Event.ends ((nonce, 1) ∷ []) ∷ []
 unfolding computes sealed
 sealed-right = refl
 
 unfoldable pub own-key : ℕ → List Event
-own-key = instead 1 (Event.receives 0 0 1 ∷ Event.opens 0 1 1 (Image.public (Image.itself key)) ∷ Event.ends ((nonce, 1) ∷ []) ∷ []) (programOf sealed)
+own-key =
+    instead 1 (Event.receives 0 0 1 ∷ Event.opens 0 1 1 (Image.public (Image.itself key)) ∷ Event.ends ((nonce, 1) ∷ []) ∷ []) (programOf sealed)
 
 pub own-key-breaks : Breaks sealed own-key (Faithful sealed)
 unfolding computes stateAfter sealed own-key
@@ -109,7 +121,12 @@ own-key-breaks =
 
 -- ---- (c) "Making a fresh atom whenever one is missing": refusal 10 is due, and without it B makes an atom that A knows at the start.
 unfoldable pub missing : Narration
-missing = record { names = partyName 0 ∷ partyName 1 ∷ []; knows = (nonce ∷ []) ∷ [] ∷ []; says = stepFrom 1 0 (oneTerm nonce) ∷ [] }
+missing =
+    record {
+      names = partyName 0 ∷ partyName 1 ∷ [];
+      knows = (nonce ∷ []) ∷ [] ∷ [];
+      says = stepFrom 1 0 (oneTerm nonce) ∷ [];
+    }
 
 pub missing-refused : unplayable missing 0 ≡ true
 unfolding computes missing
@@ -122,12 +139,18 @@ fresh-breaks =
     record {
       state = stateAfter missing (programOf missing) ms;
       reached = sequence-reach (receiverOf missing) _ ms Reach.start;
-      fails = λ h. h .untaken 4 (List·Memᴰ·head refl) (Taken.known {k = nonce ∷ []} {t = nonce} (List·Memᴰ·head refl) (List·Memᴰ·head refl) Occurs.atom);
+      fails = λ h. h .untaken 4 (List·Memᴰ·head refl)
+          (Taken.known {k = nonce ∷ []} {t = nonce} (List·Memᴰ·head refl) (List·Memᴰ·head refl) Occurs.atom);
     }
 
 -- ---- (c) "Testing "taken" per party instead of over the whole book": C has never seen the atom that A made, and makes it again.
 unfoldable pub unseen : Narration
-unseen = record { names = partyName 0 ∷ partyName 1 ∷ partyName 2 ∷ []; knows = [] ∷ [] ∷ [] ∷ []; says = stepFrom 0 1 (oneTerm nonce) ∷ stepFrom 2 1 (oneTerm nonce) ∷ [] }
+unseen =
+    record {
+      names = partyName 0 ∷ partyName 1 ∷ partyName 2 ∷ [];
+      knows = [] ∷ [] ∷ [] ∷ [];
+      says = stepFrom 0 1 (oneTerm nonce) ∷ stepFrom 2 1 (oneTerm nonce) ∷ [];
+    }
 
 pub unseen-refused : unplayable unseen 1 ≡ true
 unfolding computes unseen
@@ -146,9 +169,15 @@ per-party-breaks =
 -- ---- (d) a step skipped by one party: A is at END after the first step, and B waits for the second for ever. (Were it skipped by all
 -- parties, demand 3 would hold, "with nothing left to fail"; demand 2 catches that.)
 unfoldable pub twoSteps : Narration
-twoSteps = record { names = partyName 0 ∷ partyName 1 ∷ []; knows = (nonce ∷ token ∷ []) ∷ [] ∷ []; says = stepFrom 0 1 (oneTerm nonce) ∷ stepFrom 0 1 (oneTerm token) ∷ [] }
+twoSteps =
+    record {
+      names = partyName 0 ∷ partyName 1 ∷ [];
+      knows = (nonce ∷ token ∷ []) ∷ [] ∷ [];
+      says = stepFrom 0 1 (oneTerm nonce) ∷ stepFrom 0 1 (oneTerm token) ∷ [];
+    }
 
-pub twoSteps-right : programOf twoSteps 0 ≡ Event.sends 0 (Images.cons (Image.itself nonce) Images.nil) ∷ Event.sends 1 (Images.cons (Image.itself token) Images.nil) ∷ Event.ends [] ∷ []
+pub twoSteps-right : programOf twoSteps 0
+    ≡ Event.sends 0 (Images.cons (Image.itself nonce) Images.nil) ∷ Event.sends 1 (Images.cons (Image.itself token) Images.nil) ∷ Event.ends [] ∷ []
 unfolding computes twoSteps
 twoSteps-right = refl
 

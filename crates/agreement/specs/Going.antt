@@ -9,7 +9,7 @@ use Rattle.terms.specs.Term.{Term, Terms}
 use Rattle.translation.specs.Narration.{Narration}
 use Rattle.agreement.specs.Machine.{Party, System}
 use Rattle.agreement.specs.Agree.{meant, Narrated}
-use Rattle.agreement.specs.Sound.{seen}
+use Rattle.agreement.specs.Sound.{sightOf}
 use Rattle.agreement.specs.Safe.{Safe}
 pub mod Laws
 
@@ -18,7 +18,7 @@ pub record Goes (N : Narration) (p : ℕ) (P : Party) : Type 0 where
   pub unhalted : P .halted ≡ false
   pub holding : List Term
   pub bound : List Term
-  pub sees : P .sight ≡ seen holding bound
+  pub sees : P .sight ≡ sightOf holding bound
   pub safe : Safe N (meant N p) (P .left) holding bound
 
 pub record Going (N : Narration) (S : System) : Type 0 where

@@ -4,7 +4,7 @@ pub mod Agree
 pub mod Sound
 pub mod Safe
 pub mod Going
-pub mod Parts
+pub mod Acts
 pub mod Order
 pub mod Flow
 pub mod Progress

@@ -73,8 +73,8 @@ abbrev pub halts : Party → Party
 halts P = record { halted = true; left = P .left; sight = P .sight; done = P .done }
 
 -- its next event is done, es are left, and it sees v
-abbrev pub goes : Party → List Event → Sight → Party
-goes P es v = record { halted = P .halted; left = es; sight = v; done = suc (P .done) }
+abbrev pub goesOn : Party → List Event → Sight → Party
+goesOn P es v = record { halted = P .halted; left = es; sight = v; done = suc (P .done) }
 
 -- a party after its own move, and what others can see of it
 pub record Turn : Type 0 where
@@ -87,7 +87,7 @@ stays P = record { party = P; shown = Shown.nothing }
 unfoldable pub takes : Effect → Party → List Event → Turn
 takes Effect.fails P es = stays (halts P)
 takes Effect.idles P es = stays P
-takes (Effect.does s v) P es = record { party = goes P es v; shown = s }
+takes (Effect.does s v) P es = record { party = goesOn P es v; shown = s }
 
 unfoldable pub next : List Event → Party → Turn
 next [] P = stays P
@@ -96,9 +96,9 @@ next (e ∷ es) P = takes (effect e (P .sight)) P es
 unfoldable pub turn : Party → Turn
 turn P = pick (P .halted) (stays P) (next (P .left) P)
 
--- it gets the messages of the step that it waits for, which asks for n, in the placeholders from f on; es are left
+-- it waits for n messages, for the placeholders from f on, and is given these: it takes them, and es are left; another count fails
 abbrev pub gets : ℕ → ℕ → Terms → Party → List Event → Party
-gets f n ts P es = pick (eqb n (count ts)) (goes P es (binds f ts (P .sight))) (halts P)
+gets f n ts P es = pick (eqb n (count ts)) (goesOn P es (binds f ts (P .sight))) (halts P)
 
 -- a copy of step s's messages is handed over to a party that has the events left
 unfoldable pub handed : List Event → ℕ → Terms → Party → Party

@@ -17,8 +17,10 @@ pub mod Laws
 pub data Rising (N : Narration) (p : ℕ) : ℕ → List Event → Type 0 where
   end : {low : ℕ} {ps : List (Term × ℕ)} → Rising N p low (Event.ends ps ∷ [])
   new : {low r : ℕ} {es : List Event} → Rising N p low es → Rising N p low (Event.new r ∷ es)
-  sends : {low s : ℕ} {is : Images} {es : List Event} → low ≤ s → stepOf N s .sender ≡ p → Rising N p (suc s) es → Rising N p low (Event.sends s is ∷ es)
-  receives : {low s f n : ℕ} {es : List Event} → low ≤ s → s < length (N .says) → receiverOf N s ≡ p → Rising N p (suc s) es → Rising N p low (Event.receives s f n ∷ es)
+  sends : {low s : ℕ} {is : Images} {es : List Event} → low ≤ s → stepOf N s .sender ≡ p → Rising N p (suc s) es
+      → Rising N p low (Event.sends s is ∷ es)
+  receives : {low s f n : ℕ} {es : List Event} → low ≤ s → s < length (N .says) → receiverOf N s ≡ p → Rising N p (suc s) es
+      → Rising N p low (Event.receives s f n ∷ es)
   checks : {low x : ℕ} {i : Image} {es : List Event} → Rising N p low es → Rising N p low (Event.checks x i ∷ es)
   opens : {low x f n : ℕ} {i : Image} {es : List Event} → Rising N p low es → Rising N p low (Event.opens x f n i ∷ es)
 

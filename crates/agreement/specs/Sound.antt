@@ -12,8 +12,8 @@ use Rattle.translation.specs.Dictionary.{Held, Dictionary}
 use Rattle.agreement.specs.Sight.{Sight, holds}
 pub mod Laws
 
-unfoldable pub seen : List Term → List Term → Sight
-seen hs ns = record { itself = hs; placeholders = getElem? ns }
+unfoldable pub sightOf : List Term → List Term → Sight
+sightOf hs ns = record { itself = hs; placeholders = getElem? ns }
 
 pub data Right (hs ns : List Term) (t : Term) : Held → Type 0 where
   free : Right hs ns t Held.free

@@ -20,12 +20,12 @@ use Rattle.translation.specs.Outcome.{outcome}
 use Rattle.translation.specs.Outcome.Laws.{Plays}
 use Rattle.agreement.specs.Machine.{System, begin, Reach}
 use Rattle.agreement.specs.Agree.{meant, receiverOf, AtEnd, Agree}
-use Rattle.agreement.specs.Sound.{seen}
+use Rattle.agreement.specs.Sound.{sightOf}
 use Rattle.agreement.specs.Safe.{Safe}
 use Rattle.agreement.specs.Safe.Laws.{program-safe}
 use Rattle.agreement.specs.Going.{Going}
 use Rattle.agreement.specs.Going.Laws.{reach-going, going-bound, going-faithful}
-use Rattle.agreement.specs.Parts.Laws.{own-parts, parts-narrated}
+use Rattle.agreement.specs.Acts.Laws.{own-acts, acts-narrated}
 use Rattle.agreement.specs.Order.{Rising, ToSend}
 use Rattle.agreement.specs.Order.Laws.{program-rising, program-toSend}
 use Rattle.agreement.specs.Flow.{Flow}
@@ -49,7 +49,7 @@ module _ (N : Narration) (Q : ℕ) (programs : ℕ → List Event) (v : Playable
   each A f g p = elim (decLt p Q) [ yes l ↦ subst (A p) (sym (w .party p l)) (f p) | no l ↦ subst (A p) (sym (w .nobody p (omega arith))) (g p) ]
 
   start-going : Going N starting
-  unfolding begin seen
+  unfolding begin sightOf
   start-going =
       record {
         parties = λ p. record {
@@ -63,7 +63,7 @@ module _ (N : Narration) (Q : ℕ) (programs : ℕ → List Event) (v : Playable
       }
     where
       safe : (q : ℕ) → Safe N (meant N q) (programOf N q) (knownTo N q) []
-      safe q = unfold programOf meant in program-safe N _ (knownTo N q) (own q 0 (N .says)) (parts-narrated N q (own-parts N q)) refl
+      safe q = unfold programOf meant in program-safe N _ (knownTo N q) (own q 0 (N .says)) (acts-narrated N q (own-acts N q)) refl
 
   start-flow : Flow N Q starting
   unfolding begin
@@ -87,7 +87,9 @@ module _ (N : Narration) (Q : ℕ) (programs : ℕ → List Event) (v : Playable
       }
     where
       its : (p r : ℕ) → List·Memᴰ r (news (programs p)) → List·Memᴰ r (news (programOf N p))
-      its p r = each (λ q es. List·Memᴰ r (news es) → List·Memᴰ r (news (programOf N q))) (λ q m. m) (λ q m. absurd (List·Memᴰ·not-nil (unfold news in m))) p
+      its p r =
+          each (λ q es. List·Memᴰ r (news es) → List·Memᴰ r (news (programOf N q))) (λ q m. m)
+          (λ q m. absurd (List·Memᴰ·not-nil (unfold news in m))) p
 
   module _ {S : System} (r : Reach (receiverOf N) starting S) where
     pub reached-going : Going N S

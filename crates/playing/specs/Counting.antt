@@ -1,6 +1,7 @@
--- The rehearsal, counted: how many events each party has done is all that there is to know. A party at END stays; so does one whose
--- next event is the RECEIVE of a step whose SEND is not done yet; any other does its next event. No term is looked at: that no
--- comparison and no opening fails is demand 3's, and so these counts are the plain machine's (Laws).
+-- The rehearsal, counted: how many events each party has done is all that there is to know. Document 01, 'The rehearsal': "each move
+-- lets that party do its next event, or nothing if it is at END or waits for a step not yet sent." A party waits if its next event is
+-- the RECEIVE of a step whose SEND is not done yet. No term is looked at: that no comparison and no opening fails is demand 3's, and so
+-- these counts are the plain machine's (Laws).
 use Prim.Native.Nat.{ℕ, suc}
 use mathlib.Core.Bool.{Bool, false}
 use mathlib.Core.List.{List, [], _∷_}

@@ -2,7 +2,8 @@
 -- a schedule of party numbers .., each move lets that party do its next event, or nothing if it is at END or waits for a step not yet
 -- sent. The output is Q words: events done by each party, END not counted. .. The rehearsal is the case in which a sent step's copy is
 -- handed over whenever its waiting receiver is moved." So a move of the rehearsal is a move of the plain machine, and the machine
--- starts from the programs that the listing's words spell.
+-- starts from the programs that the listing's words spell. Refusal 11: "rehearsal only: more than 4,096 moves, or a move that names no
+-- party", "4,096, else smallest bad move".
 use Prim.Native.Nat.{ℕ, _≤_, _<_}
 use mathlib.Core.List.{List, [], _∷_, _++_}
 use mathlib.Core.Path.{_≡_}
@@ -59,7 +60,7 @@ rehearsalSays b ms out =
 unfoldable pub rehearsal : List ℕ → List ℕ → List ℕ → Outcome
 rehearsal b ms out = laid (rehearsalSays b ms out) out (eventsDone b ms)
 
--- ---- the words of what is said of it (Laws)
+-- ---- what is said of it, and proved in Laws
 -- what it promises of the words b, the schedule ms and the lent words out
 abbrev pub RehearsalPromise : List ℕ → List ℕ → List ℕ → Outcome → Type 0
 RehearsalPromise b ms out o = o ≡ rehearsal b ms out

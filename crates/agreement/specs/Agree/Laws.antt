@@ -13,7 +13,9 @@ use Rattle.agreement.specs.Start.{reached-agree, accepted-playable}
 
 -- For any words b and any lent words out: if the outcome is a listing, then in every state that any sequence of moves reaches, from
 -- the start with the programs that the lent words spell afterwards, the parties agree.
-pub parties-agree : (b out : List ℕ) → outcome b out .says .number ≡ 0 → {S : System} → Reach (receiverOf (narration b)) (started b (outcome b out .lent)) S → Agree (narration b) (parties b) S
+pub parties-agree : (b out : List ℕ) → outcome b out .says .number ≡ 0 → {S : System}
+    → Reach (receiverOf (narration b)) (started b (outcome b out .lent)) S
+    → Agree (narration b) (parties b) S
 unfolding started
 parties-agree b out accepted r =
     reached-agree (narration b) (parties b) (spelled b (outcome b out .lent)) (accepted-playable b out accepted) (accepted-programs b out accepted) r

@@ -112,10 +112,12 @@ module _ (N : Narration) (Q : ℕ) (S : System) (going : Going N S) (flow : Flow
   within : (p : ℕ) → 0 < toDo (S .party p .left) → p < Q
   within p h = elim (decLt p Q) [ yes l ↦ l | no l ↦ (let e = end-toDo (flow .nobody p (omega arith)) in absurd (omega arith)) ]
 
-  lowered : (p : ℕ) (R : Party) → suc (toDo (R .left)) ≡ toDo (S .party p .left) → suc (sum (λ q. toDo (change (S .party) p R q .left)) Q) ≡ sum (λ q. toDo (S .party q .left)) Q
+  lowered : (p : ℕ) (R : Party) → suc (toDo (R .left)) ≡ toDo (S .party p .left)
+      → suc (sum (λ q. toDo (change (S .party) p R q .left)) Q) ≡ sum (λ q. toDo (S .party q .left)) Q
   lowered p R e =
       sum-lower (λ q. toDo (S .party q .left)) (λ q. toDo (change (S .party) p R q .left)) p Q (within p (omega arith))
-      (ap (λ (P : Party). suc (toDo (P .left))) (change-same (S .party) p R) ∙ e) (λ q n. ap (λ (P : Party). toDo (P .left)) (change-other (S .party) p R q n))
+      (ap (λ (P : Party). suc (toDo (P .left))) (change-same (S .party) p R) ∙ e)
+      (λ q n. ap (λ (P : Party). toDo (P .left)) (change-other (S .party) p R q n))
 
   abbrev afterTurn : ℕ → Turn → System
   afterTurn p t = record { party = change (S .party) p (t .party); sent = sentAfter (t .shown) (S .sent); made = madeAfter (t .shown) (S .made) }
@@ -129,12 +131,14 @@ module _ (N : Narration) (Q : ℕ) (S : System) (going : Going N S) (flow : Flow
   abbrev afterDelivery : ℕ → Party → System
   afterDelivery p R = record { party = change (S .party) p R; sent = S .sent; made = S .made }
 
-  delivered-lowers : (p s : ℕ) {R : Party} → Delivered s (S .sent s) (S .party p) R → (afterDelivery p R ≡ S) ⊎ (suc (toDoAll Q (afterDelivery p R)) ≡ toDoAll Q S)
+  delivered-lowers : (p s : ℕ) {R : Party} → Delivered s (S .sent s) (S .party p) R
+      → (afterDelivery p R ≡ S) ⊎ (suc (toDoAll Q (afterDelivery p R)) ≡ toDoAll Q S)
   unfolding toDoAll toDo placeOf isEnd standingAt ifEnded pick
   delivered-lowers p s Delivered.dropped = inl (λ i. record { party = change-none (S .party) p i; sent = S .sent; made = S .made })
   delivered-lowers p s (Delivered.halted {f = f} {n = n} {es = es} {ts = ts} l e c) =
       let g = going .parties p in
-      let k : Safe N (meant N p) (Event.receives s f n ∷ es) (g .holding) (g .bound) = subst (λ fs. Safe N (meant N p) fs (g .holding) (g .bound)) l (g .safe) in
+      let k : Safe N (meant N p) (Event.receives s f n ∷ es) (g .holding) (g .bound) =
+      subst (λ fs. Safe N (meant N p) fs (g .holding) (g .bound)) l (g .safe) in
       absurd (c (k .3 ∙ ap count (narrated-one N (k .1) (going .messages s ts e))))
   delivered-lowers p s (Delivered.took l e) = inr (lowered p _ (sym (ap toDo l)))
 

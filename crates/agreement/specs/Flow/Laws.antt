@@ -47,7 +47,8 @@ module _ (N : Narration) (p : ℕ) where
   delivered-rising (Delivered.took l e) h = rising-took N p (subst (Rising N p 0) l h)
 
 -- ---- what was to be sent is sent or still to be sent
-turned-toSend : {s : ℕ} {P : Party} {t : Turn} → Turned P t → ToSend s (P .left) → ToSend s (t .party .left) ⊎ ((ts : Terms) × (t .shown ≡ Shown.sent s ts))
+turned-toSend : {s : ℕ} {P : Party} {t : Turn} → Turned P t → ToSend s (P .left)
+    → ToSend s (t .party .left) ⊎ ((ts : Terms) × (t .shown ≡ Shown.sent s ts))
 turned-toSend Turned.stayed h = inl h
 turned-toSend (Turned.halted l c) h = inl h
 turned-toSend {s} (Turned.did l w) h = toSend-did (subst (ToSend s) l h) w
@@ -81,7 +82,8 @@ unfolding move
 does-handed N S s p d =
     let q = receiverOf N s in
     change-ind (S .party) q (delivered s (S .sent s) (S .party q)) (λ R. R .done ≡ suc (S .party p .done) → Taking S s p) p
-    (λ e. subst (λ r. delivered s (S .sent s) (S .party q) .done ≡ suc (S .party r .done) → Taking S s r) e (taken q (delivered-cases s (S .sent s) (S .party q))))
+    (λ e. subst (λ r. delivered s (S .sent s) (S .party q) .done ≡ suc (S .party r .done) → Taking S s r) e
+    (taken q (delivered-cases s (S .sent s) (S .party q))))
     (λ n c. absurd (omega arith)) (d .oneMore)
   where
     taken : (r : ℕ) {R : Party} → Delivered s (S .sent s) (S .party r) R → R .done ≡ suc (S .party r .done) → Taking S s r
@@ -113,7 +115,9 @@ module _ (N : Narration) (Q : ℕ) where
       let c = delivered-cases a (S .sent a) (S .party r) in
       record {
         rising = λ q. kept-at (λ P. Rising N q 0 (P .left)) (S .party) r _ q (delivered-rising N q c) (g .rising q);
-        sends = λ s l. ⊎-elim (λ h. inl (kept-at (λ P. ToSend s (P .left)) (S .party) r _ (stepOf N s .sender) (delivered-toSend c) h)) (λ h. inr h) (g .sends s l);
+        sends =
+            λ s l. ⊎-elim (λ h. inl (kept-at (λ P. ToSend s (P .left)) (S .party) r _ (stepOf N s .sender) (delivered-toSend c) h)) (λ h. inr h)
+            (g .sends s l);
         nobody = λ q l. kept-at (λ P. AtEnd (P .left)) (S .party) r _ q (delivered-end c) (g .nobody q l);
       }
 

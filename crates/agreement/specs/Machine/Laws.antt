@@ -11,7 +11,7 @@ use Rattle.terms.specs.Image.{Image, Images}
 use Rattle.translation.specs.Receive.{Event}
 use Rattle.translation.specs.Standing.Laws.{waits-ind}
 use Rattle.agreement.specs.Sight.{Sight, change, binds}
-use Rattle.agreement.specs.Machine.{Shown, Effect, sendEffect, checkEffect, openEffect, effect, Party, halts, goes, Turn, stays, takes, next, turn, handed, delivered, System, Move, move}
+use Rattle.agreement.specs.Machine.{Shown, Effect, sendEffect, checkEffect, openEffect, effect, Party, halts, goesOn, Turn, stays, takes, next, turn, handed, delivered, System, Move, move}
 
 -- ---- change
 module _ {A : Type 0} (f : ℕ → A) (p : ℕ) (a : A) where
@@ -37,7 +37,8 @@ pub change-none : {A : Type 0} (f : ℕ → A) (p : ℕ) → change f p (f p) �
 change-none f p = fun-ext (λ q. change-ind f p (f p) (λ a. a ≡ f q) q (λ e. ap f e) (λ n. refl))
 
 -- ---- the effects, case by case
-pub sendEffect-ind : (P : Effect → Type 0) (s : ℕ) (o : Option Terms) (v : Sight) → P Effect.fails → ((ts : Terms) → P (Effect.does (Shown.sent s ts) v)) → P (sendEffect s o v)
+pub sendEffect-ind : (P : Effect → Type 0) (s : ℕ) (o : Option Terms) (v : Sight) → P Effect.fails
+    → ((ts : Terms) → P (Effect.does (Shown.sent s ts) v)) → P (sendEffect s o v)
 unfolding sendEffect
 sendEffect-ind P s none v f g = f
 sendEffect-ind P s (some ts) v f g = g ts
@@ -48,7 +49,8 @@ checkEffect-ind P none u v f g = f
 checkEffect-ind P (some t) none v f g = f
 checkEffect-ind P (some t) (some u) v f g = choose-ind P (same t u) _ _ (λ e. g) (λ n. f)
 
-pub openEffect-ind : (P : Effect → Type 0) (x : ℕ) (o : Option Terms) (v : Sight) → P Effect.fails → ((w : Sight) → P (Effect.does Shown.nothing w)) → P (openEffect x o v)
+pub openEffect-ind : (P : Effect → Type 0) (x : ℕ) (o : Option Terms) (v : Sight) → P Effect.fails → ((w : Sight) → P (Effect.does Shown.nothing w))
+    → P (openEffect x o v)
 unfolding openEffect
 openEffect-ind P x none v f g = f
 openEffect-ind P x (some ts) v f g = g (binds x ts v)
@@ -78,9 +80,11 @@ effect-showing (Event.ends ps) v = tt
 pub data Turned (P : Party) : Turn → Type 0 where
   stayed : Turned P (stays P)
   halted : {e : Event} {es : List Event} → P .left ≡ e ∷ es → effect e (P .sight) ≡ Effect.fails → Turned P (stays (halts P))
-  did : {e : Event} {es : List Event} {o : Shown} {v : Sight} → P .left ≡ e ∷ es → Showing e o → Turned P (record { party = goes P es v; shown = o })
+  did : {e : Event} {es : List Event} {o : Shown} {v : Sight} → P .left ≡ e ∷ es → Showing e o
+      → Turned P (record { party = goesOn P es v; shown = o })
 
-takes-cases : (P : Party) (e : Event) (es : List Event) (f : Effect) → P .left ≡ e ∷ es → effect e (P .sight) ≡ f → ShowingIn e f → Turned P (takes f P es)
+takes-cases : (P : Party) (e : Event) (es : List Event) (f : Effect) → P .left ≡ e ∷ es → effect e (P .sight) ≡ f → ShowingIn e f
+    → Turned P (takes f P es)
 unfolding takes
 takes-cases P e es Effect.fails l c k = Turned.halted l c
 takes-cases P e es Effect.idles l c k = Turned.stayed
@@ -98,8 +102,10 @@ turn-cases P = pick-ind (Turned P) (P .halted) (stays P) (next (P .left) P) (λ 
 -- ---- a handing over comes to nothing, or the receiver halts, or it takes the messages
 pub data Delivered (s : ℕ) (sent : Option Terms) (P : Party) : Party → Type 0 where
   dropped : Delivered s sent P P
-  halted : {f n : ℕ} {es : List Event} {ts : Terms} → P .left ≡ Event.receives s f n ∷ es → sent ≡ some ts → (n ≡ count ts → ⊥) → Delivered s sent P (halts P)
-  took : {f n : ℕ} {es : List Event} {ts : Terms} → P .left ≡ Event.receives s f n ∷ es → sent ≡ some ts → Delivered s sent P (goes P es (binds f ts (P .sight)))
+  halted : {f n : ℕ} {es : List Event} {ts : Terms} → P .left ≡ Event.receives s f n ∷ es → sent ≡ some ts → (n ≡ count ts → ⊥)
+      → Delivered s sent P (halts P)
+  took : {f n : ℕ} {es : List Event} {ts : Terms} → P .left ≡ Event.receives s f n ∷ es → sent ≡ some ts
+      → Delivered s sent P (goesOn P es (binds f ts (P .sight)))
 
 handed-cases : (es : List Event) (s : ℕ) (ts : Terms) (P : Party) → P .left ≡ es → Delivered s (some ts) P (handed es s ts P)
 unfolding handed
@@ -116,15 +122,19 @@ handed-cases (e ∷ es) s ts P l =
 pub delivered-cases : (s : ℕ) (sent : Option Terms) (P : Party) → Delivered s sent P (delivered s sent P)
 unfolding delivered
 delivered-cases s none P = Delivered.dropped
-delivered-cases s (some ts) P = pick-ind (Delivered s (some ts) P) (P .halted) P (handed (P .left) s ts P) (λ e. Delivered.dropped) (λ e. handed-cases (P .left) s ts P refl)
+delivered-cases s (some ts) P =
+    pick-ind (Delivered s (some ts) P) (P .halted) P (handed (P .left) s ts P) (λ e. Delivered.dropped) (λ e. handed-cases (P .left) s ts P refl)
 
 -- ---- what holds of each party before and after, where nothing happens and by each of these, holds of every move
-pub move-parties : (A : Party → Party → Type 0) → ((P : Party) → A P P) → ((P : Party) (t : Turn) → Turned P t → A P (t .party)) → ((s : ℕ) (o : Option Terms) (P R : Party) → Delivered s o P R → A P R)
+pub move-parties : (A : Party → Party → Type 0) → ((P : Party) → A P P) → ((P : Party) (t : Turn) → Turned P t → A P (t .party))
+    → ((s : ℕ) (o : Option Terms) (P R : Party) → Delivered s o P R → A P R)
     → (receiver : ℕ → ℕ) (m : Move) (S : System) (q : ℕ) → A (S .party q) (move receiver m S .party q)
 unfolding move
 move-parties A stay turned taken receiver (Move.own p) S q =
-    change-ind (S .party) p _ (A (S .party q)) q (λ e. subst (λ r. A (S .party r) (turn (S .party p) .party)) e (turned _ _ (turn-cases (S .party p)))) (λ n. stay _)
+    change-ind (S .party) p _ (A (S .party q)) q (λ e. subst (λ r. A (S .party r) (turn (S .party p) .party)) e (turned _ _ (turn-cases (S .party p))))
+    (λ n. stay _)
 move-parties A stay turned taken receiver (Move.delivery s) S q =
     let p = receiver s in
     let R = delivered s (S .sent s) (S .party p) in
-    change-ind (S .party) p R (A (S .party q)) q (λ e. subst (λ r. A (S .party r) R) e (taken s _ _ _ (delivered-cases s (S .sent s) (S .party p)))) (λ n. stay _)
+    change-ind (S .party) p R (A (S .party q)) q (λ e. subst (λ r. A (S .party r) R) e (taken s _ _ _ (delivered-cases s (S .sent s) (S .party p))))
+    (λ n. stay _)

@@ -18,8 +18,8 @@ use Rattle.translation.specs.Taken.{stepOf}
 use Rattle.agreement.specs.Machine.{Shown}
 use Rattle.agreement.specs.Machine.Laws.{Showing}
 use Rattle.agreement.specs.Agree.{receiverOf}
-use Rattle.agreement.specs.Parts.{Parts}
-use Rattle.agreement.specs.Parts.Laws.{own-parts, own-sends-in}
+use Rattle.agreement.specs.Acts.{ActsFrom}
+use Rattle.agreement.specs.Acts.Laws.{own-acts, own-sends-in}
 use Rattle.agreement.specs.Order.{Rising, ToSend, Of, Among}
 
 module _ (N : Narration) (p : ℕ) where
@@ -42,20 +42,23 @@ module _ (N : Narration) (p : ℕ) where
   news-rising (r ∷ rs) es fs h = Rising.new (news-rising rs es fs h)
 
   -- what follows a party's part rises from any step on
-  walk-rising : {low : ℕ} {acts : List Act} (fs : List Event) → ((high : ℕ) → Rising N p high fs) → Parts N p low acts → (δ : Dictionary) (n : ℕ) → Rising N p low (walk acts δ n .events ++ fs)
+  walk-rising : {low : ℕ} {acts : List Act} (fs : List Event) → ((high : ℕ) → Rising N p high fs) → ActsFrom N p low acts
+      → (δ : Dictionary) (n : ℕ) → Rising N p low (walk acts δ n .events ++ fs)
   unfolding walk act receiverOf
-  walk-rising fs h Parts.nil δ n = h _
-  walk-rising {low} fs h (Parts.sends {s = s} {ts = ts} l w e r) δ n =
+  walk-rising fs h ActsFrom.nil δ n = h _
+  walk-rising {low} fs h (ActsFrom.sends {s = s} {ts = ts} l w e r) δ n =
       let d = act (Act.sends s ts) δ n in
       let b = buildAll ts δ in
-      subst (Rising N p low) (sym (append-assoc (d .events) _ fs)) (news-rising (b .made) (Event.sends s (b .images) ∷ []) _ (Rising.sends l e (walk-rising fs h r (d .dictionary) (n + length (d .given)))))
-  walk-rising {low} fs h (Parts.receives {s = s} {ts = ts} l w e r) δ n =
+      subst (Rising N p low) (sym (append-assoc (d .events) _ fs))
+      (news-rising (b .made) (Event.sends s (b .images) ∷ []) _ (Rising.sends l e (walk-rising fs h r (d .dictionary) (n + length (d .given)))))
+  walk-rising {low} fs h (ActsFrom.receives {s = s} {ts = ts} l w e r) δ n =
       let d = act (Act.receives s ts) δ n in
-      subst (Rising N p low) (sym (append-assoc (d .events) _ fs)) (Rising.receives l (w .within) e (quiet-rising (receiveAll-quiet ts n δ _) (walk-rising fs h r (d .dictionary) (n + length (d .given)))))
+      subst (Rising N p low) (sym (append-assoc (d .events) _ fs))
+      (Rising.receives l (w .within) e (quiet-rising (receiveAll-quiet ts n δ _) (walk-rising fs h r (d .dictionary) (n + length (d .given)))))
 
   pub program-rising : Rising N p 0 (programOf N p)
   unfolding programOf program walked
-  program-rising = walk-rising _ (λ high. Rising.end) (own-parts N p) (start (knownTo N p)) 0
+  program-rising = walk-rising _ (λ high. Rising.end) (own-acts N p) (start (knownTo N p)) 0
 
   -- what is left when an event was done
   pub rising-did : {low : ℕ} {e : Event} {es : List Event} {o : Shown} → Rising N p low (e ∷ es) → Showing e o → Rising N p 0 es
@@ -110,7 +113,8 @@ toSend-among (ToSend.later h) = Among.later (toSend-among h)
 pub rising-toSend : {N : Narration} {p low s : ℕ} {es : List Event} → Rising N p low es → ToSend s es → low ≤ s
 rising-toSend h k = rising-among h (toSend-among k)
 
-pub toSend-did : {s : ℕ} {e : Event} {es : List Event} {o : Shown} → ToSend s (e ∷ es) → Showing e o → ToSend s es ⊎ ((ts : Terms) × (o ≡ Shown.sent s ts))
+pub toSend-did : {s : ℕ} {e : Event} {es : List Event} {o : Shown} → ToSend s (e ∷ es) → Showing e o
+    → ToSend s es ⊎ ((ts : Terms) × (o ≡ Shown.sent s ts))
 toSend-did ToSend.here (Showing.sends {ts = ts}) = inr (ts, refl)
 toSend-did (ToSend.later h) w = inl h
 
@@ -131,7 +135,8 @@ walk-toSend [] δ n m = absurd (List·Memᴰ·not-nil m)
 walk-toSend {s} {ts} (a ∷ acts) δ n m =
     let d = act a δ n in
     let rest = walk-toSend acts (d .dictionary) (n + length (d .given)) in
-    ⊎-elim (λ e. toSend-left _ (subst (λ b. ToSend s (act b δ n .events)) e (toSend-right (map Event.new (buildAll ts δ .made)) ToSend.here))) (λ k. toSend-right (d .events) (rest k)) (List·Memᴰ·cases-cons m)
+    ⊎-elim (λ e. toSend-left _ (subst (λ b. ToSend s (act b δ n .events)) e (toSend-right (map Event.new (buildAll ts δ .made)) ToSend.here)))
+    (λ k. toSend-right (d .events) (rest k)) (List·Memᴰ·cases-cons m)
 
 pub program-toSend : (N : Narration) (s : ℕ) → s < length (N .says) → ToSend s (programOf N (stepOf N s .sender))
 unfolding programOf program walked

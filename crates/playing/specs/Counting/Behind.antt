@@ -1,4 +1,4 @@
--- Laws of places: how far a program is done, what its next event is, and where its SENDs, RECEIVEs and END stand. Assumes nothing.
+-- Laws: how far a program is done, what its next event is, and where its SENDs and RECEIVEs stand by then. Assumes nothing.
 use Prim.Native.Nat.{ℕ, suc, _≤_}
 use native.Mathlib.Omega.{arith}
 use mathlib.Core.Bool.{Bool, true, true≢false}
@@ -42,7 +42,8 @@ module _ (t : Event → Bool) where
       pick-ind (λ i. i ≡ suc n → t e ≡ true) (t x) _ _ (λ q y. absurd (omega arith)) (λ q y. place-passes h (omega arith)) z
 
   -- where the test passes events of step s only, and one of that step is left, none that passes was done
-  pub rising-place : {N : Narration} {p low s n : ℕ} {es fs : List Event} → ((e : Event) → t e ≡ true → Of s e) → Rising N p low es → Behind n es fs → Among s fs → n ≤ placeOf t es
+  pub rising-place : {N : Narration} {p low s n : ℕ} {es fs : List Event} → ((e : Event) → t e ≡ true → Of s e) → Rising N p low es
+      → Behind n es fs → Among s fs → n ≤ placeOf t es
   unfolding placeOf
   rising-place f h Behind.all k = omega arith
   rising-place {n = suc n} f h (Behind.past {e = x} b) k =

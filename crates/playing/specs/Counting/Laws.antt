@@ -34,7 +34,7 @@ use Rattle.agreement.specs.Order.{ToSend, Of, Among}
 use Rattle.agreement.specs.Order.Laws.{program-rising, toSend-among}
 use Rattle.agreement.specs.Going.{Going}
 use Rattle.agreement.specs.Flow.{Posted, Flow}
-use Rattle.agreement.specs.Progress.{Own, Next, rising-next, turn-own, delivered-takes}
+use Rattle.agreement.specs.Progress.{Own, Stands, rising-stands, turn-own, delivered-takes}
 use Rattle.agreement.specs.Start.{reached-going, reached-flow, plays-playable}
 use Rattle.agreement.specs.Finish.{toDo}
 use Rattle.agreement.specs.Finish.Counts.{end-toDo, reach-adds}
@@ -54,7 +54,8 @@ module _ (b : List ℕ) (P : Places) (d : ℕ → ℕ) (p : ℕ) where
   waits-none h =
       any-none (waitsFor b P d p) (steps b)
       (λ s l. pick-ind (λ v. v ≡ false) (eqb (receiver b s) p) _ _
-      (λ e. pick-ind (λ v. v ≡ false) (eqb (P .receives s) (d p)) _ _ (λ z. lt-leb _ _ (h s l (eqb-true _ _ e) (eqb-true _ _ z))) (λ z. refl)) (λ e. refl))
+      (λ e. pick-ind (λ v. v ≡ false) (eqb (P .receives s) (d p)) _ _ (λ z. lt-leb _ _ (h s l (eqb-true _ _ e) (eqb-true _ _ z))) (λ z. refl))
+      (λ e. refl))
 
   ticked-ended : P .ends p ≤ d p → ticked b P p d ≡ d
   unfolding ticked
@@ -77,7 +78,8 @@ changed-done f p R = fun-ext (change-ap (λ (P : Party). P .done) f p R)
 
 -- ---- one move
 -- an event of a party's own: the party moves by itself, it is no RECEIVE, and it is one to do
-own-next : {e : Event} → Own e → (p s : ℕ) (es : List Event) → (moveOf p (e ∷ es) ≡ Move.own p) × (isReceive s e ≡ false) × (toDo (e ∷ es) ≡ suc (toDo es))
+own-next : {e : Event} → Own e → (p s : ℕ) (es : List Event)
+    → (moveOf p (e ∷ es) ≡ Move.own p) × (isReceive s e ≡ false) × (toDo (e ∷ es) ≡ suc (toDo es))
 unfolding moveOf standing standingAt ifWaits isReceive toDo placeOf isEnd ifEnded pick
 own-next Own.new p s es = (refl, refl, refl)
 own-next Own.sends p s es = (refl, refl, refl)
@@ -107,7 +109,9 @@ module _ (b : List ℕ) (plays : Plays b) {S : System} (r : Reach (receiverOf (n
 
   adds : (p : ℕ) → p < parties b → toDo (S .party p .left) + d p ≡ placesOf b .ends p
   unfolding placesOf toDo begin
-  adds p l = reach-adds again p ∙ (let z : toDo (spelled b (listing b) p) + 0 ≡ toDo (spelled b (listing b) p) = omega arith in z) ∙ ap toDo (plays-programs b plays .party p l)
+  adds p l =
+      reach-adds again p ∙ (let z : toDo (spelled b (listing b) p) + 0 ≡ toDo (spelled b (listing b) p) = omega arith in z)
+      ∙ ap toDo (plays-programs b plays .party p l)
 
   -- ---- a step's SEND is done exactly if the step was sent
   module _ (s : ℕ) (l : s < steps b) where
@@ -129,7 +133,8 @@ module _ (b : List ℕ) (plays : Plays b) {S : System} (r : Reach (receiverOf (n
     unfolding placesOf
     sent-done h =
         subst (λ es. placeOf (isSend s) es < d (sender b s)) (plays-programs b plays .party (sender b s) sender-within)
-        (subst (λ q. placeOf (isSend s) (spelled b (listing b) q) < d q) sender-is (reach-sent N (parties b) (spelled b (listing b)) (plays-playable b plays) (plays-programs b plays) again s h))
+        (subst (λ q. placeOf (isSend s) (spelled b (listing b) q) < d q) sender-is
+        (reach-sent N (parties b) (spelled b (listing b)) (plays-playable b plays) (plays-programs b plays) again s h))
 
     unsent-left : ToSend s (S .party (sender b s) .left) → d (sender b s) ≤ placesOf b .sends s
     unfolding placesOf
@@ -141,12 +146,14 @@ module _ (b : List ℕ) (plays : Plays b) {S : System} (r : Reach (receiverOf (n
     Ticks m = doneBy (move (receiverOf N) m S .party) ≡ ticked b (placesOf b) p d
 
     -- a RECEIVE stands at the count exactly if it is the next event
-    next-receives : {e : Event} {es : List Event} → S .party p .left ≡ e ∷ es → (s : ℕ) → receiver b s ≡ p → placesOf b .receives s ≡ d p → isReceive s e ≡ true
+    next-receives : {e : Event} {es : List Event} → S .party p .left ≡ e ∷ es → (s : ℕ) → receiver b s ≡ p → placesOf b .receives s ≡ d p
+        → isReceive s e ≡ true
     unfolding placesOf
     next-receives {e} {es} z s c h =
         place-passes (isReceive s) (subst (Behind (d p) (programOf N p)) z (behind p l)) (subst (λ q. placeOf (isReceive s) (programOf N q) ≡ d p) c h)
 
-    receives-next : {s f n : ℕ} {es : List Event} → S .party p .left ≡ Event.receives s f n ∷ es → receiver b s ≡ p → placesOf b .receives s ≡ d p
+    receives-next : {s f n : ℕ} {es : List Event} → S .party p .left ≡ Event.receives s f n ∷ es → receiver b s ≡ p
+        → placesOf b .receives s ≡ d p
     unfolding placesOf isReceive standingAt ifWaits
     receives-next {s} {f} {n} {es} z c =
         let k = subst (Behind (d p) (programOf N p)) z (behind p l) in
@@ -158,12 +165,14 @@ module _ (b : List ℕ) (plays : Plays b) {S : System} (r : Reach (receiverOf (n
     move-ended : {es : List Event} → S .party p .left ≡ es → AtEnd es → Ticks (moveOf p es)
     unfolding moveOf standing standingAt ifWaits move turn next takes effect
     move-ended z AtEnd.end =
-        let t : turn (S .party p) ≡ stays (S .party p) = pick-false (S .party p .halted) _ _ (going .parties p .unhalted) ∙ ap (λ es. next es (S .party p)) z in
+        let t : turn (S .party p) ≡ stays (S .party p) =
+        pick-false (S .party p .halted) _ _ (going .parties p .unhalted) ∙ ap (λ es. next es (S .party p)) z in
         let a = adds p l in
         let k : toDo (S .party p .left) ≡ 0 = ap toDo z ∙ end-toDo AtEnd.end in
         rw t (ap doneBy (change-none (S .party) p) ∙ sym (ticked-ended b (placesOf b) d p (omega arith)))
 
-    goes-on : (R : Party) → R .done ≡ suc (d p) → d p < placesOf b .ends p → waits b (placesOf b) d p ≡ false → doneBy (change (S .party) p R) ≡ ticked b (placesOf b) p d
+    goes-on : (R : Party) → R .done ≡ suc (d p) → d p < placesOf b .ends p → waits b (placesOf b) d p ≡ false
+        → doneBy (change (S .party) p R) ≡ ticked b (placesOf b) p d
     goes-on R e h w = changed-done (S .party) p R ∙ ap (change d p) e ∙ sym (ticked-goes b (placesOf b) d p h w)
 
     move-acts : {e : Event} {es : List Event} → S .party p .left ≡ e ∷ es → Own e → Ticks (moveOf p (e ∷ es))
@@ -184,7 +193,8 @@ module _ (b : List ℕ) (plays : Plays b) {S : System} (r : Reach (receiverOf (n
           let D = delivered-takes N p (S .party p) (going .parties p) s f n es ts z (going .messages s ts m) in
           rw (x, m) (goes-on (delivered s (some ts) (S .party p)) (ap (λ (R : Party). R .done) D) (omega arith)
           (waits-none b (placesOf b) d p
-          (λ q j e h. let y : s ≡ q = eqb-true s q (next-receives z q e h) in subst (λ q. placesOf b .sends q < d (sender b q)) y (sent-done s i (subst Posted (sym m) Posted.posted)))))
+          (λ q j e h. let y : s ≡ q = eqb-true s q (next-receives z q e h) in subst (λ q. placesOf b .sends q < d (sender b q)) y
+          (sent-done s i (subst Posted (sym m) Posted.posted)))))
 
       move-waits : S .sent s ≡ none → Ticks (Move.delivery s)
       unfolding move delivered
@@ -196,23 +206,24 @@ module _ (b : List ℕ) (plays : Plays b) {S : System} (r : Reach (receiverOf (n
           go : ToSend s (S .party (stepOf N s .sender) .left) ⊎ Posted (S .sent s) → Ticks (Move.delivery s)
           go (inl h) =
               rw m (ap doneBy (change-none (S .party) (receiverOf N s))
-              ∙ sym (ticked-waits b (placesOf b) d p (waits-one b (placesOf b) d p s i c (receives-next z c) (unsent-left s i (subst (λ q. ToSend s (S .party q .left)) (sender-is s i) h)))))
+              ∙ sym (ticked-waits b (placesOf b) d p
+              (waits-one b (placesOf b) d p s i c (receives-next z c) (unsent-left s i (subst (λ q. ToSend s (S .party q .left)) (sender-is s i) h)))))
           go (inr h) = absurd (unsent h)
 
       move-receives : (o : Option Terms) → S .sent s ≡ o → Ticks (Move.delivery s)
       move-receives none m = move-waits m
       move-receives (some ts) m = move-takes ts m
 
-    move-next : {es : List Event} → S .party p .left ≡ es → Next N p es → Ticks (moveOf p es)
+    move-next : {es : List Event} → S .party p .left ≡ es → Stands N p es → Ticks (moveOf p es)
     unfolding moveOf standing standingAt ifWaits
-    move-next z (Next.ended h) = move-ended z h
-    move-next z (Next.waits {s = s} {f = f} {n = n} {es = es} w c h) =
+    move-next z (Stands.ended h) = move-ended z h
+    move-next z (Stands.waits {s = s} {f = f} {n = n} {es = es} w c h) =
         let i : s < steps b = (let e = steps-length b in omega arith) in
         move-receives s f n es z i (sym (receiver-is s i) ∙ c) (S .sent s) refl
-    move-next z (Next.acts o) = move-acts z o
+    move-next z (Stands.acts o) = move-acts z o
 
     pub move-ticks : Ticks (moveOf p (S .party p .left))
-    move-ticks = move-next refl (rising-next N (flow .rising p))
+    move-ticks = move-next refl (rising-stands N (flow .rising p))
 
 -- ---- a schedule
 module _ (b : List ℕ) (plays : Plays b) where
@@ -223,7 +234,8 @@ module _ (b : List ℕ) (plays : Plays b) where
   played-counted (p ∷ ms) a r = played-counted ms (a .1) (Reach.after _ r) ∙ ap (tickedAll b (placesOf b) ms) (move-ticks b plays r p (a .0))
 
   -- the events done, as a function of the party
-  pub counts-same : (ms : List ℕ) → All (λ q. q < parties b) ms → doneBy (played (receiverOf (narration b)) ms (started b (listing b)) .party) ≡ tickedAll b (placesOf b) ms (λ q. 0)
+  pub counts-same : (ms : List ℕ) → All (λ q. q < parties b) ms
+      → doneBy (played (receiverOf (narration b)) ms (started b (listing b)) .party) ≡ tickedAll b (placesOf b) ms (λ q. 0)
   counts-same ms a = played-counted ms a Reach.start ∙ ap (tickedAll b (placesOf b) ms) begins
     where
       begins : doneBy (started b (listing b) .party) ≡ (λ q. 0)

@@ -50,7 +50,8 @@ onward-behind : {P R : Party} (es : List Event) → Onward P R → Behind (P .do
 onward-behind {P} {R} es (Onward.still l d) h = subst (λ n. Behind n es (R .left)) (sym d) (subst (Behind (P .done) es) (sym l) h)
 onward-behind {P} {R} es (Onward.next e l d) h = subst (λ n. Behind n es (R .left)) (sym d) (behind-next (subst (Behind (P .done) es) l h))
 
-pub reach-behind : {receiver : ℕ → ℕ} (known : ℕ → List Term) (programs : ℕ → List Event) {S : System} → Reach receiver (begin known programs) S → (p : ℕ) → Behind (S .party p .done) (programs p) (S .party p .left)
+pub reach-behind : {receiver : ℕ → ℕ} (known : ℕ → List Term) (programs : ℕ → List Event) {S : System} → Reach receiver (begin known programs) S
+    → (p : ℕ) → Behind (S .party p .done) (programs p) (S .party p .left)
 unfolding begin
 reach-behind known programs Reach.start p = Behind.all
 reach-behind {receiver} known programs (Reach.after {S = S} m r) p = onward-behind (programs p) (move-onward receiver m S p) (reach-behind known programs r p)
@@ -79,7 +80,8 @@ module _ (N : Narration) (Q : ℕ) (programs : ℕ → List Event) (v : Playable
   none-posted h = elim h [ ]
 
   module _ {S : System} (r : Reach (receiverOf N) (begin (knownTo N) programs) S) (s : ℕ) (before : SentDone S s) where
-    sent-still : (m : Move) → Posted (S .sent s) → placeOf (isSend s) (programs (stepOf N s .sender)) < move (receiverOf N) m S .party (stepOf N s .sender) .done
+    sent-still : (m : Move) → Posted (S .sent s)
+        → placeOf (isSend s) (programs (stepOf N s .sender)) < move (receiverOf N) m S .party (stepOf N s .sender) .done
     sent-still m h = let a = before h in let c = onward-done (move-onward (receiverOf N) m S (stepOf N s .sender)) in omega arith
 
     move-sent : (m : Move) → SentDone (move (receiverOf N) m S) s
@@ -88,7 +90,8 @@ module _ (N : Narration) (Q : ℕ) (programs : ℕ → List Event) (v : Playable
         ⊎-elim (sent-still (Move.own p))
         (λ x. subst (λ i. placeOf (isSend s) (programs i) < change (S .party) p (turn (S .party p) .party) i .done) (sym (x .0))
         (subst (λ (R : Party). placeOf (isSend s) (programs p) < R .done) (sym (change-same (S .party) p _)) (x .1)))
-        (turned-sent N p (programs p) (reached-flow N Q programs v w r .rising p) (reach-behind (knownTo N) programs r p) (turn-cases (S .party p)) (S .sent) s h)
+        (turned-sent N p (programs p) (reached-flow N Q programs v w r .rising p) (reach-behind (knownTo N) programs r p) (turn-cases (S .party p))
+        (S .sent) s h)
     move-sent (Move.delivery a) h = sent-still (Move.delivery a) h
 
   pub reach-sent : {S : System} → Reach (receiverOf N) (begin (knownTo N) programs) S → (s : ℕ) → SentDone S s

@@ -31,7 +31,8 @@ module _ (b ms out : List ℕ) where
     pub long-came : mostMoves < length ms → came (Refused (Move mostMoves)) out ≡ rehearsal b ms out
     long-came h = bad-came mostMoves (BadMoves.long h refl)
 
-    pub move-came : (i : ℕ) → length ms ≤ mostMoves → i < length ms → parties b ≤ getD ms i 0 → ((k : ℕ) → k < i → getD ms k 0 < parties b) → came (Refused (Move i)) out ≡ rehearsal b ms out
+    pub move-came : (i : ℕ) → length ms ≤ mostMoves → i < length ms → parties b ≤ getD ms i 0 → ((k : ℕ) → k < i → getD ms k 0 < parties b)
+        → came (Refused (Move i)) out ≡ rehearsal b ms out
     move-came i l h n s = bad-came i (BadMoves.nameless l i h n s refl)
 
     -- a schedule of moves that all name a party
@@ -39,9 +40,12 @@ module _ (b ms out : List ℕ) where
       -- refusal 12
       pub rehearsal-room-came : length out < parties b → came (Refused (Room (parties b))) out ≡ rehearsal b ms out
       unfolding rehearsal
-      rehearsal-room-came h = came-refused (rehearsalSays b ms out) out (eventsDone b ms) (Room (parties b)) (rehearsal-exactly-12 b ms out (parties b ∷ []) .1 (p, l, a, h, refl))
+      rehearsal-room-came h =
+          came-refused (rehearsalSays b ms out) out (eventsDone b ms) (Room (parties b))
+          (rehearsal-exactly-12 b ms out (parties b ∷ []) .1 (p, l, a, h, refl))
 
       -- the events done
-      pub played-came : (new : List ℕ) → parties b ≤ length out → new ≡ sets out 0 (eventsDone b ms) → came (Written (parties b)) new ≡ rehearsal b ms out
+      pub played-came : (new : List ℕ) → parties b ≤ length out → new ≡ sets out 0 (eventsDone b ms)
+          → came (Written (parties b)) new ≡ rehearsal b ms out
       unfolding rehearsal
       played-came new h e = came-written (rehearsalSays b ms out) out (eventsDone b ms) new (parties b) (played-says b ms out p l a h) e

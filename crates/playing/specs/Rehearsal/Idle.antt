@@ -1,6 +1,7 @@
--- Idle rehearsals. Each is caught: it breaks the promise, which is one equation with `rehearsal`, at a computed input. One reports the
--- same counts always (and so is any that doesn't look at the schedule); one leaves the lent words as they were, whatever it answers;
--- one does all else right and takes every move of the schedule for an event done.
+-- Idle rehearsals. Document 01: "A rehearsal that reports made-up event counts breaks the plain machine." Each is caught: it breaks the
+-- promise, which is one equation with `rehearsal`, at a computed input. One reports the same counts always (and so is any that doesn't
+-- look at the schedule); one leaves the lent words as they were, whatever it answers; one does all else right and takes every move of
+-- the schedule for an event done.
 use Prim.Native.Nat.{ℕ, suc}
 use mathlib.Core.List.{List, [], _∷_}
 use mathlib.Core.Path.{_≡_, refl, sym, ap, _∙_}
@@ -57,7 +58,8 @@ pub ignores-schedule-caught : (f : Rehearser) → IgnoresSchedule f → Rehearsa
 unfolding allRehearsed first-word
 ignores-schedule-caught f n h =
     let ms : List ℕ = 1 ∷ 1 ∷ 0 ∷ 0 ∷ 1 ∷ 1 ∷ [] in
-    let e : _≡_ {A = ℕ} 0 2 = ap first-word (sym (h exampleBook [] (replicate 2 9)) ∙ n exampleBook [] ms (replicate 2 9) ∙ h exampleBook ms (replicate 2 9)) in
+    let e : _≡_ {A = ℕ} 0 2 =
+    ap first-word (sym (h exampleBook [] (replicate 2 9)) ∙ n exampleBook [] ms (replicate 2 9) ∙ h exampleBook ms (replicate 2 9)) in
     omega arith
 
 pub reports-always-caught : (ws : List ℕ) → RehearsalCaught (reports-always ws)
@@ -67,7 +69,8 @@ reports-always-caught ws = ignores-schedule-caught (reports-always ws) (λ b ms 
 pub rehearsal-writes-nothing-caught : (f : Rehearser) → RehearsalWritesNothing f → RehearsalCaught f
 unfolding allRehearsed first-word
 rehearsal-writes-nothing-caught f n h =
-    let e : _≡_ {A = ℕ} 9 0 = ap (λ (l : List ℕ). getD l 0 0) (sym (n exampleBook [] (replicate 2 9))) ∙ ap first-word (h exampleBook [] (replicate 2 9)) in
+    let e : _≡_ {A = ℕ} 9 0 =
+    ap (λ (l : List ℕ). getD l 0 0) (sym (n exampleBook [] (replicate 2 9))) ∙ ap first-word (h exampleBook [] (replicate 2 9)) in
     omega arith
 
 pub counts-moves-caught : RehearsalCaught counts-moves

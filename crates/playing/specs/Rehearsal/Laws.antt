@@ -24,11 +24,19 @@ use Rattle.playing.specs.Rehearsal.{eventsDone, mostMoves, longLine, mov
 -- ---- refusal 11
 abbrev long-line : List ℕ → Ruled
 long-line ms =
-    record { line = line 11 1 (λ i. ltb mostMoves (length ms)) (λ i. mostMoves ∷ []); rule = λ i. length ms ≤ mostMoves; exact = λ i. (λ e. ltb-false _ _ e, λ h. le-ltb _ _ h) }
+    record {
+      line = line 11 1 (λ i. ltb mostMoves (length ms)) (λ i. mostMoves ∷ []);
+      rule = λ i. length ms ≤ mostMoves;
+      exact = λ i. (λ e. ltb-false _ _ e, λ h. le-ltb _ _ h);
+    }
 
 abbrev move-line : ℕ → List ℕ → Ruled
 move-line q ms =
-    record { line = line 11 (length ms) (λ i. leb q (getD ms i 0)) here; rule = λ i. getD ms i 0 < q; exact = λ i. (λ e. leb-false _ _ e, λ h. lt-leb _ _ h) }
+    record {
+      line = line 11 (length ms) (λ i. leb q (getD ms i 0)) here;
+      rule = λ i. getD ms i 0 < q;
+      exact = λ i. (λ e. leb-false _ _ e, λ h. lt-leb _ _ h);
+    }
 
 module _ (b ms : List ℕ) where
   -- ---- refusals 1 to 10 are the book's
@@ -72,13 +80,15 @@ module _ (b ms : List ℕ) where
     bad-given : AllKeep (ten b) → BadMoves (parties b) ms vs → ends-in-room (ten b ++ moves) (length out) (parties b) ≡ said 11 vs
     bad-given k (BadMoves.long h e) = given (ten b) (long-line ms) behind rest vs k (cause-long vs h e)
     bad-given k (BadMoves.nameless l i h n s e) =
-        given (ten b ++ long-line ms ∷ []) (move-line (parties b) ms) (room-line (length out) (parties b) ∷ []) rest vs (append-keep (ten b) (long-line ms ∷ []) k (λ i j. l, tt))
+        given (ten b ++ long-line ms ∷ []) (move-line (parties b) ms) (room-line (length out) (parties b) ∷ []) rest vs
+        (append-keep (ten b) (long-line ms ∷ []) k (λ i j. l, tt))
         (record { place = i; within = h; broken = λ j. omega arith; smallest = s; says = e })
 
     given-bad : firstOf (long-line ms .line ∷ lines behind) rest ≡ said 11 vs → BadMoves (parties b) ms vs
     given-bad e = elim (decLt mostMoves (length ms)) [
       | yes h ↦
-          BadMoves.long h (ap (λ (s : Said). s .values) (sym e ∙ given [] (long-line ms) behind rest (mostMoves ∷ []) tt (cause-long (mostMoves ∷ []) h refl)))
+          BadMoves.long h (ap (λ (s : Said). s .values)
+          (sym e ∙ given [] (long-line ms) behind rest (mostMoves ∷ []) tt (cause-long (mostMoves ∷ []) h refl)))
       | no h ↦
           let l : length ms ≤ mostMoves = omega arith in
           let k = all-keep (long-line ms ∷ []) (lines behind) rest (λ i j. l, tt) in
@@ -97,7 +107,8 @@ module _ (b ms : List ℕ) where
     )
 
   -- ---- refusal 12
-  pub rehearsal-exactly-12 : (out vs : List ℕ) → (rehearsalSays b ms out ≡ said 12 vs) ↔ (Plays b × (length ms ≤ mostMoves) × Named (parties b) ms × (length out < parties b) × (vs ≡ parties b ∷ []))
+  pub rehearsal-exactly-12 : (out vs : List ℕ) → (rehearsalSays b ms out ≡ said 12 vs)
+      ↔ (Plays b × (length ms ≤ mostMoves) × Named (parties b) ms × (length out < parties b) × (vs ≡ parties b ∷ []))
   rehearsal-exactly-12 out vs =
       let r = room-exact (ten b ++ moves) (length out) (parties b) (omega arith) vs in (
         λ e. (let z = r .0 (sym (says-lines out) ∙ e) in
@@ -107,7 +118,8 @@ module _ (b ms : List ℕ) where
       )
 
   -- ---- the schedule is played
-  pub exactly-played : (out : List ℕ) → (rehearsalSays b ms out .number ≡ 0) ↔ (Plays b × (length ms ≤ mostMoves) × Named (parties b) ms × (parties b ≤ length out))
+  pub exactly-played : (out : List ℕ) → (rehearsalSays b ms out .number ≡ 0)
+      ↔ (Plays b × (length ms ≤ mostMoves) × Named (parties b) ms × (parties b ≤ length out))
   exactly-played out =
       let n = ap (λ (s : Said). s .number) (says-lines out) in
       let r = fits-exact (ten b ++ moves) (length out) (parties b) (omega arith) in (
@@ -117,7 +129,8 @@ module _ (b ms : List ℕ) where
         λ u. n ∙ r .1 (keep-all (u .0) (u .1) (u .2), u .3),
       )
 
-  pub played-says : (out : List ℕ) → Plays b → length ms ≤ mostMoves → Named (parties b) ms → parties b ≤ length out → rehearsalSays b ms out ≡ said 0 (parties b ∷ [])
+  pub played-says : (out : List ℕ) → Plays b → length ms ≤ mostMoves → Named (parties b) ms → parties b ≤ length out
+      → rehearsalSays b ms out ≡ said 0 (parties b ∷ [])
   played-says out p l a h = says-lines out ∙ room-says (ten b ++ moves) (length out) (parties b) (keep-all p l a) h
 
   -- a refusal changes no lent word

@@ -1,6 +1,6 @@
 -- Nine rehearsals: one statement over one table, computed from the definitions. Each line has the book's words, the schedule and the
--- lent words, 9s; and what is answered and lent afterwards. Document 01: "The P trials are computed from the definitions by a single
--- statement over a single table"; this is the like for the rehearsal.
+-- lent words, 9s; and what is answered and lent afterwards. Document 01 asks for this of the P trials: "computed from the definitions by
+-- a single statement over a single table".
 use Prim.Native.Nat.{ℕ}
 use mathlib.Core.List.{List, [], _∷_}
 use mathlib.Core.Path.{_≡_, refl}

@@ -11,7 +11,9 @@ use Rattle.agreement.specs.Agree.{Narrated}
 pub mod Laws
 
 -- of party p, in the steps from `low` on
-pub data Parts (N : Narration) (p : ℕ) : ℕ → List Act → Type 0 where
-  nil : {low : ℕ} → Parts N p low []
-  sends : {low s : ℕ} {ts : Terms} {acts : List Act} → low ≤ s → Narrated N s ts → stepOf N s .sender ≡ p → Parts N p (suc s) acts → Parts N p low (Act.sends s ts ∷ acts)
-  receives : {low s : ℕ} {ts : Terms} {acts : List Act} → low ≤ s → Narrated N s ts → stepOf N s .receiver ≡ p → Parts N p (suc s) acts → Parts N p low (Act.receives s ts ∷ acts)
+pub data ActsFrom (N : Narration) (p : ℕ) : ℕ → List Act → Type 0 where
+  nil : {low : ℕ} → ActsFrom N p low []
+  sends : {low s : ℕ} {ts : Terms} {acts : List Act} → low ≤ s → Narrated N s ts → stepOf N s .sender ≡ p → ActsFrom N p (suc s) acts
+      → ActsFrom N p low (Act.sends s ts ∷ acts)
+  receives : {low s : ℕ} {ts : Terms} {acts : List Act} → low ≤ s → Narrated N s ts → stepOf N s .receiver ≡ p → ActsFrom N p (suc s) acts
+      → ActsFrom N p low (Act.receives s ts ∷ acts)

@@ -5,7 +5,8 @@ use Rattle.translation.specs.Standing.{standingAt, ifWaits}
 use Rattle.translation.specs.Spelling.{readImage, readPairs, readEvent, readEvents, readProgram, partOf}
 use Rattle.translation.specs.Spelled.{orEnd, spelled}
 use Rattle.translation.specs.Trials.{computed}
-use Rattle.agreement.specs.Sight.{holds, value, change, bind}
+use Rattle.agreement.specs.Change.{change}
+use Rattle.agreement.specs.Sight.{holds, value, bind}
 use Rattle.agreement.specs.Machine.{sendEffect, checkEffect, opensTo, openEffect, effect, takes, next, turn, handed, delivered, sentAfter, madeAfter, move, begin, started}
 use Rattle.agreement.specs.Sequence.{sequence}
 use Rattle.agreement.specs.Agree.{meant, receiverOf}

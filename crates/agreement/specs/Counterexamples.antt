@@ -15,7 +15,7 @@ use Rattle.translation.specs.Receive.{Event}
 use Rattle.translation.specs.Program.{Step}
 use Rattle.translation.specs.Narration.{Narration, knownTo, programOf}
 use Rattle.translation.specs.Taken.{Taken, unplayable}
-use Rattle.agreement.specs.Sight.{change}
+use Rattle.agreement.specs.Change.{change}
 use Rattle.agreement.specs.Machine.{System, Move, begin, Reach}
 use Rattle.agreement.specs.Sequence.{sequence, sequence-reach}
 use Rattle.agreement.specs.Agree.{receiverOf, Bound, Faithful, MadeOnce, CanMove, Moves}

@@ -1,3 +1,4 @@
+pub mod Change
 pub mod Sight
 pub mod Machine
 pub mod Agree

@@ -17,7 +17,8 @@ use Rattle.translation.specs.Receive.{Event}
 use Rattle.translation.specs.Standing.{standingAt, ifWaits}
 use Rattle.translation.specs.Narration.{narration, knownTo}
 use Rattle.translation.specs.Spelled.{spelled}
-use Rattle.agreement.specs.Sight.{Sight, value, valueAll, change, binds, gains}
+use Rattle.agreement.specs.Change.{change}
+use Rattle.agreement.specs.Sight.{Sight, value, valueAll, binds, gains}
 pub mod Laws
 
 -- ---- what an event of a party's own does: it fails, or does nothing, or is done and changes what the party sees

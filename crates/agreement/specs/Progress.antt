@@ -16,9 +16,10 @@ use Rattle.translation.specs.Receive.{Event}
 use Rattle.translation.specs.Standing.{standingAt, ifWaits}
 use Rattle.translation.specs.Narration.{Narration}
 use Rattle.translation.specs.Taken.{stepOf}
+use Rattle.agreement.specs.Change.Laws.{change-same}
 use Rattle.agreement.specs.Sight.{Sight, binds}
 use Rattle.agreement.specs.Machine.{Shown, Effect, effect, Party, goesOn, takes, next, turn, handed, delivered, System, Move, move}
-use Rattle.agreement.specs.Machine.Laws.{change-same, sendEffect-ind, checkEffect-ind, openEffect-ind}
+use Rattle.agreement.specs.Machine.Laws.{sendEffect-ind, checkEffect-ind, openEffect-ind}
 use Rattle.agreement.specs.Agree.{meant, receiverOf, Narrated, AtEnd, Does, CanMove, SomeCanMove, Moves}
 use Rattle.agreement.specs.Safe.{Safe}
 use Rattle.agreement.specs.Going.{Goes, Going}

@@ -6,10 +6,10 @@ use Prim.Native.Nat.{ℕ, suc}
 use mathlib.Core.Bool.{Bool, true, false}
 use mathlib.Core.List.{List, [], _∷_}
 use mathlib.Core.Option.{Option, none, some}
-use lib.Dec.{eqb}
 use Rattle.words.specs.Choice.{pick, choose, then}
 use Rattle.terms.specs.Term.{Term, Terms, same}
 use Rattle.terms.specs.Image.{Image, Images}
+use Rattle.agreement.specs.Change.{change}
 
 pub record Sight : Type 0 where
   -- the terms that it holds as themselves: known at the start, or made
@@ -36,10 +36,6 @@ unfoldable mutual
   valueAll v (Images.cons i is) = then (value v i) (λ t. then (valueAll v is) (λ ts. some (Terms.cons t ts)))
 
 -- ---- bound placeholders and atoms made
--- f with another value at p
-unfoldable pub change : {A : Type 0} → (ℕ → A) → ℕ → A → ℕ → A
-change f p a q = pick (eqb p q) a (f q)
-
 -- the placeholders from x on stand for the terms
 unfoldable pub bind : ℕ → Terms → (ℕ → Option Term) → ℕ → Option Term
 bind x Terms.nil f = f

@@ -10,7 +10,7 @@ use Rattle.words.specs.Choice.{pick}
 use Rattle.words.specs.First.{any}
 use Rattle.book.specs.Layout.{steps, sender, receiver}
 use Rattle.translation.specs.Places.{Places}
-use Rattle.agreement.specs.Sight.{change}
+use Rattle.agreement.specs.Change.{change}
 pub mod Behind
 pub mod Reached
 pub mod Laws

@@ -27,8 +27,8 @@ use Rattle.translation.specs.declared.Answer.the-variants.{Written, Refused}
 use Rattle.translation.specs.Outcome.{acceptance, came}
 use Rattle.translation.specs.Outcome.Laws.{Plays}
 use Rattle.translation.specs.Places.{Places, placesOf}
-use Rattle.agreement.specs.Sight.{change}
-use Rattle.agreement.specs.Machine.Laws.{change-ind}
+use Rattle.agreement.specs.Change.{change}
+use Rattle.agreement.specs.Change.Laws.{change-ind}
 use Rattle.playing.specs.Rehearsal.{eventsDone, mostMoves, rehearsal}
 use Rattle.playing.specs.Rehearsal.Laws.{done-length}
 use Rattle.playing.specs.Rehearsal.Came.{rehearsal-refused-came, long-came, move-came, rehearsal-room-came, played-came}

@@ -15,7 +15,7 @@ unfoldable pub placeOf : (Event → Bool) → List Event → ℕ
 placeOf t [] = 0
 placeOf t (e ∷ es) = pick (t e) 0 (suc (placeOf t es))
 
--- step s's SEND, its RECEIVE, END
+-- the tests: for step s's SEND, for its RECEIVE, for END
 unfoldable pub isSend : ℕ → Event → Bool
 isSend s e = ifSends (standingAt e) (λ a. eqb a s) false
 

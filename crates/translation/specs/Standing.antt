@@ -28,7 +28,7 @@ unfoldable pub standing : List Event → Standing
 standing [] = Standing.ended
 standing (e ∷ es) = standingAt e
 
--- ---- the one thing where it stands so, else the other
+-- ---- the first where it stands so, made of what it sends or waits for; else the second
 unfoldable pub ifSends : {A : Type 0} → Standing → (ℕ → A) → A → A
 ifSends Standing.acts f x = x
 ifSends (Standing.sends s) f x = f s

@@ -15,9 +15,10 @@ use Rattle.translation.specs.Receive.{Event}
 use Rattle.translation.specs.Standing.{standingAt, ifEnded}
 use Rattle.translation.specs.Places.{placeOf, isEnd}
 use Rattle.translation.specs.Narration.{Narration}
-use Rattle.agreement.specs.Sight.{change}
+use Rattle.agreement.specs.Change.{change}
+use Rattle.agreement.specs.Change.Laws.{change-same, change-other, change-none}
 use Rattle.agreement.specs.Machine.{Shown, Party, Turn, System, sentAfter, madeAfter, Move, move, Reach}
-use Rattle.agreement.specs.Machine.Laws.{change-same, change-other, change-none, Showing, Turned, turn-cases, Delivered, delivered-cases, move-parties}
+use Rattle.agreement.specs.Machine.Laws.{Showing, Turned, turn-cases, Delivered, delivered-cases, move-parties}
 use Rattle.agreement.specs.Agree.{meant, receiverOf, AtEnd, Does}
 use Rattle.agreement.specs.Safe.{Safe}
 use Rattle.agreement.specs.Going.{Going}

@@ -9,9 +9,10 @@ use Rattle.terms.specs.Term.{Terms}
 use Rattle.translation.specs.Receive.{Event}
 use Rattle.translation.specs.Narration.{Narration}
 use Rattle.translation.specs.Taken.{stepOf}
-use Rattle.agreement.specs.Sight.{change}
+use Rattle.agreement.specs.Change.{change}
+use Rattle.agreement.specs.Change.Laws.{change-ind}
 use Rattle.agreement.specs.Machine.{Shown, Party, Turn, turn, delivered, System, sentAfter, Move, move, Reach}
-use Rattle.agreement.specs.Machine.Laws.{change-ind, Showing, Turned, turn-cases, Delivered, delivered-cases}
+use Rattle.agreement.specs.Machine.Laws.{Showing, Turned, turn-cases, Delivered, delivered-cases}
 use Rattle.agreement.specs.Agree.{receiverOf, AtEnd, Does}
 use Rattle.agreement.specs.Order.{Rising, ToSend}
 use Rattle.agreement.specs.Order.Laws.{rising-did, rising-took, toSend-did, toSend-took}

@@ -14,9 +14,10 @@ use Rattle.terms.specs.Term.Laws.{partner-partner}
 use Rattle.translation.specs.Receive.{Event}
 use Rattle.translation.specs.Standing.Laws.{waits-ind}
 use Rattle.translation.specs.Narration.{Narration}
-use Rattle.agreement.specs.Sight.{Sight, change, bind, binds}
+use Rattle.agreement.specs.Change.{change}
+use Rattle.agreement.specs.Change.Laws.{change-ind}
+use Rattle.agreement.specs.Sight.{Sight, bind, binds}
 use Rattle.agreement.specs.Machine.{Shown, Effect, sendEffect, checkEffect, opensTo, openEffect, effect, Party, Turn, stays, takes, next, turn, handed, delivered, System, sentAfter, Move, move, Reach}
-use Rattle.agreement.specs.Machine.Laws.{change-ind}
 use Rattle.agreement.specs.Agree.{meant, Narrated, Bound, Faithful}
 use Rattle.agreement.specs.Sound.{sightOf}
 use Rattle.agreement.specs.Sound.Laws.{at-append, at-seam}

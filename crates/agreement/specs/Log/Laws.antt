@@ -7,9 +7,10 @@ use mathlib.Core.Path.{_≡_, refl, sym, ap, _∙_, subst, fun-ext}
 use Rattle.terms.specs.Term.{Terms}
 use Rattle.words.specs.Run.{NoRepeat}
 use Rattle.translation.specs.Receive.{Event}
-use Rattle.agreement.specs.Sight.{change}
+use Rattle.agreement.specs.Change.{change}
+use Rattle.agreement.specs.Change.Laws.{change-ind, change-ap, change-none}
 use Rattle.agreement.specs.Machine.{Shown, Party, Turn, turn, delivered, System, madeAfter, Move, move, Reach}
-use Rattle.agreement.specs.Machine.Laws.{change-ind, change-ap, change-none, Showing, Turned, turn-cases, Delivered, delivered-cases}
+use Rattle.agreement.specs.Machine.Laws.{Showing, Turned, turn-cases, Delivered, delivered-cases}
 use Rattle.agreement.specs.News.{news}
 use Rattle.agreement.specs.Log.{Log, Logged}
 

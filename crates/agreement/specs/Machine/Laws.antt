@@ -1,40 +1,18 @@
--- Laws of the machine: a value changed at one number; the effects, and what a move comes to, case by case. Assumes nothing.
+-- Laws of the machine: the effects, and what a move comes to, case by case. Assumes nothing.
 use Prim.Native.Nat.{ℕ}
 use mathlib.Core.List.{List, [], _∷_}
 use mathlib.Core.Option.{Option, none, some}
-use mathlib.Core.Path.{_≡_, refl, ap, _∙_, subst, fun-ext}
+use mathlib.Core.Path.{_≡_, refl, ap, _∙_, subst}
 use lib.Dec.{eqb}
-use borrow.Author.Tests.{eqb-true, eqb-false, eq-eqb, ne-eqb}
-use Rattle.words.specs.Choice.Laws.{pick-ind, pick-true, pick-false, pick-ap, choose-ind}
+use borrow.Author.Tests.{eqb-true, eqb-false}
+use Rattle.words.specs.Choice.Laws.{pick-ind, choose-ind}
 use Rattle.terms.specs.Term.{Term, Terms, same, count}
 use Rattle.terms.specs.Image.{Image, Images}
 use Rattle.translation.specs.Receive.{Event}
 use Rattle.translation.specs.Standing.Laws.{waits-ind}
-use Rattle.agreement.specs.Sight.{Sight, change, binds}
+use Rattle.agreement.specs.Change.Laws.{change-ind}
+use Rattle.agreement.specs.Sight.{Sight, binds}
 use Rattle.agreement.specs.Machine.{Shown, Effect, sendEffect, checkEffect, openEffect, effect, Party, halts, goesOn, Turn, stays, takes, next, turn, handed, delivered, System, Move, move}
-
--- ---- change
-module _ {A : Type 0} (f : ℕ → A) (p : ℕ) (a : A) where
-  pub change-ind : (P : A → Type 0) (q : ℕ) → (p ≡ q → P a) → ((p ≡ q → ⊥) → P (f q)) → P (change f p a q)
-  unfolding change
-  change-ind P q g h = pick-ind P (eqb p q) a (f q) (λ e. g (eqb-true p q e)) (λ e. h (eqb-false p q e))
-
-  pub change-same : change f p a p ≡ a
-  unfolding change
-  change-same = pick-true (eqb p p) a (f p) (eq-eqb p p refl)
-
-  pub change-other : (q : ℕ) → (p ≡ q → ⊥) → change f p a q ≡ f q
-  unfolding change
-  change-other q n = pick-false (eqb p q) a (f q) (ne-eqb p q n)
-
--- a function goes inside
-pub change-ap : {A B : Type 0} (g : A → B) (f : ℕ → A) (p : ℕ) (a : A) (q : ℕ) → g (change f p a q) ≡ change (λ x. g (f x)) p (g a) q
-unfolding change
-change-ap g f p a q = pick-ap g (eqb p q) a (f q)
-
--- what is there already changes nothing
-pub change-none : {A : Type 0} (f : ℕ → A) (p : ℕ) → change f p (f p) ≡ f
-change-none f p = fun-ext (λ q. change-ind f p (f p) (λ a. a ≡ f q) q (λ e. ap f e) (λ n. refl))
 
 -- ---- the effects, case by case
 pub sendEffect-ind : (P : Effect → Type 0) (s : ℕ) (o : Option Terms) (v : Sight) → P Effect.fails

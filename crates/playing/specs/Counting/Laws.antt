@@ -26,9 +26,9 @@ use Rattle.translation.specs.Places.{Places, placesOf, placeOf, isSend, isRecei
 use Rattle.translation.specs.Spelled.{spelled}
 use Rattle.translation.specs.Spelled.Laws.{plays-programs}
 use Rattle.translation.specs.Outcome.Laws.{Plays}
-use Rattle.agreement.specs.Sight.{change}
+use Rattle.agreement.specs.Change.{change}
+use Rattle.agreement.specs.Change.Laws.{change-ap, change-none}
 use Rattle.agreement.specs.Machine.{Party, stays, takes, next, effect, turn, delivered, System, Move, move, begin, started, Reach}
-use Rattle.agreement.specs.Machine.Laws.{change-ap, change-none}
 use Rattle.agreement.specs.Agree.{receiverOf, AtEnd}
 use Rattle.agreement.specs.Order.{ToSend, Of, Among}
 use Rattle.agreement.specs.Order.Laws.{program-rising, toSend-among}

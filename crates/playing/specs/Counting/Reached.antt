@@ -14,9 +14,10 @@ use Rattle.translation.specs.Taken.{stepOf}
 use Rattle.translation.specs.Standing.{standingAt, ifSends}
 use Rattle.translation.specs.Places.{placeOf, isSend}
 use Rattle.translation.specs.Spelled.{Programs}
-use Rattle.agreement.specs.Sight.{change}
+use Rattle.agreement.specs.Change.{change}
+use Rattle.agreement.specs.Change.Laws.{change-ind, change-same}
 use Rattle.agreement.specs.Machine.{Party, Turn, turn, System, sentAfter, Move, move, begin, Reach}
-use Rattle.agreement.specs.Machine.Laws.{change-ind, change-same, Showing, Turned, turn-cases, Delivered, move-parties}
+use Rattle.agreement.specs.Machine.Laws.{Showing, Turned, turn-cases, Delivered, move-parties}
 use Rattle.agreement.specs.Agree.{receiverOf}
 use Rattle.agreement.specs.Order.{Rising}
 use Rattle.agreement.specs.Order.Laws.{rising-sender}

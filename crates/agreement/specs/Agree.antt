@@ -63,7 +63,7 @@ Bound N S = (p x : ℕ) (t : Term) → S .party p .sight .placeholders x ≡ som
 -- (b) no comparison and no opening fails, nor any other event; no party has halted; every message sent is the narration's
 pub record Faithful (N : Narration) (S : System) : Type 0 where
   pub succeeds : (p : ℕ) (e : Event) (es : List Event) → S .party p .left ≡ e ∷ es → effect e (S .party p .sight) ≡ Effect.fails → ⊥
-  pub going : (p : ℕ) → S .party p .halted ≡ false
+  pub unhalted : (p : ℕ) → S .party p .halted ≡ false
   pub messages : (s : ℕ) (ts : Terms) → S .sent s ≡ some ts → Narrated N s ts
 
 -- (c) no atom is made twice, and none that is taken before the first step: a party's name, or at any depth in what one knows at the

@@ -116,7 +116,7 @@ own-key-breaks =
     record {
       state = stateAfter sealed own-key ms;
       reached = sequence-reach (receiverOf sealed) _ ms Reach.start;
-      fails = λ h. true≢false (h .going 1);
+      fails = λ h. true≢false (h .unhalted 1);
     }
 
 -- ---- (c) "Making a fresh atom whenever one is missing": refusal 10 is due, and without it B makes an atom that A knows at the start.

@@ -180,6 +180,6 @@ module _ (N : Narration) where
   going-faithful S g =
       record {
         succeeds = λ p e es l f. subst (EffectWell p es) f (goes-effect p (S .party p) e es (g .parties p) l);
-        going = λ p. g .parties p .unhalted;
+        unhalted = λ p. g .parties p .unhalted;
         messages = g .messages;
       }

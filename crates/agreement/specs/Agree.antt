@@ -11,7 +11,7 @@ use mathlib.Core.Path.{_≡_}
 use lib.ListN.{length, getElem?}
 use Rattle.terms.specs.Term.{Term, Terms}
 use Rattle.translation.specs.Receive.{Event}
-use Rattle.translation.specs.Build.Laws.{NoRepeat}
+use Rattle.words.specs.Run.{NoRepeat}
 use Rattle.translation.specs.Program.{actsOf, walked}
 use Rattle.translation.specs.Narration.{Narration, knownTo}
 use Rattle.translation.specs.Taken.{Nobodys, stepOf}
@@ -27,7 +27,7 @@ unfoldable pub receiverOf : Narration → ℕ → ℕ
 receiverOf N s = stepOf N s .receiver
 
 -- step s of the narration has the messages ts
-pub record Said (N : Narration) (s : ℕ) (ts : Terms) : Type 0 where
+pub record Narrated (N : Narration) (s : ℕ) (ts : Terms) : Type 0 where
   pub within : s < length (N .says)
   pub messages : stepOf N s .messages ≡ ts
 
@@ -42,12 +42,12 @@ pub record Does (N : Narration) (S : System) (m : Move) (p : ℕ) : Type 0 where
   pub rest : List Event
   pub before : S .party p .left ≡ event ∷ rest
   pub after : move (receiverOf N) m S .party p .left ≡ rest
-  pub counted : move (receiverOf N) m S .party p .done ≡ suc (S .party p .done)
+  pub oneMore : move (receiverOf N) m S .party p .done ≡ suc (S .party p .done)
 
 -- party p's next event gets done, by its own move or by a handing over
 pub data CanMove (N : Narration) (S : System) (p : ℕ) : Type 0 where
-  moved : Does N S (Move.own p) p → CanMove N S p
-  handed : (s : ℕ) → Does N S (Move.delivery s) p → CanMove N S p
+  byOwn : Does N S (Move.own p) p → CanMove N S p
+  byDelivery : (s : ℕ) → Does N S (Move.delivery s) p → CanMove N S p
 
 -- one of the first Q parties can move
 pub record SomeCanMove (N : Narration) (Q : ℕ) (S : System) : Type 0 where
@@ -58,13 +58,13 @@ pub record SomeCanMove (N : Narration) (Q : ℕ) (S : System) : Type 0 where
 -- ---- the four clauses
 -- (a) every placeholder that a party has bound stands for the very term that the narration has there
 abbrev pub Bound : Narration → System → Type 0
-Bound N S = (p x : ℕ) (t : Term) → S .party p .view .placeholders x ≡ some t → getElem? (meant N p) x ≡ some t
+Bound N S = (p x : ℕ) (t : Term) → S .party p .sight .placeholders x ≡ some t → getElem? (meant N p) x ≡ some t
 
 -- (b) no comparison and no opening fails, nor any other event; no party has halted; every message sent is the narration's
 pub record Faithful (N : Narration) (S : System) : Type 0 where
-  pub succeeds : (p : ℕ) (e : Event) (es : List Event) → S .party p .left ≡ e ∷ es → effect e (S .party p .view) ≡ Effect.fails → ⊥
-  pub going : (p : ℕ) → S .party p .halted ≡ false
-  pub messages : (s : ℕ) (ts : Terms) → S .sent s ≡ some ts → Said N s ts
+  pub succeeds : (p : ℕ) (e : Event) (es : List Event) → S .party p .left ≡ e ∷ es → effect e (S .party p .sight) ≡ Effect.fails → ⊥
+  pub unhalted : (p : ℕ) → S .party p .halted ≡ false
+  pub messages : (s : ℕ) (ts : Terms) → S .sent s ≡ some ts → Narrated N s ts
 
 -- (c) no atom is made twice, and none that is taken before the first step: a party's name, or at any depth in what one knows at the
 -- start

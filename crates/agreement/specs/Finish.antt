@@ -10,6 +10,7 @@ use lib.ListN.{length}
 use Rattle.words.specs.Sum.{sum}
 use Rattle.terms.specs.Term.{Terms}
 use Rattle.translation.specs.Receive.{Event}
+use Rattle.translation.specs.Places.{placeOf, isEnd}
 use Rattle.translation.specs.Narration.{Narration}
 use Rattle.agreement.specs.Machine.{System, Move, move}
 use Rattle.agreement.specs.Agree.{receiverOf, AtEnd, Does}
@@ -18,13 +19,7 @@ pub mod Laws
 
 -- ---- events left to do: those before END
 unfoldable pub toDo : List Event → ℕ
-toDo [] = 0
-toDo (Event.new r ∷ es) = suc (toDo es)
-toDo (Event.sends s is ∷ es) = suc (toDo es)
-toDo (Event.receives s f n ∷ es) = suc (toDo es)
-toDo (Event.checks x i ∷ es) = suc (toDo es)
-toDo (Event.opens x f n i ∷ es) = suc (toDo es)
-toDo (Event.ends ps ∷ es) = 0
+toDo es = placeOf isEnd es
 
 -- by the first Q parties together
 unfoldable pub toDoAll : ℕ → System → ℕ
@@ -35,9 +30,9 @@ abbrev pub Lowers : Narration → ℕ → System → Move → Type 0
 Lowers N Q S m = (move (receiverOf N) m S ≡ S) ⊎ (suc (toDoAll Q (move (receiverOf N) m S)) ≡ toDoAll Q S)
 
 -- ---- the moves, one after another, each of which gets a party's next event done
-pub data Run (N : Narration) : System → List Move → System → Type 0 where
-  stop : {S : System} → Run N S [] S
-  more : {S T : System} {m : Move} {ms : List Move} (p : ℕ) → Does N S m p → Run N (move (receiverOf N) m S) ms T → Run N S (m ∷ ms) T
+pub data EachDoes (N : Narration) : System → List Move → System → Type 0 where
+  stop : {S : System} → EachDoes N S [] S
+  more : {S T : System} {m : Move} {ms : List Move} (p : ℕ) → Does N S m p → EachDoes N (move (receiverOf N) m S) ms T → EachDoes N S (m ∷ ms) T
 
 -- all of the first Q parties are at END
 abbrev pub AllAtEnd : ℕ → System → Type 0
@@ -47,7 +42,7 @@ AllAtEnd Q S = (p : ℕ) → p < Q → AtEnd (S .party p .left)
 pub record Finishes (N : Narration) (Q : ℕ) (S : System) : Type 0 where
   pub moves : List Move
   pub last : System
-  pub run : Run N S moves last
+  pub eachDoes : EachDoes N S moves last
   pub many : length moves ≡ toDoAll Q S
   pub ended : AllAtEnd Q last
 

@@ -9,7 +9,7 @@ use Rattle.translation.specs.Narration.{Narration}
 use Rattle.translation.specs.Taken.{stepOf}
 use Rattle.agreement.specs.Machine.{System}
 use Rattle.agreement.specs.Agree.{AtEnd}
-use Rattle.agreement.specs.Order.{Rising, Sends}
+use Rattle.agreement.specs.Order.{Rising, ToSend}
 pub mod Laws
 
 pub data Posted : Option Terms → Type 0 where
@@ -18,5 +18,5 @@ pub data Posted : Option Terms → Type 0 where
 -- of the first Q parties
 pub record Flow (N : Narration) (Q : ℕ) (S : System) : Type 0 where
   pub rising : (p : ℕ) → Rising N p 0 (S .party p .left)
-  pub sends : (s : ℕ) → s < length (N .says) → Sends s (S .party (stepOf N s .sender) .left) ⊎ Posted (S .sent s)
+  pub sends : (s : ℕ) → s < length (N .says) → ToSend s (S .party (stepOf N s .sender) .left) ⊎ Posted (S .sent s)
   pub nobody : (p : ℕ) → Q ≤ p → AtEnd (S .party p .left)

@@ -8,19 +8,19 @@ use mathlib.Core.Path.{_≡_}
 use Rattle.terms.specs.Term.{Term, Terms}
 use Rattle.translation.specs.Narration.{Narration}
 use Rattle.agreement.specs.Machine.{Party, System}
-use Rattle.agreement.specs.Agree.{meant, Said}
-use Rattle.agreement.specs.Sound.{seen}
+use Rattle.agreement.specs.Agree.{meant, Narrated}
+use Rattle.agreement.specs.Sound.{sightOf}
 use Rattle.agreement.specs.Safe.{Safe}
 pub mod Laws
 
 -- party p
 pub record Goes (N : Narration) (p : ℕ) (P : Party) : Type 0 where
-  pub standing : P .halted ≡ false
+  pub unhalted : P .halted ≡ false
   pub holding : List Term
   pub bound : List Term
-  pub sees : P .view ≡ seen holding bound
+  pub sees : P .sight ≡ sightOf holding bound
   pub safe : Safe N (meant N p) (P .left) holding bound
 
 pub record Going (N : Narration) (S : System) : Type 0 where
   pub parties : (p : ℕ) → Goes N p (S .party p)
-  pub messages : (s : ℕ) (ts : Terms) → S .sent s ≡ some ts → Said N s ts
+  pub messages : (s : ℕ) (ts : Terms) → S .sent s ≡ some ts → Narrated N s ts

@@ -3,9 +3,9 @@
 use Prim.Native.Nat.{ℕ}
 use mathlib.Core.List.{List, List·Memᴰ}
 use mathlib.Core.Path.{_≡_}
-use Rattle.translation.specs.Build.Laws.{NoRepeat}
+use Rattle.words.specs.Run.{NoRepeat}
 use Rattle.agreement.specs.Machine.{System}
-use Rattle.agreement.specs.Making.{news}
+use Rattle.agreement.specs.News.{news}
 pub mod Laws
 
 -- `Fresh` says which atoms may be made; `made` were made, and party p will make those of `later p`

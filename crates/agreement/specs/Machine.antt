@@ -11,11 +11,14 @@ use mathlib.Core.Bool.{Bool, true, false}
 use mathlib.Core.List.{List, [], _∷_}
 use mathlib.Core.Option.{Option, none, some}
 use lib.Dec.{eqb}
-use Rattle.words.specs.Choice.{pick, choose}
+use Rattle.words.specs.Choice.{pick, choose, then}
 use Rattle.terms.specs.Term.{Term, Terms, same, count, partner}
 use Rattle.translation.specs.Receive.{Event}
-use Rattle.translation.specs.Spelling.{then}
-use Rattle.agreement.specs.View.{View, value, valueAll, change, binds, gains}
+use Rattle.translation.specs.Standing.{standingAt, ifWaits}
+use Rattle.translation.specs.Narration.{narration, knownTo}
+use Rattle.translation.specs.Spelled.{spelled}
+use Rattle.agreement.specs.Change.{change}
+use Rattle.agreement.specs.Sight.{Sight, value, valueAll, binds, gains}
 pub mod Laws
 
 -- ---- what an event of a party's own does: it fails, or does nothing, or is done and changes what the party sees
@@ -28,51 +31,51 @@ pub data Shown : Type 0 where
 pub data Effect : Type 0 where
   fails : Effect
   idles : Effect
-  does : Shown → View → Effect
+  does : Shown → Sight → Effect
 
-unfoldable pub sending : ℕ → Option Terms → View → Effect
-sending s none v = Effect.fails
-sending s (some ts) v = Effect.does (Shown.sent s ts) v
+unfoldable pub sendEffect : ℕ → Option Terms → Sight → Effect
+sendEffect s none v = Effect.fails
+sendEffect s (some ts) v = Effect.does (Shown.sent s ts) v
 
 -- "A CHECK succeeds if both terms are equal"
-unfoldable pub comparing : Option Term → Option Term → View → Effect
-comparing none u v = Effect.fails
-comparing (some t) none v = Effect.fails
-comparing (some t) (some u) v = choose (same t u) (Effect.does Shown.nothing v) Effect.fails
+unfoldable pub checkEffect : Option Term → Option Term → Sight → Effect
+checkEffect none u v = Effect.fails
+checkEffect (some t) none v = Effect.fails
+checkEffect (some t) (some u) v = choose (same t u) (Effect.does Shown.nothing v) Effect.fails
 
 -- "an OPEN succeeds if the term is a cipher with n contents whose key is the partner of the key image's term"
-unfoldable pub contents : Term → ℕ → Term → Option Terms
-contents (Term.atom r) n k = none
-contents (Term.operation g ts) n k = none
-contents (Term.cipher l ts) n k = pick (eqb n (count ts)) (choose (same l (partner k)) (some ts) none) none
-contents (Term.public t) n k = none
-contents (Term.private t) n k = none
+unfoldable pub opensTo : Term → ℕ → Term → Option Terms
+opensTo (Term.atom r) n k = none
+opensTo (Term.operation g ts) n k = none
+opensTo (Term.cipher l ts) n k = pick (eqb n (count ts)) (choose (same l (partner k)) (some ts) none) none
+opensTo (Term.public t) n k = none
+opensTo (Term.private t) n k = none
 
-unfoldable pub opening : ℕ → Option Terms → View → Effect
-opening f none v = Effect.fails
-opening f (some ts) v = Effect.does Shown.nothing (binds f ts v)
+unfoldable pub openEffect : ℕ → Option Terms → Sight → Effect
+openEffect f none v = Effect.fails
+openEffect f (some ts) v = Effect.does Shown.nothing (binds f ts v)
 
-unfoldable pub effect : Event → View → Effect
+unfoldable pub effect : Event → Sight → Effect
 effect (Event.new r) v = Effect.does (Shown.made r) (gains r v)
-effect (Event.sends s is) v = sending s (valueAll v is) v
+effect (Event.sends s is) v = sendEffect s (valueAll v is) v
 effect (Event.receives s f n) v = Effect.idles
-effect (Event.checks x i) v = comparing (v .placeholders x) (value v i) v
-effect (Event.opens x f n i) v = opening f (then (v .placeholders x) (λ t. then (value v i) (contents t n))) v
+effect (Event.checks x i) v = checkEffect (v .placeholders x) (value v i) v
+effect (Event.opens x f n i) v = openEffect f (then (v .placeholders x) (λ t. then (value v i) (opensTo t n))) v
 effect (Event.ends ps) v = Effect.idles
 
 -- ---- a party, with the events that it has left, and how many it has done, END not counted
 pub record Party : Type 0 where
   pub halted : Bool
   pub left : List Event
-  pub view : View
+  pub sight : Sight
   pub done : ℕ
 
 abbrev pub halts : Party → Party
-halts P = record { halted = true; left = P .left; view = P .view; done = P .done }
+halts P = record { halted = true; left = P .left; sight = P .sight; done = P .done }
 
 -- its next event is done, es are left, and it sees v
-abbrev pub goes : Party → List Event → View → Party
-goes P es v = record { halted = P .halted; left = es; view = v; done = suc (P .done) }
+abbrev pub goesOn : Party → List Event → Sight → Party
+goesOn P es v = record { halted = P .halted; left = es; sight = v; done = suc (P .done) }
 
 -- a party after its own move, and what others can see of it
 pub record Turn : Type 0 where
@@ -85,24 +88,23 @@ stays P = record { party = P; shown = Shown.nothing }
 unfoldable pub takes : Effect → Party → List Event → Turn
 takes Effect.fails P es = stays (halts P)
 takes Effect.idles P es = stays P
-takes (Effect.does s v) P es = record { party = goes P es v; shown = s }
+takes (Effect.does s v) P es = record { party = goesOn P es v; shown = s }
 
 unfoldable pub next : List Event → Party → Turn
 next [] P = stays P
-next (e ∷ es) P = takes (effect e (P .view)) P es
+next (e ∷ es) P = takes (effect e (P .sight)) P es
 
 unfoldable pub turn : Party → Turn
 turn P = pick (P .halted) (stays P) (next (P .left) P)
 
+-- it waits for n messages, for the placeholders from f on, and is given these: it takes them, and es are left; another count fails
+abbrev pub gets : ℕ → ℕ → Terms → Party → List Event → Party
+gets f n ts P es = pick (eqb n (count ts)) (goesOn P es (binds f ts (P .sight))) (halts P)
+
 -- a copy of step s's messages is handed over to a party that has the events left
 unfoldable pub handed : List Event → ℕ → Terms → Party → Party
 handed [] s ts P = P
-handed (Event.new r ∷ es) s ts P = P
-handed (Event.sends a is ∷ es) s ts P = P
-handed (Event.receives a f n ∷ es) s ts P = pick (eqb a s) (pick (eqb n (count ts)) (goes P es (binds f ts (P .view))) (halts P)) P
-handed (Event.checks x i ∷ es) s ts P = P
-handed (Event.opens x f n i ∷ es) s ts P = P
-handed (Event.ends ps ∷ es) s ts P = P
+handed (e ∷ es) s ts P = ifWaits (standingAt e) (λ a f n. pick (eqb a s) (gets f n ts P es) P) P
 
 unfoldable pub delivered : ℕ → Option Terms → Party → Party
 delivered s none P = P
@@ -142,10 +144,14 @@ move receiver (Move.delivery s) S =
 unfoldable pub begin : (ℕ → List Term) → (ℕ → List Event) → System
 begin known programs =
     record {
-      party = λ p. record { halted = false; left = programs p; view = record { itself = known p; placeholders = λ x. none }; done = 0 };
+      party = λ p. record { halted = false; left = programs p; sight = record { itself = known p; placeholders = λ x. none }; done = 0 };
       sent = λ s. none;
       made = [];
     }
+
+-- of the book b and the words w of a listing: each party knows what the book says, and has the program that the words spell
+unfoldable pub started : List ℕ → List ℕ → System
+started b w = begin (knownTo (narration b)) (spelled b w)
 
 pub data Reach (receiver : ℕ → ℕ) (B : System) : System → Type 0 where
   start : Reach receiver B B

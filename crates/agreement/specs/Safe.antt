@@ -8,9 +8,9 @@ use lib.ListN.{length, getElem?}
 use Rattle.terms.specs.Term.{Term, Terms, count, listed, partner}
 use Rattle.translation.specs.Receive.{Event}
 use Rattle.translation.specs.Narration.{Narration}
-use Rattle.agreement.specs.View.{value, valueAll}
-use Rattle.agreement.specs.Agree.{Said}
-use Rattle.agreement.specs.Sound.{seen}
+use Rattle.agreement.specs.Sight.{value, valueAll}
+use Rattle.agreement.specs.Agree.{Narrated}
+use Rattle.agreement.specs.Sound.{sightOf}
 pub mod Laws
 
 -- hs are held as themselves, the placeholders stand for ns; all: what the narration has at the party's placeholders
@@ -18,10 +18,10 @@ module _ (N : Narration) (all : List Term) where
   abbrev pub Safe : List Event → List Term → List Term → Type 0
   Safe [] hs ns = (l : List Term) × (ns ++ l ≡ all)
   Safe (Event.new r ∷ es) hs ns = Safe es (Term.atom r ∷ hs) ns
-  Safe (Event.sends s is ∷ es) hs ns = (ts : Terms) × Said N s ts × (valueAll (seen hs ns) is ≡ some ts) × Safe es hs ns
-  Safe (Event.receives s f n ∷ es) hs ns = (ts : Terms) × Said N s ts × (f ≡ length ns) × (n ≡ count ts) × Safe es hs (ns ++ listed ts)
-  Safe (Event.checks x i ∷ es) hs ns = (t : Term) × (getElem? ns x ≡ some t) × (value (seen hs ns) i ≡ some t) × Safe es hs ns
+  Safe (Event.sends s is ∷ es) hs ns = (ts : Terms) × Narrated N s ts × (valueAll (sightOf hs ns) is ≡ some ts) × Safe es hs ns
+  Safe (Event.receives s f n ∷ es) hs ns = (ts : Terms) × Narrated N s ts × (f ≡ length ns) × (n ≡ count ts) × Safe es hs (ns ++ listed ts)
+  Safe (Event.checks x i ∷ es) hs ns = (t : Term) × (getElem? ns x ≡ some t) × (value (sightOf hs ns) i ≡ some t) × Safe es hs ns
   Safe (Event.opens x f n i ∷ es) hs ns =
       (k : Term) × (ts : Terms) × (getElem? ns x ≡ some (Term.cipher k ts)) × (f ≡ length ns) × (n ≡ count ts)
-      × (value (seen hs ns) i ≡ some (partner k)) × Safe es hs (ns ++ listed ts)
+      × (value (sightOf hs ns) i ≡ some (partner k)) × Safe es hs (ns ++ listed ts)
   Safe (Event.ends ps ∷ es) hs ns = Safe es hs ns

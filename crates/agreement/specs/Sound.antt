@@ -9,11 +9,11 @@ use mathlib.Core.Path.{_≡_}
 use lib.ListN.{getElem?}
 use Rattle.terms.specs.Term.{Term}
 use Rattle.translation.specs.Dictionary.{Held, Dictionary}
-use Rattle.agreement.specs.View.{View, holds}
+use Rattle.agreement.specs.Sight.{Sight, holds}
 pub mod Laws
 
-unfoldable pub seen : List Term → List Term → View
-seen hs ns = record { itself = hs; placeholders = getElem? ns }
+unfoldable pub sightOf : List Term → List Term → Sight
+sightOf hs ns = record { itself = hs; placeholders = getElem? ns }
 
 pub data Right (hs ns : List Term) (t : Term) : Held → Type 0 where
   free : Right hs ns t Held.free

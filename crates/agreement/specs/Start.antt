@@ -1,58 +1,58 @@
 -- Laws: demand 3 for a playable narration, whose parties start with their programs. Assumes nothing.
-use Prim.Native.Nat.{ℕ, _≤_, _<_}
+use Prim.Native.Nat.{ℕ, _<_}
 use native.Mathlib.Decide.{decLt}
 use native.Mathlib.Omega.{arith}
-use mathlib.Core.List.{List, [], _∷_, List·Memᴰ, List·Memᴰ·not-nil}
+use mathlib.Core.List.{List, [], List·Memᴰ, List·Memᴰ·not-nil}
 use mathlib.Core.Logic.{inl}
 use mathlib.Core.Option.{Option·some-ne-none}
 use mathlib.Core.Path.{_≡_, refl, sym, subst}
 use lib.ListN.{length}
-use Rattle.translation.specs.Build.Laws.{NoRepeat}
+use Rattle.words.specs.Run.{NoRepeat}
+use Rattle.book.specs.Layout.{parties, steps}
 use Rattle.translation.specs.Receive.{Event}
-use Rattle.translation.specs.Program.{actsOf}
-use Rattle.translation.specs.Narration.{Narration, knownTo, programOf}
+use Rattle.translation.specs.Program.{Step, actsOf}
+use Rattle.translation.specs.Narration.{Narration, stepAt, narration, knownTo, programOf}
 use Rattle.translation.specs.Taken.{Nobodys, stepOf, Playable}
+use Rattle.translation.specs.Taken.Laws.{steps-length, step-is}
+use Rattle.translation.specs.Spelled.{endAlone, Programs}
+use Rattle.translation.specs.Spelled.Laws.{accepted-plays}
+use Rattle.translation.specs.Outcome.{outcome, Plays}
 use Rattle.agreement.specs.Machine.{System, begin, Reach}
 use Rattle.agreement.specs.Agree.{meant, receiverOf, AtEnd, Agree}
-use Rattle.agreement.specs.Sound.{seen}
+use Rattle.agreement.specs.Sound.{sightOf}
 use Rattle.agreement.specs.Safe.{Safe}
 use Rattle.agreement.specs.Safe.Laws.{program-safe}
 use Rattle.agreement.specs.Going.{Going}
 use Rattle.agreement.specs.Going.Laws.{reach-going, going-bound, going-faithful}
-use Rattle.agreement.specs.Parts.Laws.{own-parts, parts-said}
-use Rattle.agreement.specs.Order.{Rising, Sends}
-use Rattle.agreement.specs.Order.Laws.{program-rising, program-sends}
+use Rattle.agreement.specs.Acts.Laws.{own-acts, acts-narrated}
+use Rattle.agreement.specs.Order.{Rising, ToSend}
+use Rattle.agreement.specs.Order.Laws.{program-rising, program-toSend}
 use Rattle.agreement.specs.Flow.{Flow}
 use Rattle.agreement.specs.Flow.Laws.{reach-flow}
 use Rattle.agreement.specs.Progress.{progress}
-use Rattle.agreement.specs.Making.{news}
-use Rattle.agreement.specs.Making.Laws.{program-free, program-once, program-apart}
+use Rattle.agreement.specs.News.{news}
+use Rattle.agreement.specs.News.Laws.{program-free, program-once, program-apart}
 use Rattle.agreement.specs.Log.{Logged}
 use Rattle.agreement.specs.Log.Laws.{reach-logged}
 
 -- a narration among the first Q parties that refusal 10 lets pass
-pub record Played (N : Narration) (Q : ℕ) : Type 0 where
+pub record PlayableAmong (N : Narration) (Q : ℕ) : Type 0 where
   pub senders : (s : ℕ) → s < length (N .says) → stepOf N s .sender < Q
   pub playable : (s : ℕ) → s < length (N .says) → Playable N s
 
--- each party has its program, and a number that is no party's has nothing to do
-pub record Programs (N : Narration) (Q : ℕ) (programs : ℕ → List Event) : Type 0 where
-  pub party : (p : ℕ) → p < Q → programs p ≡ programOf N p
-  pub nobody : (p : ℕ) → Q ≤ p → programs p ≡ Event.ends [] ∷ []
-
-module _ (N : Narration) (Q : ℕ) (programs : ℕ → List Event) (v : Played N Q) (w : Programs N Q programs) where
+module _ (N : Narration) (Q : ℕ) (programs : ℕ → List Event) (v : PlayableAmong N Q) (w : Programs N Q programs) where
   abbrev pub starting : System
   starting = begin (knownTo N) programs
 
-  each : (A : ℕ → List Event → Type 0) → ((p : ℕ) → A p (programOf N p)) → ((p : ℕ) → A p (Event.ends [] ∷ [])) → (p : ℕ) → A p (programs p)
+  each : (A : ℕ → List Event → Type 0) → ((p : ℕ) → A p (programOf N p)) → ((p : ℕ) → A p endAlone) → (p : ℕ) → A p (programs p)
   each A f g p = elim (decLt p Q) [ yes l ↦ subst (A p) (sym (w .party p l)) (f p) | no l ↦ subst (A p) (sym (w .nobody p (omega arith))) (g p) ]
 
   start-going : Going N starting
-  unfolding begin seen
+  unfolding begin sightOf
   start-going =
       record {
         parties = λ p. record {
-          standing = refl;
+          unhalted = refl;
           holding = knownTo N p;
           bound = [];
           sees = refl;
@@ -62,14 +62,14 @@ module _ (N : Narration) (Q : ℕ) (programs : ℕ → List Event) (v : Played N
       }
     where
       safe : (q : ℕ) → Safe N (meant N q) (programOf N q) (knownTo N q) []
-      safe q = unfold programOf meant in program-safe N _ (knownTo N q) (actsOf q 0 (N .says)) (parts-said N q (own-parts N q)) refl
+      safe q = unfold programOf meant in program-safe N _ (knownTo N q) (actsOf q 0 (N .says)) (acts-narrated N q (own-acts N q)) refl
 
   start-flow : Flow N Q starting
   unfolding begin
   start-flow =
       record {
         rising = each (λ p es. Rising N p 0 es) (λ p. program-rising N p) (λ p. Rising.end);
-        sends = λ s l. inl (subst (Sends s) (sym (w .party _ (v .senders s l))) (program-sends N s l));
+        sends = λ s l. inl (subst (ToSend s) (sym (w .party _ (v .senders s l))) (program-toSend N s l));
         nobody = λ p l. subst AtEnd (sym (w .nobody p l)) AtEnd.end;
       }
 
@@ -86,7 +86,9 @@ module _ (N : Narration) (Q : ℕ) (programs : ℕ → List Event) (v : Played N
       }
     where
       its : (p r : ℕ) → List·Memᴰ r (news (programs p)) → List·Memᴰ r (news (programOf N p))
-      its p r = each (λ q es. List·Memᴰ r (news es) → List·Memᴰ r (news (programOf N q))) (λ q m. m) (λ q m. absurd (List·Memᴰ·not-nil (unfold news in m))) p
+      its p r =
+          each (λ q es. List·Memᴰ r (news es) → List·Memᴰ r (news (programOf N q))) (λ q m. m)
+          (λ q m. absurd (List·Memᴰ·not-nil (unfold news in m))) p
 
   module _ {S : System} (r : Reach (receiverOf N) starting S) where
     pub reached-going : Going N S
@@ -104,3 +106,18 @@ module _ (N : Narration) (Q : ℕ) (programs : ℕ → List Event) (v : Played N
           made = record { once = l .once; untaken = l .fresh };
           moves = progress N Q (v .senders) S reached-going reached-flow;
         }
+
+-- ---- a book that plays, and one whose outcome is a listing
+pub plays-playable : (b : List ℕ) → Plays b → PlayableAmong (narration b) (parties b)
+unfolding stepAt
+plays-playable b plays =
+    let e = steps-length b in
+    record {
+      senders = λ s l.
+          let k : s < steps b = omega arith in
+          subst (λ (a : Step). a .sender < parties b) (sym (step-is b s k)) (plays .valid .stepsKeep s k .sends);
+      playable = λ s l. plays .playable s (omega arith);
+    }
+
+pub accepted-playable : (b out : List ℕ) → outcome b out .says .number ≡ 0 → PlayableAmong (narration b) (parties b)
+accepted-playable b out accepted = plays-playable b (accepted-plays b out accepted)

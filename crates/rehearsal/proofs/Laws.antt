@@ -26,13 +26,13 @@ use Rattle.book.specs.Said.{readingSays}
 use Rattle.translation.specs.declared.Answer.the-variants.{Written, Refused}
 use Rattle.translation.specs.Outcome.{acceptance, came, Plays}
 use Rattle.translation.specs.Places.{Places, placesOf}
-use Rattle.agreement.specs.View.{change}
-use Rattle.agreement.specs.Machine.Laws.{change-ind}
-use Rattle.agreement.specs.Rehearsal.{eventsDone, mostMoves, rehearsal}
-use Rattle.agreement.specs.Rehearsal.Laws.{done-length}
-use Rattle.agreement.specs.Rehearsal.Came.{refused-came, long-came, move-came, room-came, played-came}
-use Rattle.agreement.specs.Counting.{waitsFor, waits, ticked, counted}
-use Rattle.agreement.specs.Counting.Laws.{done-counted}
+use Rattle.agreement.specs.Change.{change}
+use Rattle.agreement.specs.Change.Laws.{change-ind}
+use Rattle.playing.specs.Rehearsal.{eventsDone, mostMoves, rehearsal}
+use Rattle.playing.specs.Rehearsal.Laws.{done-length}
+use Rattle.playing.specs.Rehearsal.Came.{rehearsal-refused-came, long-came, move-came, rehearsal-room-came, played-came}
+use Rattle.playing.specs.Counting.{waitsFor, waits, ticked, tickedAll}
+use Rattle.playing.specs.Counting.Laws.{done-counted}
 use Rattle.placing.specs.Placed.{Placed}
 use Rattle.rehearsal.specs.Kept.{places, counts}
 
@@ -103,21 +103,21 @@ module _ (b x y z d : List ℕ) (p v w : ℕ) (e : v ≡ p) (f : w ≡ p) where
 
 -- ---- the parties of a schedule move
 module _ (b : List ℕ) (P : Places) where
-  counted-next : (ms : List ℕ) (i : ℕ) (d : ℕ → ℕ) → i < length ms → counted b P (take (suc i) ms) d ≡ ticked b P (getD ms i 0) (counted b P (take i ms) d)
-  unfolding counted
-  counted-next [] i d l = absurd (omega arith)
-  counted-next (p ∷ ms) zero d l = refl
-  counted-next (p ∷ ms) (suc i) d l = counted-next ms i (ticked b P p d) (omega arith)
+  tickedAll-next : (ms : List ℕ) (i : ℕ) (d : ℕ → ℕ) → i < length ms → tickedAll b P (take (suc i) ms) d ≡ ticked b P (getD ms i 0) (tickedAll b P (take i ms) d)
+  unfolding tickedAll
+  tickedAll-next [] i d l = absurd (omega arith)
+  tickedAll-next (p ∷ ms) zero d l = refl
+  tickedAll-next (p ∷ ms) (suc i) d l = tickedAll-next ms i (ticked b P p d) (omega arith)
 
-  pub played-none : (ms : List ℕ) (d : ℕ → ℕ) → d ≡ counted b P (take 0 ms) d
-  unfolding counted
+  pub played-none : (ms : List ℕ) (d : ℕ → ℕ) → d ≡ tickedAll b P (take 0 ms) d
+  unfolding tickedAll
   played-none ms d = refl
 
-  pub played-on : (ms : List ℕ) (i : ℕ) (d c a : ℕ → ℕ) → i < length ms → c ≡ counted b P (take i ms) d → a ≡ ticked b P (getD ms i 0) c → a ≡ counted b P (take (i + 1) ms) d
-  played-on ms i d c a l e f = f ∙ ap (ticked b P (getD ms i 0)) e ∙ sym (ap (λ k. counted b P (take k ms) d) (add-one i) ∙ counted-next ms i d l)
+  pub played-on : (ms : List ℕ) (i : ℕ) (d c a : ℕ → ℕ) → i < length ms → c ≡ tickedAll b P (take i ms) d → a ≡ ticked b P (getD ms i 0) c → a ≡ tickedAll b P (take (i + 1) ms) d
+  played-on ms i d c a l e f = f ∙ ap (ticked b P (getD ms i 0)) e ∙ sym (ap (λ k. tickedAll b P (take k ms) d) (add-one i) ∙ tickedAll-next ms i d l)
 
-  pub played-all : (ms : List ℕ) (i : ℕ) (d a : ℕ → ℕ) → length ms ≤ i → a ≡ counted b P (take i ms) d → a ≡ counted b P ms d
-  played-all ms i d a l e = e ∙ ap (λ l. counted b P l d) (take-all i ms l)
+  pub played-all : (ms : List ℕ) (i : ℕ) (d a : ℕ → ℕ) → length ms ≤ i → a ≡ tickedAll b P (take i ms) d → a ≡ tickedAll b P ms d
+  played-all ms i d a l e = e ∙ ap (λ l. tickedAll b P l d) (take-all i ms l)
 
 -- ---- the counts are written
 pub counts-on : (q : ℕ → ℕ) {p a r w v : ℕ} {old m new : List ℕ} → Wrote (values q 0 p) old 0 m a → v ≡ p → w ≡ q v → Wrote (w ∷ []) m a new r → Wrote (values q 0 (p + 1)) old 0 new r
@@ -142,20 +142,20 @@ module _ (b x y z : List ℕ) (g : Placed b x y z) where
   unfolding ticked
   ticked-same p l d = rw (g .ends p l, waits-same d p)
 
-  counted-same : (ms : List ℕ) → All (λ q. q < parties b) ms → (d : ℕ → ℕ) → counted b (places x y z) ms d ≡ counted b (placesOf b) ms d
-  unfolding counted
-  counted-same [] a d = refl
-  counted-same (p ∷ ms) a d = ap (counted b (places x y z) ms) (ticked-same p (a .0) d) ∙ counted-same ms (a .1) (ticked b (placesOf b) p d)
+  tickedAll-same : (ms : List ℕ) → All (λ q. q < parties b) ms → (d : ℕ → ℕ) → tickedAll b (places x y z) ms d ≡ tickedAll b (placesOf b) ms d
+  unfolding tickedAll
+  tickedAll-same [] a d = refl
+  tickedAll-same (p ∷ ms) a d = ap (tickedAll b (places x y z) ms) (ticked-same p (a .0) d) ∙ tickedAll-same ms (a .1) (ticked b (placesOf b) p d)
 
-  pub performed : Plays b → (ms : List ℕ) → All (λ q. q < parties b) ms → (c : ℕ → ℕ) {old new : List ℕ} {q a : ℕ} → c ≡ counted b (places x y z) ms (counts (replicate {A = ℕ} 16 0)) → q ≡ parties b
+  pub performed : Plays b → (ms : List ℕ) → All (λ q. q < parties b) ms → (c : ℕ → ℕ) {old new : List ℕ} {q a : ℕ} → c ≡ tickedAll b (places x y z) ms (counts (replicate {A = ℕ} 16 0)) → q ≡ parties b
       → Wrote (values c 0 q) old 0 new a → Wrote (eventsDone b ms) old 0 new a
   performed v ms a c {q = q} e f w =
-      wrote-as w (done-counted b v ms a ∙ ap (λ n. values (counted b (placesOf b) ms (λ k. 0)) 0 n) (sym f)
-      ∙ ap (λ k. values k 0 q) (sym (e ∙ counted-same ms a (counts (replicate {A = ℕ} 16 0)) ∙ ap (counted b (placesOf b) ms) (fun-ext (λ p. zeros 16 p)))))
+      wrote-as w (done-counted b v ms a ∙ ap (λ n. values (tickedAll b (placesOf b) ms (λ k. 0)) 0 n) (sym f)
+      ∙ ap (λ k. values k 0 q) (sym (e ∙ tickedAll-same ms a (counts (replicate {A = ℕ} 16 0)) ∙ ap (tickedAll b (placesOf b) ms) (fun-ext (λ p. zeros 16 p)))))
 
 -- ---- what came of it
 pub refused : (b ms out : List ℕ) (r : Reading) (f : Refusal) → readingSays r ≡ acceptance b → r ≡ reading.Refused f → came (Refused f) out ≡ rehearsal b ms out
-refused b ms out r f d k = refused-came b ms out f (sym (ap readingSays k) ∙ d)
+refused b ms out r f d k = rehearsal-refused-came b ms out f (sym (ap readingSays k) ∙ d)
 
 module _ (b ms out : List ℕ) (p : Plays b) where
   pub long : (r : ℕ) → r ≡ mostMoves → mostMoves < length ms → came (Refused (Move r)) out ≡ rehearsal b ms out
@@ -179,7 +179,7 @@ module _ (b ms out : List ℕ) (p : Plays b) where
       named = getD-all (λ k. k < parties b) ms (λ k j. good k (omega arith))
 
       pub short : (n : ℕ) → n ≡ q → length out < n → came (Refused (Room n)) out ≡ rehearsal b ms out
-      short n c k = let z : n ≡ parties b = omega arith in rw z (room-came b ms out p few named (omega arith))
+      short n c k = let z : n ≡ parties b = omega arith in rw z (rehearsal-room-came b ms out p few named (omega arith))
 
       pub told : (n : ℕ) → n ≡ q → (length out < n → ⊥) → (new : List ℕ) (r : ℕ) → Wrote (eventsDone b ms) out 0 new r → came (Written r) new ≡ rehearsal b ms out
       told n c k new r w =

@@ -22,8 +22,8 @@ ghost use Rattle.words.specs.Overlay.{Wrote};
 ghost use Rattle.book.specs.Layout.{parties as partiesOf, steps as stepsOf};
 ghost use Rattle.book.specs.Valid.{Valid};
 ghost use Rattle.translation.specs.Outcome.{came, Plays};
-ghost use Rattle.agreement.specs.Rehearsal.{eventsDone, rehearsal};
-ghost use Rattle.agreement.specs.Counting.{waitsFor, waits as waitsAt, ticked, counted};
+ghost use Rattle.playing.specs.Rehearsal.{eventsDone, rehearsal};
+ghost use Rattle.playing.specs.Counting.{waitsFor, waits as waitsAt, ticked, tickedAll};
 ghost use Rattle.rehearsal.specs.Kept.{places, counts};
 
 // The first move that names no party, or the schedule's length.
@@ -116,7 +116,7 @@ fn play(
     done: &mut [u32; 16],
 )
     requires { ⌜ Valid (now book) × All (λ q. q < partiesOf (now book)) (now schedule) × (length (now done) ≡ 16) ⌝ }
-    ensures { λ r. ⌜ counts (now (done .exit)) ≡ counted (now (book .entry)) (places (now (sends .entry)) (now (receives .entry)) (now (ends .entry))) (now (schedule .entry)) (counts (now (done .entry))) ⌝ }
+    ensures { λ r. ⌜ counts (now (done .exit)) ≡ tickedAll (now (book .entry)) (places (now (sends .entry)) (now (receives .entry)) (now (ends .entry))) (now (schedule .entry)) (counts (now (done .entry))) ⌝ }
 {
     let mut i = 0;
     while i < schedule.len() {

@@ -2,6 +2,7 @@ pub mod Dictionary
 pub mod Build
 pub mod Along
 pub mod Receive
+pub mod Standing
 pub mod Program
 pub mod Narration
 pub mod Steps
@@ -13,5 +14,6 @@ pub mod Places
 pub mod Spelling
 pub mod Long
 pub mod Outcome
+pub mod Spelled
 pub mod Trials
 pub mod Idle

@@ -6,6 +6,7 @@ use lib.Dec.{eqb}
 use Rattle.words.specs.Choice.{pick}
 use Rattle.book.specs.Layout.{sender, receiver}
 use Rattle.translation.specs.Receive.{Event}
+use Rattle.translation.specs.Standing.{standingAt, ifSends, ifWaits, ifEnded}
 use Rattle.translation.specs.Narration.{narration, programOf}
 pub mod Laws
 
@@ -14,29 +15,15 @@ unfoldable pub placeOf : (Event → Bool) → List Event → ℕ
 placeOf t [] = 0
 placeOf t (e ∷ es) = pick (t e) 0 (suc (placeOf t es))
 
+-- the tests: for step s's SEND, for its RECEIVE, for END
 unfoldable pub isSend : ℕ → Event → Bool
-isSend s (Event.new r) = false
-isSend s (Event.sends a is) = eqb a s
-isSend s (Event.receives a f n) = false
-isSend s (Event.checks x i) = false
-isSend s (Event.opens x f n i) = false
-isSend s (Event.ends ps) = false
+isSend s e = ifSends (standingAt e) (λ a. eqb a s) false
 
 unfoldable pub isReceive : ℕ → Event → Bool
-isReceive s (Event.new r) = false
-isReceive s (Event.sends a is) = false
-isReceive s (Event.receives a f n) = eqb a s
-isReceive s (Event.checks x i) = false
-isReceive s (Event.opens x f n i) = false
-isReceive s (Event.ends ps) = false
+isReceive s e = ifWaits (standingAt e) (λ a f n. eqb a s) false
 
 unfoldable pub isEnd : Event → Bool
-isEnd (Event.new r) = false
-isEnd (Event.sends a is) = false
-isEnd (Event.receives a f n) = false
-isEnd (Event.checks x i) = false
-isEnd (Event.opens x f n i) = false
-isEnd (Event.ends ps) = true
+isEnd e = ifEnded (standingAt e) true false
 
 -- of a book: by step, by step, and by party
 pub record Places : Type 0 where

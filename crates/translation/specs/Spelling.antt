@@ -5,6 +5,7 @@ use Prim.Native.Nat.{ℕ, zero, suc, _+_, _*_}
 use mathlib.Core.List.{List, [], _∷_}
 use mathlib.Core.Option.{Option, none, some}
 use lib.ListN.{length, getD}
+use Rattle.words.specs.Choice.{then}
 use Rattle.words.specs.Run.{run}
 use Rattle.terms.specs.Term.{Term}
 use Rattle.terms.specs.Image.{Image, Images}
@@ -14,10 +15,6 @@ pub mod Laws
 -- what was read, and the words behind it
 abbrev pub Read : Type 0 → Type 0
 Read A = Option (A × List ℕ)
-
-unfoldable pub then : {A B : Type 0} → Option A → (A → Option B) → Option B
-then none f = none
-then (some a) f = f a
 
 module _ (term : ℕ → Term) where
   unfoldable mutual

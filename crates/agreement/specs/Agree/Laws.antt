@@ -5,15 +5,17 @@ use mathlib.Core.Path.{_≡_}
 use Rattle.book.specs.Layout.{parties}
 use Rattle.translation.specs.Narration.{narration}
 use Rattle.translation.specs.Outcome.{outcome}
-use Rattle.agreement.specs.Machine.{System, Reach}
+use Rattle.translation.specs.Spelled.{spelled}
+use Rattle.translation.specs.Spelled.Laws.{accepted-programs}
+use Rattle.agreement.specs.Machine.{System, started, Reach}
 use Rattle.agreement.specs.Agree.{receiverOf, Agree}
-use Rattle.agreement.specs.Start.{reached-agree}
-use Rattle.agreement.specs.Spelled.{spelled, started}
-use Rattle.agreement.specs.Spelled.Laws.{accepted-played, accepted-programs}
+use Rattle.agreement.specs.Start.{reached-agree, accepted-playable}
 
 -- For any words b and any lent words out: if the outcome is a listing, then in every state that any sequence of moves reaches, from
 -- the start with the programs that the lent words spell afterwards, the parties agree.
-pub parties-agree : (b out : List ℕ) → outcome b out .says .number ≡ 0 → {S : System} → Reach (receiverOf (narration b)) (started b (outcome b out .lent)) S → Agree (narration b) (parties b) S
+pub parties-agree : (b out : List ℕ) → outcome b out .says .number ≡ 0 → {S : System}
+    → Reach (receiverOf (narration b)) (started b (outcome b out .lent)) S
+    → Agree (narration b) (parties b) S
 unfolding started
 parties-agree b out accepted r =
-    reached-agree (narration b) (parties b) (spelled b (outcome b out .lent)) (accepted-played b out accepted) (accepted-programs b out accepted) r
+    reached-agree (narration b) (parties b) (spelled b (outcome b out .lent)) (accepted-playable b out accepted) (accepted-programs b out accepted) r

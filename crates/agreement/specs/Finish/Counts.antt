@@ -7,18 +7,22 @@ use mathlib.Core.List.{List, _∷_}
 use mathlib.Core.Logic.{_⊎_, inl, inr}
 use mathlib.Core.Option.{Option}
 use mathlib.Core.Path.{_≡_, refl, sym, ap, _∙_, subst}
+use Rattle.words.specs.Choice.{pick}
 use Rattle.words.specs.Sum.{sum}
 use Rattle.words.specs.Sum.Laws.{sum-same}
 use Rattle.terms.specs.Term.{Terms, count}
 use Rattle.translation.specs.Receive.{Event}
+use Rattle.translation.specs.Standing.{standingAt, ifEnded}
+use Rattle.translation.specs.Places.{placeOf, isEnd}
 use Rattle.translation.specs.Narration.{Narration}
-use Rattle.agreement.specs.View.{change}
+use Rattle.agreement.specs.Change.{change}
+use Rattle.agreement.specs.Change.Laws.{change-same, change-other, change-none}
 use Rattle.agreement.specs.Machine.{Shown, Party, Turn, System, sentAfter, madeAfter, Move, move, Reach}
-use Rattle.agreement.specs.Machine.Laws.{change-same, change-other, change-none, Showing, Turned, turn-cases, Delivered, delivered-cases, move-parties}
+use Rattle.agreement.specs.Machine.Laws.{Showing, Turned, turn-cases, Delivered, delivered-cases, move-parties}
 use Rattle.agreement.specs.Agree.{meant, receiverOf, AtEnd, Does}
 use Rattle.agreement.specs.Safe.{Safe}
 use Rattle.agreement.specs.Going.{Going}
-use Rattle.agreement.specs.Going.Laws.{said-one, EffectWell, goes-effect}
+use Rattle.agreement.specs.Going.Laws.{narrated-one, EffectWell, goes-effect}
 use Rattle.agreement.specs.Order.{Rising}
 use Rattle.agreement.specs.Flow.{Flow}
 use Rattle.agreement.specs.Finish.{toDo, toDoAll, Lowers, AllAtEnd}
@@ -61,11 +65,11 @@ sum-some f (suc n) h = go (decLt 0 (f n)) (λ k. sum-some f n k)
 
 -- ---- toDo
 pub end-toDo : {es : List Event} → AtEnd es → toDo es ≡ 0
-unfolding toDo
+unfolding toDo placeOf isEnd standingAt ifEnded pick
 end-toDo AtEnd.end = refl
 
 showing-toDo : {e : Event} {o : Shown} (es : List Event) → Showing e o → toDo (e ∷ es) ≡ suc (toDo es)
-unfolding toDo
+unfolding toDo placeOf isEnd standingAt ifEnded pick
 showing-toDo es Showing.new = refl
 showing-toDo es Showing.sends = refl
 showing-toDo es Showing.checks = refl
@@ -73,7 +77,7 @@ showing-toDo es Showing.opens = refl
 
 -- events that rise end in END
 rising-toDo : {N : Narration} {p low : ℕ} {es : List Event} → Rising N p low es → AtEnd es ⊎ (0 < toDo es)
-unfolding toDo
+unfolding toDo placeOf isEnd standingAt ifEnded pick
 rising-toDo Rising.end = inl AtEnd.end
 rising-toDo (Rising.new h) = inr (omega arith)
 rising-toDo (Rising.sends l e h) = inr (omega arith)
@@ -91,7 +95,7 @@ turned-adds (Turned.halted l c) = refl
 turned-adds (Turned.did {es = es} l w) = let a = ap toDo l ∙ showing-toDo es w in omega arith
 
 delivered-adds : {s : ℕ} {o : Option Terms} {P R : Party} → Delivered s o P R → Adds P R
-unfolding toDo
+unfolding toDo placeOf isEnd standingAt ifEnded pick
 delivered-adds Delivered.dropped = refl
 delivered-adds (Delivered.halted l e c) = refl
 delivered-adds (Delivered.took l e) = let a = ap toDo l in omega arith
@@ -109,10 +113,12 @@ module _ (N : Narration) (Q : ℕ) (S : System) (going : Going N S) (flow : Flow
   within : (p : ℕ) → 0 < toDo (S .party p .left) → p < Q
   within p h = elim (decLt p Q) [ yes l ↦ l | no l ↦ (let e = end-toDo (flow .nobody p (omega arith)) in absurd (omega arith)) ]
 
-  lowered : (p : ℕ) (R : Party) → suc (toDo (R .left)) ≡ toDo (S .party p .left) → suc (sum (λ q. toDo (change (S .party) p R q .left)) Q) ≡ sum (λ q. toDo (S .party q .left)) Q
+  lowered : (p : ℕ) (R : Party) → suc (toDo (R .left)) ≡ toDo (S .party p .left)
+      → suc (sum (λ q. toDo (change (S .party) p R q .left)) Q) ≡ sum (λ q. toDo (S .party q .left)) Q
   lowered p R e =
       sum-lower (λ q. toDo (S .party q .left)) (λ q. toDo (change (S .party) p R q .left)) p Q (within p (omega arith))
-      (ap (λ (P : Party). suc (toDo (P .left))) (change-same (S .party) p R) ∙ e) (λ q n. ap (λ (P : Party). toDo (P .left)) (change-other (S .party) p R q n))
+      (ap (λ (P : Party). suc (toDo (P .left))) (change-same (S .party) p R) ∙ e)
+      (λ q n. ap (λ (P : Party). toDo (P .left)) (change-other (S .party) p R q n))
 
   abbrev afterTurn : ℕ → Turn → System
   afterTurn p t = record { party = change (S .party) p (t .party); sent = sentAfter (t .shown) (S .sent); made = madeAfter (t .shown) (S .made) }
@@ -126,13 +132,15 @@ module _ (N : Narration) (Q : ℕ) (S : System) (going : Going N S) (flow : Flow
   abbrev afterDelivery : ℕ → Party → System
   afterDelivery p R = record { party = change (S .party) p R; sent = S .sent; made = S .made }
 
-  delivered-lowers : (p s : ℕ) {R : Party} → Delivered s (S .sent s) (S .party p) R → (afterDelivery p R ≡ S) ⊎ (suc (toDoAll Q (afterDelivery p R)) ≡ toDoAll Q S)
-  unfolding toDoAll toDo
+  delivered-lowers : (p s : ℕ) {R : Party} → Delivered s (S .sent s) (S .party p) R
+      → (afterDelivery p R ≡ S) ⊎ (suc (toDoAll Q (afterDelivery p R)) ≡ toDoAll Q S)
+  unfolding toDoAll toDo placeOf isEnd standingAt ifEnded pick
   delivered-lowers p s Delivered.dropped = inl (λ i. record { party = change-none (S .party) p i; sent = S .sent; made = S .made })
   delivered-lowers p s (Delivered.halted {f = f} {n = n} {es = es} {ts = ts} l e c) =
       let g = going .parties p in
-      let k : Safe N (meant N p) (Event.receives s f n ∷ es) (g .holding) (g .bound) = subst (λ fs. Safe N (meant N p) fs (g .holding) (g .bound)) l (g .safe) in
-      absurd (c (k .3 ∙ ap count (said-one N (k .1) (going .messages s ts e))))
+      let k : Safe N (meant N p) (Event.receives s f n ∷ es) (g .holding) (g .bound) =
+      subst (λ fs. Safe N (meant N p) fs (g .holding) (g .bound)) l (g .safe) in
+      absurd (c (k .3 ∙ ap count (narrated-one N (k .1) (going .messages s ts e))))
   delivered-lowers p s (Delivered.took l e) = inr (lowered p _ (sym (ap toDo l)))
 
   pub move-lowers : (m : Move) → Lowers N Q S m
@@ -142,7 +150,7 @@ module _ (N : Narration) (Q : ℕ) (S : System) (going : Going N S) (flow : Flow
 
   -- a move that gets something done changes something
   pub does-changes : {m : Move} {p : ℕ} → Does N S m p → move (receiverOf N) m S ≡ S → ⊥
-  does-changes {m} {p} d e = let z = sym (d .counted) ∙ ap (λ (T : System). T .party p .done) e in omega arith
+  does-changes {m} {p} d e = let z = sym (d .oneMore) ∙ ap (λ (T : System). T .party p .done) e in omega arith
 
   -- when nothing is left to do all are at END
   pub none-left : toDoAll Q S ≡ 0 → AllAtEnd Q S

@@ -12,16 +12,16 @@ use Rattle.book.specs.Layout.{parties}
 use Rattle.translation.specs.Receive.{Event}
 use Rattle.translation.specs.Narration.{Narration, narration, knownTo}
 use Rattle.translation.specs.Outcome.{outcome}
-use Rattle.agreement.specs.Machine.{System, Move, move, begin, Reach}
+use Rattle.translation.specs.Spelled.{spelled, Programs}
+use Rattle.translation.specs.Spelled.Laws.{accepted-programs}
+use Rattle.agreement.specs.Machine.{System, Move, move, begin, started, Reach}
 use Rattle.agreement.specs.Agree.{receiverOf, Does, CanMove}
 use Rattle.agreement.specs.Flow.Laws.{does-handed}
-use Rattle.agreement.specs.Start.{Played, Programs, reached-going, reached-flow, reached-agree}
-use Rattle.agreement.specs.Spelled.{spelled, started}
-use Rattle.agreement.specs.Spelled.Laws.{accepted-played, accepted-programs}
-use Rattle.agreement.specs.Finish.{toDo, toDoAll, Lowers, Run, AllAtEnd, Finishes, state, Fair, Ends}
+use Rattle.agreement.specs.Start.{PlayableAmong, reached-going, reached-flow, reached-agree, accepted-playable}
+use Rattle.agreement.specs.Finish.{toDo, toDoAll, Lowers, EachDoes, AllAtEnd, Finishes, state, Fair, Ends}
 use Rattle.agreement.specs.Finish.Counts.{sum-some, end-toDo, move-lowers, does-changes, none-left}
 
-module _ (N : Narration) (Q : ℕ) (programs : ℕ → List Event) (v : Played N Q) (w : Programs N Q programs) where
+module _ (N : Narration) (Q : ℕ) (programs : ℕ → List Event) (v : PlayableAmong N Q) (w : Programs N Q programs) where
   abbrev Reached : System → Type 0
   Reached S = Reach (receiverOf N) (begin (knownTo N) programs) S
 
@@ -45,8 +45,8 @@ module _ (N : Narration) (Q : ℕ) (programs : ℕ → List Event) (v : Played N
       go (a .who) (a .within) (a .can)
     where
       go : (p : ℕ) → p < Q → CanMove N S p → Doing S
-      go p l (CanMove.moved d) = record { who = p; by = Move.own p; does = d; live = Live.own l }
-      go p l (CanMove.handed s d) = record { who = p; by = Move.delivery s; does = d; live = Live.delivery (does-handed N S s p d .sent) }
+      go p l (CanMove.byOwn d) = record { who = p; by = Move.own p; does = d; live = Live.own l }
+      go p l (CanMove.byDelivery s d) = record { who = p; by = Move.delivery s; does = d; live = Live.delivery (does-handed N S s p d .sent) }
 
   lowers : {S : System} → Reached S → (m : Move) → Lowers N Q S m
   lowers {S} r = move-lowers N Q S (reached-going N Q programs v w r) (reached-flow N Q programs v w r)
@@ -59,7 +59,7 @@ module _ (N : Narration) (Q : ℕ) (programs : ℕ → List Event) (v : Played N
 
   -- ---- a run to the end
   run : (k : ℕ) {S : System} → Reached S → toDoAll Q S ≡ k → Finishes N Q S
-  run zero {S} r e = record { moves = []; last = S; run = Run.stop; many = sym e; ended = all-ended r e }
+  run zero {S} r e = record { moves = []; last = S; eachDoes = EachDoes.stop; many = sym e; ended = all-ended r e }
   run (suc k) {S} r e = go (lowers r (d .by)) (λ z. run k (Reach.after (d .by) r) z)
     where
       d : Doing S
@@ -73,7 +73,7 @@ module _ (N : Narration) (Q : ℕ) (programs : ℕ → List Event) (v : Played N
       go (inr z) again =
           let f = again (omega arith) in
           let n = f .many in
-          record { moves = d .by ∷ f .moves; last = f .last; run = Run.more (d .who) (d .does) (f .run); many = omega arith; ended = f .ended }
+          record { moves = d .by ∷ f .moves; last = f .last; eachDoes = EachDoes.more (d .who) (d .does) (f .eachDoes); many = omega arith; ended = f .ended }
 
   -- ---- a fair run
   module _ (ms : ℕ → Move) (S : System) (fair : Fair N Q ms S) (r : Reached S) where
@@ -114,7 +114,9 @@ module _ (N : Narration) (Q : ℕ) (programs : ℕ → List Event) (v : Played N
         c = comes n (d .live)
 
         last : stateAt (c .0) ≡ stateAt n → Lowers N Q (stateAt (c .0)) (ms (c .0)) → Lower n
-        last e (inl z) = absurd (changes (reached n) d (subst (λ m. move (receiverOf N) m (stateAt n) ≡ stateAt n) (c .2) (subst (λ S. move (receiverOf N) (ms (c .0)) S ≡ S) e z)))
+        last e (inl z) =
+            absurd (changes (reached n) d (subst (λ m. move (receiverOf N) m (stateAt n) ≡ stateAt n) (c .2)
+            (subst (λ S. move (receiverOf N) (ms (c .0)) S ≡ S) e z)))
         last e (inr z) = (suc (c .0), unfold state in (let y = ap (toDoAll Q) e in omega arith))
 
         go : Lower n ⊎ (stateAt (n + (c .0 - n)) ≡ stateAt n) → Lower n
@@ -130,20 +132,24 @@ module _ (N : Narration) (Q : ℕ) (programs : ℕ → List Event) (v : Played N
         go (no l) again = record { time = n; ended = all-ended (reached n) (omega arith) }
 
 -- ---- every run of an accepted book's programs
-module _ (b out : List ℕ) (accepted : outcome b out .says .number ≡ 0) {S : System} (r : Reach (receiverOf (narration b)) (started b (outcome b out .lent)) S) where
-  again : Reached (narration b) (parties b) (spelled b (outcome b out .lent)) (accepted-played b out accepted) (accepted-programs b out accepted) S
+module _ (b out : List ℕ) (accepted : outcome b out .says .number ≡ 0) {S : System}
+    (r : Reach (receiverOf (narration b)) (started b (outcome b out .lent)) S) where
+  again : Reached (narration b) (parties b) (spelled b (outcome b out .lent)) (accepted-playable b out accepted) (accepted-programs b out accepted) S
   unfolding started
   again = r
 
   -- each move changes nothing, or lowers the number of events left to do by one
   pub each-move : (m : Move) → Lowers (narration b) (parties b) S m
-  each-move = lowers (narration b) (parties b) (spelled b (outcome b out .lent)) (accepted-played b out accepted) (accepted-programs b out accepted) again
+  each-move = lowers (narration b) (parties b) (spelled b (outcome b out .lent)) (accepted-playable b out accepted) (accepted-programs b out accepted) again
 
   -- moves that get something done, as many as that number, bring all parties to END
   pub finishes : Finishes (narration b) (parties b) S
-  finishes = run (narration b) (parties b) (spelled b (outcome b out .lent)) (accepted-played b out accepted) (accepted-programs b out accepted) (toDoAll (parties b) S) again refl
+  finishes =
+      run (narration b) (parties b) (spelled b (outcome b out .lent)) (accepted-playable b out accepted) (accepted-programs b out accepted)
+      (toDoAll (parties b) S) again refl
 
   -- "if everything sent is handed over and every party keeps moving, all reach END"
   pub fair-ends : (ms : ℕ → Move) → Fair (narration b) (parties b) ms S → Ends (narration b) (parties b) ms S
   fair-ends ms f =
-      ends (narration b) (parties b) (spelled b (outcome b out .lent)) (accepted-played b out accepted) (accepted-programs b out accepted) ms S f again (suc (toDoAll (parties b) S)) 0 (unfold state in omega arith)
+      ends (narration b) (parties b) (spelled b (outcome b out .lent)) (accepted-playable b out accepted) (accepted-programs b out accepted) ms S f again
+      (suc (toDoAll (parties b) S)) 0 (unfold state in omega arith)

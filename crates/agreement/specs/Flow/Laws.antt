@@ -9,12 +9,13 @@ use Rattle.terms.specs.Term.{Terms}
 use Rattle.translation.specs.Receive.{Event}
 use Rattle.translation.specs.Narration.{Narration}
 use Rattle.translation.specs.Taken.{stepOf}
-use Rattle.agreement.specs.View.{change}
+use Rattle.agreement.specs.Change.{change}
+use Rattle.agreement.specs.Change.Laws.{change-ind}
 use Rattle.agreement.specs.Machine.{Shown, Party, Turn, turn, delivered, System, sentAfter, Move, move, Reach}
-use Rattle.agreement.specs.Machine.Laws.{change-ind, Showing, Turned, turn-cases, Delivered, delivered-cases}
+use Rattle.agreement.specs.Machine.Laws.{Showing, Turned, turn-cases, Delivered, delivered-cases}
 use Rattle.agreement.specs.Agree.{receiverOf, AtEnd, Does}
-use Rattle.agreement.specs.Order.{Rising, Sends}
-use Rattle.agreement.specs.Order.Laws.{rising-did, rising-took, sends-did, sends-took}
+use Rattle.agreement.specs.Order.{Rising, ToSend}
+use Rattle.agreement.specs.Order.Laws.{rising-did, rising-took, toSend-did, toSend-took}
 use Rattle.agreement.specs.Flow.{Posted, Flow}
 
 -- ---- a party at END does nothing and takes nothing
@@ -47,15 +48,16 @@ module _ (N : Narration) (p : ℕ) where
   delivered-rising (Delivered.took l e) h = rising-took N p (subst (Rising N p 0) l h)
 
 -- ---- what was to be sent is sent or still to be sent
-turned-sends : {s : ℕ} {P : Party} {t : Turn} → Turned P t → Sends s (P .left) → Sends s (t .party .left) ⊎ ((ts : Terms) × (t .shown ≡ Shown.sent s ts))
-turned-sends Turned.stayed h = inl h
-turned-sends (Turned.halted l c) h = inl h
-turned-sends {s} (Turned.did l w) h = sends-did (subst (Sends s) l h) w
+turned-toSend : {s : ℕ} {P : Party} {t : Turn} → Turned P t → ToSend s (P .left)
+    → ToSend s (t .party .left) ⊎ ((ts : Terms) × (t .shown ≡ Shown.sent s ts))
+turned-toSend Turned.stayed h = inl h
+turned-toSend (Turned.halted l c) h = inl h
+turned-toSend {s} (Turned.did l w) h = toSend-did (subst (ToSend s) l h) w
 
-delivered-sends : {a s : ℕ} {o : Option Terms} {P R : Party} → Delivered s o P R → Sends a (P .left) → Sends a (R .left)
-delivered-sends Delivered.dropped h = h
-delivered-sends (Delivered.halted l e c) h = h
-delivered-sends {a} (Delivered.took l e) h = sends-took (subst (Sends a) l h)
+delivered-toSend : {a s : ℕ} {o : Option Terms} {P R : Party} → Delivered s o P R → ToSend a (P .left) → ToSend a (R .left)
+delivered-toSend Delivered.dropped h = h
+delivered-toSend (Delivered.halted l e c) h = h
+delivered-toSend {a} (Delivered.took l e) h = toSend-took (subst (ToSend a) l h)
 
 posted-still : (o : Shown) (f : ℕ → Option Terms) (s : ℕ) → Posted (f s) → Posted (sentAfter o f s)
 unfolding sentAfter
@@ -81,8 +83,9 @@ unfolding move
 does-handed N S s p d =
     let q = receiverOf N s in
     change-ind (S .party) q (delivered s (S .sent s) (S .party q)) (λ R. R .done ≡ suc (S .party p .done) → Taking S s p) p
-    (λ e. subst (λ r. delivered s (S .sent s) (S .party q) .done ≡ suc (S .party r .done) → Taking S s r) e (taken q (delivered-cases s (S .sent s) (S .party q))))
-    (λ n c. absurd (omega arith)) (d .counted)
+    (λ e. subst (λ r. delivered s (S .sent s) (S .party q) .done ≡ suc (S .party r .done) → Taking S s r) e
+    (taken q (delivered-cases s (S .sent s) (S .party q))))
+    (λ n c. absurd (omega arith)) (d .oneMore)
   where
     taken : (r : ℕ) {R : Party} → Delivered s (S .sent s) (S .party r) R → R .done ≡ suc (S .party r .done) → Taking S s r
     taken r Delivered.dropped c = absurd (omega arith)
@@ -103,8 +106,8 @@ module _ (N : Narration) (Q : ℕ) where
       record {
         rising = λ q. kept-at (λ P. Rising N q 0 (P .left)) (S .party) p _ q (turned-rising N q c) (g .rising q);
         sends = λ s l. ⊎-elim
-            (λ h. kept-at (λ P. Sends s (P .left) ⊎ Posted (sentAfter o (S .sent) s)) (S .party) p _ (stepOf N s .sender)
-            (⊎-elim (λ k. ⊎-elim (λ x. inl x) (λ x. inr (posted-now o (S .sent) s (x .0) (x .1))) (turned-sends c k)) (λ k. inr k)) (inl h))
+            (λ h. kept-at (λ P. ToSend s (P .left) ⊎ Posted (sentAfter o (S .sent) s)) (S .party) p _ (stepOf N s .sender)
+            (⊎-elim (λ k. ⊎-elim (λ x. inl x) (λ x. inr (posted-now o (S .sent) s (x .0) (x .1))) (turned-toSend c k)) (λ k. inr k)) (inl h))
             (λ h. inr (posted-still o (S .sent) s h)) (g .sends s l);
         nobody = λ q l. kept-at (λ P. AtEnd (P .left)) (S .party) p _ q (turned-end c) (g .nobody q l);
       }
@@ -113,7 +116,9 @@ module _ (N : Narration) (Q : ℕ) where
       let c = delivered-cases a (S .sent a) (S .party r) in
       record {
         rising = λ q. kept-at (λ P. Rising N q 0 (P .left)) (S .party) r _ q (delivered-rising N q c) (g .rising q);
-        sends = λ s l. ⊎-elim (λ h. inl (kept-at (λ P. Sends s (P .left)) (S .party) r _ (stepOf N s .sender) (delivered-sends c) h)) (λ h. inr h) (g .sends s l);
+        sends =
+            λ s l. ⊎-elim (λ h. inl (kept-at (λ P. ToSend s (P .left)) (S .party) r _ (stepOf N s .sender) (delivered-toSend c) h)) (λ h. inr h)
+            (g .sends s l);
         nobody = λ q l. kept-at (λ P. AtEnd (P .left)) (S .party) r _ q (delivered-end c) (g .nobody q l);
       }
 

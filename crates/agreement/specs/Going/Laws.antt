@@ -7,17 +7,19 @@ use native.Mathlib.Omega.{arith}
 use lib.ListN.{length, getElem?, length-append}
 use lib.Dec.{eqb}
 use borrow.Author.Tests.{eqb-true, eqb-false, eq-eqb}
+use Rattle.words.specs.Choice.{then}
 use Rattle.words.specs.Choice.Laws.{pick-ind, pick-true, choose-yes}
 use Rattle.terms.specs.Term.{Term, Terms, same, count, listed, partner}
 use Rattle.terms.specs.Term.Laws.{partner-partner}
 use Rattle.translation.specs.Receive.{Event}
-use Rattle.translation.specs.Spelling.{then}
+use Rattle.translation.specs.Standing.Laws.{waits-ind}
 use Rattle.translation.specs.Narration.{Narration}
-use Rattle.agreement.specs.View.{View, change, bind, binds}
-use Rattle.agreement.specs.Machine.{Shown, Effect, sending, comparing, contents, opening, effect, Party, Turn, stays, takes, next, turn, handed, delivered, System, sentAfter, Move, move, Reach}
-use Rattle.agreement.specs.Machine.Laws.{change-ind}
-use Rattle.agreement.specs.Agree.{meant, Said, Bound, Faithful}
-use Rattle.agreement.specs.Sound.{seen}
+use Rattle.agreement.specs.Change.{change}
+use Rattle.agreement.specs.Change.Laws.{change-ind}
+use Rattle.agreement.specs.Sight.{Sight, bind, binds}
+use Rattle.agreement.specs.Machine.{Shown, Effect, sendEffect, checkEffect, opensTo, openEffect, effect, Party, Turn, stays, takes, next, turn, handed, delivered, System, sentAfter, Move, move, Reach}
+use Rattle.agreement.specs.Agree.{meant, Narrated, Bound, Faithful}
+use Rattle.agreement.specs.Sound.{sightOf}
 use Rattle.agreement.specs.Sound.Laws.{at-append, at-seam}
 use Rattle.agreement.specs.Safe.{Safe}
 use Rattle.agreement.specs.Safe.Laws.{safe-begins}
@@ -41,46 +43,50 @@ bind-next Terms.nil ns = ap getElem? (sym (append-nil ns))
 bind-next (Terms.cons t ts) ns =
     let n = length-append ns (t ∷ []) in
     let y : suc (length ns) ≡ length (ns ++ t ∷ []) = omega arith in
-    ap₂ (λ x (f : ℕ → Option Term). bind x ts f) y (fun-ext (bind-one ns t)) ∙ bind-next ts (ns ++ t ∷ []) ∙ ap getElem? (append-assoc ns (t ∷ []) (listed ts))
+    ap₂ (λ x (f : ℕ → Option Term). bind x ts f) y (fun-ext (bind-one ns t)) ∙ bind-next ts (ns ++ t ∷ [])
+    ∙ ap getElem? (append-assoc ns (t ∷ []) (listed ts))
 
-binds-seen : (ts : Terms) (hs ns : List Term) → binds (length ns) ts (seen hs ns) ≡ seen hs (ns ++ listed ts)
-unfolding seen
-binds-seen ts hs ns = λ i. record { itself = hs; placeholders = bind-next ts ns i }
+binds-sightOf : (ts : Terms) (hs ns : List Term) → binds (length ns) ts (sightOf hs ns) ≡ sightOf hs (ns ++ listed ts)
+unfolding sightOf
+binds-sightOf ts hs ns = λ i. record { itself = hs; placeholders = bind-next ts ns i }
 
 -- ---- opening with the partner's term
-contents-partner : (k : Term) (ts : Terms) (n : ℕ) → n ≡ count ts → contents (Term.cipher k ts) n (partner k) ≡ some ts
-unfolding contents
-contents-partner k ts n e = pick-true (eqb n (count ts)) _ _ (eq-eqb n (count ts) e) ∙ choose-yes (same k (partner (partner k))) _ _ (sym (partner-partner k))
+opensTo-partner : (k : Term) (ts : Terms) (n : ℕ) → n ≡ count ts → opensTo (Term.cipher k ts) n (partner k) ≡ some ts
+unfolding opensTo
+opensTo-partner k ts n e = pick-true (eqb n (count ts)) _ _ (eq-eqb n (count ts) e) ∙ choose-yes (same k (partner (partner k))) _ _ (sym (partner-partner k))
 
 module _ (N : Narration) where
-  pub said-one : {s : ℕ} {ts us : Terms} → Said N s ts → Said N s us → ts ≡ us
-  said-one a b = sym (a .messages) ∙ b .messages
+  pub narrated-one : {s : ℕ} {ts us : Terms} → Narrated N s ts → Narrated N s us → ts ≡ us
+  narrated-one a b = sym (a .messages) ∙ b .messages
 
   -- ---- a party's own move
   abbrev ShownWell : Shown → Type 0
   ShownWell Shown.nothing = Unit {0}
-  ShownWell (Shown.sent s ts) = Said N s ts
+  ShownWell (Shown.sent s ts) = Narrated N s ts
   ShownWell (Shown.made r) = Unit {0}
 
   -- the effect of a safe event is never a failure
   abbrev pub EffectWell : ℕ → List Event → Effect → Type 0
   EffectWell p es Effect.fails = ⊥
   EffectWell p es Effect.idles = Unit {0}
-  EffectWell p es (Effect.does o v) = ShownWell o × ((hs : List Term) × (ns : List Term) × (v ≡ seen hs ns) × Safe N (meant N p) es hs ns)
+  EffectWell p es (Effect.does o v) = ShownWell o × ((hs : List Term) × (ns : List Term) × (v ≡ sightOf hs ns) × Safe N (meant N p) es hs ns)
 
-  effect-well : (p : ℕ) (e : Event) (es : List Event) (hs ns : List Term) → Safe N (meant N p) (e ∷ es) hs ns → EffectWell p es (effect e (seen hs ns))
-  unfolding effect sending comparing opening then seen
+  effect-well : (p : ℕ) (e : Event) (es : List Event) (hs ns : List Term) → Safe N (meant N p) (e ∷ es) hs ns
+      → EffectWell p es (effect e (sightOf hs ns))
+  unfolding effect sendEffect checkEffect openEffect then sightOf
   effect-well p (Event.new r) es hs ns k = (tt, (Term.atom r ∷ hs, ns, refl, k))
   effect-well p (Event.sends s is) es hs ns k = rw (k .2) (k .1, (hs, ns, refl, k .3))
   effect-well p (Event.receives s f n) es hs ns k = tt
-  effect-well p (Event.checks x i) es hs ns k = rw (k .1, k .2, choose-yes (same (k .0) (k .0)) (Effect.does Shown.nothing (seen hs ns)) Effect.fails refl) (tt, (hs, ns, refl, k .3))
+  effect-well p (Event.checks x i) es hs ns k =
+      rw (k .1, k .2, choose-yes (same (k .0) (k .0)) (Effect.does Shown.nothing (sightOf hs ns)) Effect.fails refl) (tt, (hs, ns, refl, k .3))
   effect-well p (Event.opens x f n i) es hs ns k =
-      rw (k .2, k .5, contents-partner (k .0) (k .1) n (k .4), k .3) (tt, (hs, ns ++ listed (k .1), binds-seen (k .1) hs ns, k .6))
+      rw (k .2, k .5, opensTo-partner (k .0) (k .1) n (k .4), k .3) (tt, (hs, ns ++ listed (k .1), binds-sightOf (k .1) hs ns, k .6))
   effect-well p (Event.ends ps) es hs ns k = tt
 
-  pub goes-effect : (p : ℕ) (P : Party) (e : Event) (es : List Event) → Goes N p P → P .left ≡ e ∷ es → EffectWell p es (effect e (P .view))
+  pub goes-effect : (p : ℕ) (P : Party) (e : Event) (es : List Event) → Goes N p P → P .left ≡ e ∷ es → EffectWell p es (effect e (P .sight))
   goes-effect p P e es g l =
-      subst (λ v. EffectWell p es (effect e v)) (sym (g .sees)) (effect-well p e es (g .holding) (g .bound) (subst (λ fs. Safe N (meant N p) fs (g .holding) (g .bound)) l (g .safe)))
+      subst (λ v. EffectWell p es (effect e v)) (sym (g .sees))
+      (effect-well p e es (g .holding) (g .bound) (subst (λ fs. Safe N (meant N p) fs (g .holding) (g .bound)) l (g .safe)))
 
   abbrev TurnWell : ℕ → Turn → Type 0
   TurnWell p t = Goes N p (t .party) × ShownWell (t .shown)
@@ -89,57 +95,60 @@ module _ (N : Narration) where
   unfolding takes
   takes-well p Effect.fails P es g k = absurd k
   takes-well p Effect.idles P es g k = (g, tt)
-  takes-well p (Effect.does o v) P es g k = (record { standing = g .standing; holding = k .1 .0; bound = k .1 .1; sees = k .1 .2; safe = k .1 .3 }, k .0)
+  takes-well p (Effect.does o v) P es g k = (record { unhalted = g .unhalted; holding = k .1 .0; bound = k .1 .1; sees = k .1 .2; safe = k .1 .3 }, k .0)
 
   next-well : (p : ℕ) (es : List Event) (P : Party) → Goes N p P → P .left ≡ es → TurnWell p (next es P)
   unfolding next
   next-well p [] P g l = (g, tt)
-  next-well p (e ∷ es) P g l = takes-well p (effect e (P .view)) P es g (goes-effect p P e es g l)
+  next-well p (e ∷ es) P g l = takes-well p (effect e (P .sight)) P es g (goes-effect p P e es g l)
 
   turn-well : (p : ℕ) (P : Party) → Goes N p P → TurnWell p (turn P)
   unfolding turn
   turn-well p P g = pick-ind (TurnWell p) (P .halted) (stays P) (next (P .left) P) (λ e. (g, tt)) (λ e. next-well p (P .left) P g refl)
 
   -- ---- a handing over
-  handed-well : (p : ℕ) (es : List Event) (s : ℕ) (ts : Terms) (P : Party) → Goes N p P → P .left ≡ es → Said N s ts → Goes N p (handed es s ts P)
+  handed-well : (p : ℕ) (es : List Event) (s : ℕ) (ts : Terms) (P : Party) → Goes N p P → P .left ≡ es → Narrated N s ts
+      → Goes N p (handed es s ts P)
   unfolding handed
   handed-well p [] s ts P g l w = g
-  handed-well p (Event.new r ∷ es) s ts P g l w = g
-  handed-well p (Event.sends a is ∷ es) s ts P g l w = g
-  handed-well p (Event.receives a f n ∷ es) s ts P g l w =
-      let k : Safe N (meant N p) (Event.receives a f n ∷ es) (g .holding) (g .bound) = subst (λ fs. Safe N (meant N p) fs (g .holding) (g .bound)) l (g .safe) in
+  handed-well p (e ∷ es) s ts P g l w =
+      waits-ind (Goes N p) e _ _
+      (λ a f n q.
+      let k : Safe N (meant N p) (Event.receives a f n ∷ es) (g .holding) (g .bound) =
+      subst (λ fs. Safe N (meant N p) fs (g .holding) (g .bound)) (l ∙ ap (λ d. d ∷ es) q) (g .safe) in
       pick-ind (Goes N p) (eqb a s) _ _
-      (λ e.
-      let z : k .0 ≡ ts = said-one (subst (λ b. Said N b (k .0)) (eqb-true a s e) (k .1)) w in
+      (λ c.
+      let z : k .0 ≡ ts = narrated-one (subst (λ b. Narrated N b (k .0)) (eqb-true a s c) (k .1)) w in
       pick-ind (Goes N p) (eqb n (count ts)) _ _
-      (λ c. record {
-        standing = g .standing;
+      (λ d. record {
+        unhalted = g .unhalted;
         holding = g .holding;
         bound = g .bound ++ listed ts;
-        sees = ap₂ (λ x (v : View). binds x ts v) (k .2) (g .sees) ∙ binds-seen ts (g .holding) (g .bound);
+        sees = ap₂ (λ x (v : Sight). binds x ts v) (k .2) (g .sees) ∙ binds-sightOf ts (g .holding) (g .bound);
         safe = subst (λ us. Safe N (meant N p) es (g .holding) (g .bound ++ listed us)) z (k .4);
       })
-      (λ c. absurd (eqb-false n (count ts) c (k .3 ∙ ap count z))))
-      (λ e. g)
-  handed-well p (Event.checks x i ∷ es) s ts P g l w = g
-  handed-well p (Event.opens x f n i ∷ es) s ts P g l w = g
-  handed-well p (Event.ends ps ∷ es) s ts P g l w = g
+      (λ d. absurd (eqb-false n (count ts) d (k .3 ∙ ap count z))))
+      (λ c. g))
+      g
 
-  delivered-well : (p s : ℕ) (o : Option Terms) (P : Party) → Goes N p P → ((ts : Terms) → o ≡ some ts → Said N s ts) → Goes N p (delivered s o P)
+  delivered-well : (p s : ℕ) (o : Option Terms) (P : Party) → Goes N p P → ((ts : Terms) → o ≡ some ts → Narrated N s ts)
+      → Goes N p (delivered s o P)
   unfolding delivered
   delivered-well p s none P g w = g
-  delivered-well p s (some ts) P g w = pick-ind (Goes N p) (P .halted) P (handed (P .left) s ts P) (λ e. g) (λ e. handed-well p (P .left) s ts P g refl (w ts refl))
+  delivered-well p s (some ts) P g w =
+      pick-ind (Goes N p) (P .halted) P (handed (P .left) s ts P) (λ e. g) (λ e. handed-well p (P .left) s ts P g refl (w ts refl))
 
   -- ---- every move
   changed-well : (f : ℕ → Party) (p : ℕ) (P : Party) → Goes N p P → ((q : ℕ) → Goes N q (f q)) → (q : ℕ) → Goes N q (change f p P q)
   changed-well f p P g h q = change-ind f p P (Goes N q) q (λ e. subst (λ r. Goes N r P) e g) (λ n. h q)
 
-  sent-well : (o : Shown) (f : ℕ → Option Terms) → ShownWell o → ((s : ℕ) (ts : Terms) → f s ≡ some ts → Said N s ts) → (s : ℕ) (ts : Terms) → sentAfter o f s ≡ some ts → Said N s ts
+  sent-well : (o : Shown) (f : ℕ → Option Terms) → ShownWell o → ((s : ℕ) (ts : Terms) → f s ≡ some ts → Narrated N s ts)
+      → (s : ℕ) (ts : Terms) → sentAfter o f s ≡ some ts → Narrated N s ts
   unfolding sentAfter
   sent-well Shown.nothing f w h s ts = h s ts
   sent-well (Shown.sent a us) f w h s ts =
-      change-ind f a (some us) (λ x. x ≡ some ts → Said N s ts) s
-      (λ e d. subst (λ r. Said N r ts) e (subst (Said N a) (Option·some-injective us ts d) w)) (λ n. h s ts)
+      change-ind f a (some us) (λ x. x ≡ some ts → Narrated N s ts) s
+      (λ e d. subst (λ r. Narrated N r ts) e (subst (Narrated N a) (Option·some-injective us ts d) w)) (λ n. h s ts)
   sent-well (Shown.made r) f w h s ts = h s ts
 
   move-well : (receiver : ℕ → ℕ) (m : Move) (S : System) → Going N S → Going N (move receiver m S)
@@ -149,7 +158,11 @@ module _ (N : Narration) where
       record { parties = changed-well (S .party) p _ (t .0) (g .parties); messages = sent-well _ (S .sent) (t .1) (g .messages) }
   move-well receiver (Move.delivery s) S g =
       let r = receiver s in
-      record { parties = changed-well (S .party) r _ (delivered-well r s (S .sent s) (S .party r) (g .parties r) (g .messages s)) (g .parties); messages = g .messages }
+      record {
+        parties = changed-well (S .party) r _ (delivered-well r s (S .sent s) (S .party r) (g .parties r) (g .messages s))
+            (g .parties);
+        messages = g .messages;
+      }
 
   pub reach-going : {receiver : ℕ → ℕ} {B S : System} → Reach receiver B S → Going N B → Going N S
   reach-going Reach.start g = g
@@ -157,16 +170,16 @@ module _ (N : Narration) where
 
   -- ---- clauses (a) and (b)
   pub going-bound : (S : System) → Going N S → Bound N S
-  unfolding seen
+  unfolding sightOf
   going-bound S g p x t e =
       let h = g .parties p in
       let z = safe-begins N (meant N p) (S .party p .left) (h .holding) (h .bound) (h .safe) in
-      subst (λ l. getElem? l x ≡ some t) (z .1) (at-append (z .0) (h .bound) x (sym (ap (λ (v : View). v .placeholders x) (h .sees)) ∙ e))
+      subst (λ l. getElem? l x ≡ some t) (z .1) (at-append (z .0) (h .bound) x (sym (ap (λ (v : Sight). v .placeholders x) (h .sees)) ∙ e))
 
   pub going-faithful : (S : System) → Going N S → Faithful N S
   going-faithful S g =
       record {
         succeeds = λ p e es l f. subst (EffectWell p es) f (goes-effect p (S .party p) e es (g .parties p) l);
-        going = λ p. g .parties p .standing;
+        unhalted = λ p. g .parties p .unhalted;
         messages = g .messages;
       }

@@ -5,12 +5,13 @@ use mathlib.Core.Logic.{⊎-elim}
 use mathlib.Core.Option.{Option}
 use mathlib.Core.Path.{_≡_, refl, sym, ap, _∙_, subst, fun-ext}
 use Rattle.terms.specs.Term.{Terms}
-use Rattle.translation.specs.Build.Laws.{NoRepeat}
+use Rattle.words.specs.Run.{NoRepeat}
 use Rattle.translation.specs.Receive.{Event}
-use Rattle.agreement.specs.View.{change}
+use Rattle.agreement.specs.Change.{change}
+use Rattle.agreement.specs.Change.Laws.{change-ind, change-ap, change-none}
 use Rattle.agreement.specs.Machine.{Shown, Party, Turn, turn, delivered, System, madeAfter, Move, move, Reach}
-use Rattle.agreement.specs.Machine.Laws.{change-ind, change-ap, change-none, Showing, Turned, turn-cases, Delivered, delivered-cases}
-use Rattle.agreement.specs.Making.{news}
+use Rattle.agreement.specs.Machine.Laws.{Showing, Turned, turn-cases, Delivered, delivered-cases}
+use Rattle.agreement.specs.News.{news}
 use Rattle.agreement.specs.Log.{Log, Logged}
 
 -- ---- what a move takes off the atoms to be made
@@ -38,15 +39,19 @@ change-news = change-ap (λ (P : Party). news (P .left))
 
 -- ---- the log goes on
 module _ (Fresh : ℕ → Type 0) where
-  log-same : (made : List ℕ) (later : ℕ → List ℕ) (p : ℕ) (l : List ℕ) → later p ≡ l → Log Fresh made later → Log Fresh made (change later p l)
+  log-same : (made : List ℕ) (later : ℕ → List ℕ) (p : ℕ) (l : List ℕ) → later p ≡ l → Log Fresh made later
+      → Log Fresh made (change later p l)
   log-same made later p l e h = subst (Log Fresh made) (sym (subst (λ k. change later p k ≡ later) e (change-none later p))) h
 
-  log-make : (made : List ℕ) (later : ℕ → List ℕ) (p r : ℕ) (l : List ℕ) → later p ≡ r ∷ l → Log Fresh made later → Log Fresh (r ∷ made) (change later p l)
+  log-make : (made : List ℕ) (later : ℕ → List ℕ) (p r : ℕ) (l : List ℕ) → later p ≡ r ∷ l → Log Fresh made later
+      → Log Fresh (r ∷ made) (change later p l)
   log-make made later p r l e h =
       record {
         once = (h .notYet p r mine, h .once);
         fresh = λ x m. ⊎-elim (λ z. subst Fresh (sym z) (h .freshLater p r mine)) (λ z. h .fresh x z) (List·Memᴰ·cases-cons m);
-        notYet = λ q x m n. ⊎-elim (λ z. gone q (subst (λ y. List·Memᴰ y (change later p l q)) z m)) (λ z. h .notYet q x (was q x m) z) (List·Memᴰ·cases-cons n);
+        notYet =
+            λ q x m n. ⊎-elim (λ z. gone q (subst (λ y. List·Memᴰ y (change later p l q)) z m)) (λ z. h .notYet q x (was q x m) z)
+            (List·Memᴰ·cases-cons n);
         freshLater = λ q x m. h .freshLater q x (was q x m);
         onceLater = λ q. change-ind later p l NoRepeat q (λ z. rest .1) (λ n. h .onceLater q);
         apart = λ q s x m n. h .apart q s x (was q x m) (was s x n);
@@ -59,12 +64,15 @@ module _ (Fresh : ℕ → Type 0) where
       rest = subst NoRepeat e (h .onceLater p)
 
       was : (q x : ℕ) → List·Memᴰ x (change later p l q) → List·Memᴰ x (later q)
-      was q x = change-ind later p l (λ k. List·Memᴰ x k → List·Memᴰ x (later q)) q (λ z m. subst (List·Memᴰ x) (sym e ∙ ap later z) (List·Memᴰ·tail m)) (λ n m. m)
+      was q x =
+          change-ind later p l (λ k. List·Memᴰ x k → List·Memᴰ x (later q)) q
+          (λ z m. subst (List·Memᴰ x) (sym e ∙ ap later z) (List·Memᴰ·tail m)) (λ n m. m)
 
       gone : (q : ℕ) → List·Memᴰ r (change later p l q) → ⊥
       gone q = change-ind later p l (λ k. List·Memᴰ r k → ⊥) q (λ z m. rest .0 m) (λ n m. n (h .apart p q r mine m))
 
-  log-turn : (made : List ℕ) (later : ℕ → List ℕ) (p : ℕ) (o : Shown) (l : List ℕ) → later p ≡ madeAfter o l → Log Fresh made later → Log Fresh (madeAfter o made) (change later p l)
+  log-turn : (made : List ℕ) (later : ℕ → List ℕ) (p : ℕ) (o : Shown) (l : List ℕ) → later p ≡ madeAfter o l → Log Fresh made later
+      → Log Fresh (madeAfter o made) (change later p l)
   unfolding madeAfter
   log-turn made later p Shown.nothing l e h = log-same made later p l e h
   log-turn made later p (Shown.sent s ts) l e h = log-same made later p l e h

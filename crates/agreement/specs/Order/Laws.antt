@@ -18,9 +18,9 @@ use Rattle.translation.specs.Taken.{stepOf}
 use Rattle.agreement.specs.Machine.{Shown}
 use Rattle.agreement.specs.Machine.Laws.{Showing}
 use Rattle.agreement.specs.Agree.{receiverOf}
-use Rattle.agreement.specs.Parts.{Parts}
-use Rattle.agreement.specs.Parts.Laws.{own-parts, own-sends-in}
-use Rattle.agreement.specs.Order.{Rising, Sends, Of, Holds}
+use Rattle.agreement.specs.Acts.{ActsFrom}
+use Rattle.agreement.specs.Acts.Laws.{own-acts, own-sends-in}
+use Rattle.agreement.specs.Order.{Rising, ToSend, Of, Among}
 
 module _ (N : Narration) (p : ℕ) where
   -- ---- Rising
@@ -42,20 +42,23 @@ module _ (N : Narration) (p : ℕ) where
   news-rising (r ∷ rs) es fs h = Rising.new (news-rising rs es fs h)
 
   -- what follows a party's part rises from any step on
-  walk-rising : {low : ℕ} {acts : List Act} (fs : List Event) → ((high : ℕ) → Rising N p high fs) → Parts N p low acts → (δ : Dictionary) (n : ℕ) → Rising N p low (walk acts δ n .events ++ fs)
+  walk-rising : {low : ℕ} {acts : List Act} (fs : List Event) → ((high : ℕ) → Rising N p high fs) → ActsFrom N p low acts
+      → (δ : Dictionary) (n : ℕ) → Rising N p low (walk acts δ n .events ++ fs)
   unfolding walk act receiverOf
-  walk-rising fs h Parts.nil δ n = h _
-  walk-rising {low} fs h (Parts.sends {s = s} {ts = ts} l w e r) δ n =
+  walk-rising fs h ActsFrom.nil δ n = h _
+  walk-rising {low} fs h (ActsFrom.sends {s = s} {ts = ts} l w e r) δ n =
       let d = act (Act.sends s ts) δ n in
       let b = buildAll ts δ in
-      subst (Rising N p low) (sym (append-assoc (d .events) _ fs)) (news-rising (b .made) (Event.sends s (b .images) ∷ []) _ (Rising.sends l e (walk-rising fs h r (d .dictionary) (n + length (d .given)))))
-  walk-rising {low} fs h (Parts.receives {s = s} {ts = ts} l w e r) δ n =
+      subst (Rising N p low) (sym (append-assoc (d .events) _ fs))
+      (news-rising (b .made) (Event.sends s (b .images) ∷ []) _ (Rising.sends l e (walk-rising fs h r (d .dictionary) (n + length (d .given)))))
+  walk-rising {low} fs h (ActsFrom.receives {s = s} {ts = ts} l w e r) δ n =
       let d = act (Act.receives s ts) δ n in
-      subst (Rising N p low) (sym (append-assoc (d .events) _ fs)) (Rising.receives l (w .within) e (quiet-rising (receiveAll-quiet ts n δ _) (walk-rising fs h r (d .dictionary) (n + length (d .given)))))
+      subst (Rising N p low) (sym (append-assoc (d .events) _ fs))
+      (Rising.receives l (w .within) e (quiet-rising (receiveAll-quiet ts n δ _) (walk-rising fs h r (d .dictionary) (n + length (d .given)))))
 
   pub program-rising : Rising N p 0 (programOf N p)
   unfolding programOf program walked
-  program-rising = walk-rising _ (λ high. Rising.end) (own-parts N p) (start (knownTo N p)) 0
+  program-rising = walk-rising _ (λ high. Rising.end) (own-acts N p) (start (knownTo N p)) 0
 
   -- what is left when an event was done
   pub rising-did : {low : ℕ} {e : Event} {es : List Event} {o : Shown} → Rising N p low (e ∷ es) → Showing e o → Rising N p 0 es
@@ -68,27 +71,27 @@ module _ (N : Narration) (p : ℕ) where
   rising-took (Rising.receives l w e h) = rising-low zero-le h
 
 -- ---- Holds
-holds-none : {s : ℕ} → Holds s [] → ⊥
-holds-none h = elim h [ ]
+among-none : {s : ℕ} → Among s [] → ⊥
+among-none h = elim h [ ]
 
-pub rising-holds : {N : Narration} {p low s : ℕ} {es : List Event} → Rising N p low es → Holds s es → low ≤ s
-rising-holds Rising.end (Holds.later k) = absurd (holds-none k)
-rising-holds (Rising.new h) (Holds.later k) = rising-holds h k
-rising-holds (Rising.sends l e h) (Holds.here Of.sends) = l
-rising-holds (Rising.sends l e h) (Holds.later k) = le-trans l (le-trans (le-suc _) (rising-holds h k))
-rising-holds (Rising.receives l w e h) (Holds.here Of.receives) = l
-rising-holds (Rising.receives l w e h) (Holds.later k) = le-trans l (le-trans (le-suc _) (rising-holds h k))
-rising-holds (Rising.checks h) (Holds.later k) = rising-holds h k
-rising-holds (Rising.opens h) (Holds.later k) = rising-holds h k
+pub rising-among : {N : Narration} {p low s : ℕ} {es : List Event} → Rising N p low es → Among s es → low ≤ s
+rising-among Rising.end (Among.later k) = absurd (among-none k)
+rising-among (Rising.new h) (Among.later k) = rising-among h k
+rising-among (Rising.sends l e h) (Among.here Of.sends) = l
+rising-among (Rising.sends l e h) (Among.later k) = le-trans l (le-trans (le-suc _) (rising-among h k))
+rising-among (Rising.receives l w e h) (Among.here Of.receives) = l
+rising-among (Rising.receives l w e h) (Among.later k) = le-trans l (le-trans (le-suc _) (rising-among h k))
+rising-among (Rising.checks h) (Among.later k) = rising-among h k
+rising-among (Rising.opens h) (Among.later k) = rising-among h k
 
 -- before an event of a step no other is of that step
-pub rising-once : {N : Narration} {p low s : ℕ} {e : Event} {es : List Event} → Rising N p low (e ∷ es) → Holds s es → Of s e → ⊥
-rising-once (Rising.sends l e h) k Of.sends = let a = rising-holds h k in absurd (omega arith)
-rising-once (Rising.receives l w e h) k Of.receives = let a = rising-holds h k in absurd (omega arith)
+pub rising-once : {N : Narration} {p low s : ℕ} {e : Event} {es : List Event} → Rising N p low (e ∷ es) → Among s es → Of s e → ⊥
+rising-once (Rising.sends l e h) k Of.sends = let a = rising-among h k in absurd (omega arith)
+rising-once (Rising.receives l w e h) k Of.receives = let a = rising-among h k in absurd (omega arith)
 
 -- what is left behind an event that is not the last
-pub rising-left : {N : Narration} {p low s : ℕ} {e : Event} {es : List Event} → Rising N p low (e ∷ es) → Holds s es → Rising N p 0 es
-rising-left Rising.end k = absurd (holds-none k)
+pub rising-left : {N : Narration} {p low s : ℕ} {e : Event} {es : List Event} → Rising N p low (e ∷ es) → Among s es → Rising N p 0 es
+rising-left Rising.end k = absurd (among-none k)
 rising-left {N} {p} (Rising.new h) k = rising-low N p zero-le h
 rising-left {N} {p} (Rising.sends l e h) k = rising-low N p zero-le h
 rising-left {N} {p} (Rising.receives l w e h) k = rising-low N p zero-le h
@@ -100,39 +103,41 @@ pub rising-sender : {N : Narration} {p low s : ℕ} {is : Images} {es : List Eve
 rising-sender (Rising.sends l e h) = e
 
 -- ---- Sends
-pub sends-none : {s : ℕ} → Sends s [] → ⊥
-sends-none h = elim h [ ]
+pub toSend-none : {s : ℕ} → ToSend s [] → ⊥
+toSend-none h = elim h [ ]
 
-pub sends-holds : {s : ℕ} {es : List Event} → Sends s es → Holds s es
-sends-holds Sends.here = Holds.here Of.sends
-sends-holds (Sends.later h) = Holds.later (sends-holds h)
+pub toSend-among : {s : ℕ} {es : List Event} → ToSend s es → Among s es
+toSend-among ToSend.here = Among.here Of.sends
+toSend-among (ToSend.later h) = Among.later (toSend-among h)
 
-pub rising-sends : {N : Narration} {p low s : ℕ} {es : List Event} → Rising N p low es → Sends s es → low ≤ s
-rising-sends h k = rising-holds h (sends-holds k)
+pub rising-toSend : {N : Narration} {p low s : ℕ} {es : List Event} → Rising N p low es → ToSend s es → low ≤ s
+rising-toSend h k = rising-among h (toSend-among k)
 
-pub sends-did : {s : ℕ} {e : Event} {es : List Event} {o : Shown} → Sends s (e ∷ es) → Showing e o → Sends s es ⊎ ((ts : Terms) × (o ≡ Shown.sent s ts))
-sends-did Sends.here (Showing.sends {ts = ts}) = inr (ts, refl)
-sends-did (Sends.later h) w = inl h
+pub toSend-did : {s : ℕ} {e : Event} {es : List Event} {o : Shown} → ToSend s (e ∷ es) → Showing e o
+    → ToSend s es ⊎ ((ts : Terms) × (o ≡ Shown.sent s ts))
+toSend-did ToSend.here (Showing.sends {ts = ts}) = inr (ts, refl)
+toSend-did (ToSend.later h) w = inl h
 
-pub sends-took : {s a f n : ℕ} {es : List Event} → Sends s (Event.receives a f n ∷ es) → Sends s es
-sends-took (Sends.later h) = h
+pub toSend-took : {s a f n : ℕ} {es : List Event} → ToSend s (Event.receives a f n ∷ es) → ToSend s es
+toSend-took (ToSend.later h) = h
 
-sends-left : {s : ℕ} {es : List Event} (fs : List Event) → Sends s es → Sends s (es ++ fs)
-sends-left fs Sends.here = Sends.here
-sends-left fs (Sends.later h) = Sends.later (sends-left fs h)
+toSend-left : {s : ℕ} {es : List Event} (fs : List Event) → ToSend s es → ToSend s (es ++ fs)
+toSend-left fs ToSend.here = ToSend.here
+toSend-left fs (ToSend.later h) = ToSend.later (toSend-left fs h)
 
-sends-right : {s : ℕ} (es : List Event) {fs : List Event} → Sends s fs → Sends s (es ++ fs)
-sends-right [] h = h
-sends-right (e ∷ es) h = Sends.later (sends-right es h)
+toSend-right : {s : ℕ} (es : List Event) {fs : List Event} → ToSend s fs → ToSend s (es ++ fs)
+toSend-right [] h = h
+toSend-right (e ∷ es) h = ToSend.later (toSend-right es h)
 
-walk-sends : {s : ℕ} {ts : Terms} (acts : List Act) (δ : Dictionary) (n : ℕ) → List·Memᴰ (Act.sends s ts) acts → Sends s (walk acts δ n .events)
+walk-toSend : {s : ℕ} {ts : Terms} (acts : List Act) (δ : Dictionary) (n : ℕ) → List·Memᴰ (Act.sends s ts) acts → ToSend s (walk acts δ n .events)
 unfolding walk act
-walk-sends [] δ n m = absurd (List·Memᴰ·not-nil m)
-walk-sends {s} {ts} (a ∷ acts) δ n m =
+walk-toSend [] δ n m = absurd (List·Memᴰ·not-nil m)
+walk-toSend {s} {ts} (a ∷ acts) δ n m =
     let d = act a δ n in
-    let rest = walk-sends acts (d .dictionary) (n + length (d .given)) in
-    ⊎-elim (λ e. sends-left _ (subst (λ b. Sends s (act b δ n .events)) e (sends-right (map Event.new (buildAll ts δ .made)) Sends.here))) (λ k. sends-right (d .events) (rest k)) (List·Memᴰ·cases-cons m)
+    let rest = walk-toSend acts (d .dictionary) (n + length (d .given)) in
+    ⊎-elim (λ e. toSend-left _ (subst (λ b. ToSend s (act b δ n .events)) e (toSend-right (map Event.new (buildAll ts δ .made)) ToSend.here)))
+    (λ k. toSend-right (d .events) (rest k)) (List·Memᴰ·cases-cons m)
 
-pub program-sends : (N : Narration) (s : ℕ) → s < length (N .says) → Sends s (programOf N (stepOf N s .sender))
+pub program-toSend : (N : Narration) (s : ℕ) → s < length (N .says) → ToSend s (programOf N (stepOf N s .sender))
 unfolding programOf program walked
-program-sends N s l = sends-left _ (walk-sends _ _ 0 (own-sends-in N (stepOf N s .sender) s l refl))
+program-toSend N s l = toSend-left _ (walk-toSend _ _ 0 (own-sends-in N (stepOf N s .sender) s l refl))

@@ -14,7 +14,7 @@ use Rattle.translation.specs.Receive.{Event, Did, nothing, followed, canOpen, r
 use Rattle.translation.specs.Receive.Laws.{rule-ind}
 use Rattle.translation.specs.Program.{Act, arrived, sent, act, walk, walked, program}
 use Rattle.translation.specs.Narration.{Narration}
-use Rattle.agreement.specs.Agree.{Said}
+use Rattle.agreement.specs.Agree.{Narrated}
 use Rattle.agreement.specs.Sound.{Right, Sound}
 use Rattle.agreement.specs.Sound.Laws.{at-append, sound-append, sound-enter, start-sound, image-value, plus, buildAll-value, buildAll-sound}
 use Rattle.agreement.specs.Safe.{Safe}
@@ -46,12 +46,12 @@ longer ns ts n e = let a = length-append ns (listed ts) in let c = count-listed 
 
 -- ---- the acts are at steps of the narration, with their messages
 abbrev ActSaid : Narration → Act → Type 0
-ActSaid N (Act.sends s ts) = Said N s ts
-ActSaid N (Act.receives s ts) = Said N s ts
+ActSaid N (Act.sends s ts) = Narrated N s ts
+ActSaid N (Act.receives s ts) = Narrated N s ts
 
-abbrev pub ActsSaid : Narration → List Act → Type 0
-ActsSaid N [] = Unit {0}
-ActsSaid N (a ∷ acts) = ActSaid N a × ActsSaid N acts
+abbrev pub ActsNarrated : Narration → List Act → Type 0
+ActsNarrated N [] = Unit {0}
+ActsNarrated N (a ∷ acts) = ActSaid N a × ActsNarrated N acts
 
 module _ (N : Narration) (all : List Term) where
   -- ---- what a party's doing adds goes well, from holding hs to holding ks
@@ -60,7 +60,9 @@ module _ (N : Narration) (all : List Term) where
     pub safe : (es : List Event) → Safe N all es ks (ns ++ d .given) → Safe N all (d .events ++ es) hs ns
 
   -- where no placeholder is handed out
-  good-still : {hs ks ns : List Term} (d : Did) → d .given ≡ [] → Sound (d .dictionary) ks ns → ((es : List Event) → Safe N all es ks ns → Safe N all (d .events ++ es) hs ns) → Good hs ks ns d
+  good-still : {hs ks ns : List Term} (d : Did) → d .given ≡ [] → Sound (d .dictionary) ks ns
+      → ((es : List Event) → Safe N all es ks ns → Safe N all (d .events ++ es) hs ns)
+      → Good hs ks ns d
   good-still {hs} {ks} {ns} d e s f =
       let z : ns ++ d .given ≡ ns = ap (λ l. ns ++ l) e ∙ append-nil ns in
       record { sound = subst (λ l. Sound (d .dictionary) ks l) (sym z) s; safe = λ es k. f es (subst (λ l. Safe N all es ks l) z k) }
@@ -70,7 +72,9 @@ module _ (N : Narration) (all : List Term) where
       let z = append-assoc ns (d .given) (e .given) in
       record {
         sound = subst (λ l. Sound (e .dictionary) js l) z (q .sound);
-        safe = λ es k. subst (λ l. Safe N all l hs ns) (sym (append-assoc (d .events) (e .events) es)) (p .safe (e .events ++ es) (q .safe es (subst (λ l. Safe N all es js l) (sym z) k)));
+        safe =
+            λ es k. subst (λ l. Safe N all l hs ns) (sym (append-assoc (d .events) (e .events) es))
+            (p .safe (e .events ++ es) (q .safe es (subst (λ l. Safe N all es js l) (sym z) k)));
       }
 
   good-nothing : {hs ns : List Term} (δ : Dictionary) → Sound δ hs ns → Good hs hs ns (nothing δ)
@@ -84,29 +88,34 @@ module _ (N : Narration) (all : List Term) where
     good-kept : (t : Term) → getElem? ns x ≡ some t → Good hs hs ns (kept t x δ)
     good-kept t e = good-still (kept t x δ) refl (sound-enter δ t (Held.placeholder x) (Right.placeholder e) s) (λ es k. k)
 
-    good-opened : (k : Term) (ts : Terms) (n : ℕ) → n ≡ length ns → getElem? ns x ≡ some (Term.cipher k ts) → canOpen δ (Term.cipher k ts) ≡ true → Good hs hs ns (opened k ts x δ n)
+    good-opened : (k : Term) (ts : Terms) (n : ℕ) → n ≡ length ns → getElem? ns x ≡ some (Term.cipher k ts) → canOpen δ (Term.cipher k ts) ≡ true
+        → Good hs hs ns (opened k ts x δ n)
     unfolding canOpen
     good-opened k ts n l e b = record { sound = sound-append (listed ts) s; safe = λ es q. (k, ts, e, l, refl, image-value hs ns δ s (partner k) b, q) }
 
     -- by the cases of the rule
-    good-by : (t : Term) (o : Did) → getElem? ns x ≡ some t → (canOpen δ t ≡ true → Good hs hs ns o) → Good hs hs ns (byRule (rule δ t) (compared t x δ) o (kept t x δ))
+    good-by : (t : Term) (o : Did) → getElem? ns x ≡ some t → (canOpen δ t ≡ true → Good hs hs ns o)
+        → Good hs hs ns (byRule (rule δ t) (compared t x δ) o (kept t x δ))
     unfolding byRule
     good-by t o e f = rule-ind (λ r. Good hs hs ns (byRule r (compared t x δ) o (kept t x δ))) δ t (good-compared t e) f (good-kept t e)
 
   mutual
     unfolding receive
 
-    good-receive : (t : Term) (x : ℕ) (δ : Dictionary) (n : ℕ) {hs ns : List Term} → n ≡ length ns → Sound δ hs ns → getElem? ns x ≡ some t → Good hs hs ns (receive t x δ n)
+    good-receive : (t : Term) (x : ℕ) (δ : Dictionary) (n : ℕ) {hs ns : List Term} → n ≡ length ns → Sound δ hs ns → getElem? ns x ≡ some t
+        → Good hs hs ns (receive t x δ n)
     good-receive (Term.atom r) x δ n l s e = good-by δ s x _ _ e (λ c. good-nothing δ s)
     good-receive (Term.operation g ts) x δ n l s e = good-by δ s x _ _ e (λ c. good-nothing δ s)
     good-receive (Term.cipher k ts) x δ n {hs} {ns} l s e =
         good-by δ s x _ _ e
         (λ c. good-followed (opened k ts x δ n) _ (good-opened δ s x k ts n l e c)
-        (good-receiveAll ts n δ (n + count ts) (longer ns ts n l) (sound-append (listed ts) s) (subst (λ y. AllAt (ns ++ listed ts) y ts) (sym l) (allAt-seam ns ts))))
+        (good-receiveAll ts n δ (n + count ts) (longer ns ts n l) (sound-append (listed ts) s)
+        (subst (λ y. AllAt (ns ++ listed ts) y ts) (sym l) (allAt-seam ns ts))))
     good-receive (Term.public t) x δ n l s e = good-by δ s x _ _ e (λ c. good-nothing δ s)
     good-receive (Term.private t) x δ n l s e = good-by δ s x _ _ e (λ c. good-nothing δ s)
 
-    good-receiveAll : (ts : Terms) (x : ℕ) (δ : Dictionary) (n : ℕ) {hs ns : List Term} → n ≡ length ns → Sound δ hs ns → AllAt ns x ts → Good hs hs ns (receiveAll ts x δ n)
+    good-receiveAll : (ts : Terms) (x : ℕ) (δ : Dictionary) (n : ℕ) {hs ns : List Term} → n ≡ length ns → Sound δ hs ns → AllAt ns x ts
+        → Good hs hs ns (receiveAll ts x δ n)
     good-receiveAll Terms.nil x δ n l s a = good-nothing δ s
     good-receiveAll (Terms.cons t ts) x δ n {hs} {ns} l s (AllAt.cons e a) =
         let d = receive t x δ n in
@@ -115,12 +124,14 @@ module _ (N : Narration) (all : List Term) where
         good-followed d _ g (good-receiveAll ts (suc x) (d .dictionary) (n + length (d .given)) (omega arith) (g .sound) (allAt-append (d .given) a))
 
   -- ---- act and walk
-  news-safe : (rs : List ℕ) (es fs : List Event) (hs ns : List Term) → Safe N all (es ++ fs) (plus rs hs) ns → Safe N all ((map Event.new rs ++ es) ++ fs) hs ns
+  news-safe : (rs : List ℕ) (es fs : List Event) (hs ns : List Term) → Safe N all (es ++ fs) (plus rs hs) ns
+      → Safe N all ((map Event.new rs ++ es) ++ fs) hs ns
   unfolding plus
   news-safe [] es fs hs ns k = k
   news-safe (r ∷ rs) es fs hs ns k = news-safe rs es fs (Term.atom r ∷ hs) ns k
 
-  good-act : (a : Act) (δ : Dictionary) (n : ℕ) {hs ns : List Term} → ActSaid N a → n ≡ length ns → Sound δ hs ns → (ks : List Term) × Good hs ks ns (act a δ n)
+  good-act : (a : Act) (δ : Dictionary) (n : ℕ) {hs ns : List Term} → ActSaid N a → n ≡ length ns → Sound δ hs ns
+      → (ks : List Term) × Good hs ks ns (act a δ n)
   unfolding act
   good-act (Act.sends i ts) δ n {hs} {ns} w l s =
       let b = buildAll ts δ in
@@ -130,10 +141,12 @@ module _ (N : Narration) (all : List Term) where
   good-act (Act.receives i ts) δ n {hs} {ns} w l s = (
     hs,
     good-followed (arrived i ts δ n) _ (record { sound = sound-append (listed ts) s; safe = λ es k. (ts, w, l, refl, k) })
-        (good-receiveAll ts n δ (n + count ts) (longer ns ts n l) (sound-append (listed ts) s) (subst (λ y. AllAt (ns ++ listed ts) y ts) (sym l) (allAt-seam ns ts))),
+        (good-receiveAll ts n δ (n + count ts) (longer ns ts n l) (sound-append (listed ts) s)
+        (subst (λ y. AllAt (ns ++ listed ts) y ts) (sym l) (allAt-seam ns ts))),
   )
 
-  good-walk : (acts : List Act) (δ : Dictionary) (n : ℕ) {hs ns : List Term} → ActsSaid N acts → n ≡ length ns → Sound δ hs ns → (ks : List Term) × Good hs ks ns (walk acts δ n)
+  good-walk : (acts : List Act) (δ : Dictionary) (n : ℕ) {hs ns : List Term} → ActsNarrated N acts → n ≡ length ns → Sound δ hs ns
+      → (ks : List Term) × Good hs ks ns (walk acts δ n)
   unfolding walk
   good-walk [] δ n {hs} w l s = (hs, good-nothing δ s)
   good-walk (a ∷ acts) δ n {ns = ns} w l s =
@@ -144,7 +157,8 @@ module _ (N : Narration) (all : List Term) where
       (r .0, good-followed d _ (g .1) (r .1))
 
   -- ---- program
-  pub program-safe : (known : List Term) (acts : List Act) → ActsSaid N acts → walked known acts .given ≡ all → Safe N all (program known acts) known []
+  pub program-safe : (known : List Term) (acts : List Act) → ActsNarrated N acts → walked known acts .given ≡ all
+      → Safe N all (program known acts) known []
   unfolding program walked
   program-safe known acts w e =
       let g = good-walk acts (start known) 0 w refl (start-sound known) in
@@ -155,7 +169,9 @@ module _ (N : Narration) (all : List Term) where
   safe-begins [] hs ns k = k
   safe-begins (Event.new r ∷ es) hs ns k = safe-begins es _ ns k
   safe-begins (Event.sends s is ∷ es) hs ns k = safe-begins es hs ns (k .3)
-  safe-begins (Event.receives s f n ∷ es) hs ns k = let q = safe-begins es hs _ (k .4) in (listed (k .0) ++ q .0, sym (append-assoc ns (listed (k .0)) (q .0)) ∙ q .1)
+  safe-begins (Event.receives s f n ∷ es) hs ns k =
+      let q = safe-begins es hs _ (k .4) in (listed (k .0) ++ q .0, sym (append-assoc ns (listed (k .0)) (q .0)) ∙ q .1)
   safe-begins (Event.checks x i ∷ es) hs ns k = safe-begins es hs ns (k .3)
-  safe-begins (Event.opens x f n i ∷ es) hs ns k = let q = safe-begins es hs _ (k .6) in (listed (k .1) ++ q .0, sym (append-assoc ns (listed (k .1)) (q .0)) ∙ q .1)
+  safe-begins (Event.opens x f n i ∷ es) hs ns k =
+      let q = safe-begins es hs _ (k .6) in (listed (k .1) ++ q .0, sym (append-assoc ns (listed (k .1)) (q .0)) ∙ q .1)
   safe-begins (Event.ends ps ∷ es) hs ns k = safe-begins es hs ns k

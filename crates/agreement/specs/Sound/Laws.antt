@@ -5,6 +5,7 @@ use mathlib.Core.List.{List, [], _∷_, _++_}
 use mathlib.Core.Option.{some, Option·some-ne-none}
 use mathlib.Core.Path.{_≡_, refl, sym, ap, _∙_, subst}
 use lib.ListN.{length, getElem?}
+use Rattle.words.specs.Choice.{then}
 use Rattle.words.specs.Choice.Laws.{pick-true, choose-ind, choose-yes}
 use Rattle.terms.specs.Term.{Term, Terms, same}
 use Rattle.terms.specs.Image.{Image}
@@ -13,9 +14,8 @@ use Rattle.translation.specs.Dictionary.Laws.{enter-ind, buildable-exact, allBu
 use Rattle.translation.specs.Build.{Built, builtOr, build, buildAll}
 use Rattle.translation.specs.Build.Laws.{built-or}
 use Rattle.translation.specs.Along.Laws.{buildAll-buildable, buildAll-images}
-use Rattle.translation.specs.Spelling.{then}
-use Rattle.agreement.specs.View.{holds, value, valueAll}
-use Rattle.agreement.specs.Sound.{seen, Right, Sound}
+use Rattle.agreement.specs.Sight.{holds, value, valueAll}
+use Rattle.agreement.specs.Sound.{sightOf, Right, Sound}
 
 -- ---- lists of terms by their places
 pub at-append : (l ns : List Term) (x : ℕ) {t : Term} → getElem? ns x ≡ some t → getElem? (ns ++ l) x ≡ some t
@@ -63,12 +63,13 @@ start-sound (t ∷ ts) = sound-enter (start ts) t Held.itself (Right.itself (hol
 
 -- ---- image
 module _ (hs ns : List Term) where
-  holds-value : (t : Term) → holds hs t ≡ true → value (seen hs ns) (Image.itself t) ≡ some t
-  unfolding value seen
+  holds-value : (t : Term) → holds hs t ≡ true → value (sightOf hs ns) (Image.itself t) ≡ some t
+  unfolding value sightOf
   holds-value t e = pick-true _ _ _ e
 
-  or-value : {h : Held} {t : Term} (i : Image) → Right hs ns t h → (h ≡ Held.free → value (seen hs ns) i ≡ some t) → value (seen hs ns) (imageOr h t i) ≡ some t
-  unfolding imageOr value seen
+  or-value : {h : Held} {t : Term} (i : Image) → Right hs ns t h → (h ≡ Held.free → value (sightOf hs ns) i ≡ some t)
+      → value (sightOf hs ns) (imageOr h t i) ≡ some t
+  unfolding imageOr value sightOf
   or-value i Right.free f = f refl
   or-value {t = t} i (Right.itself e) f = holds-value t e
   or-value i (Right.placeholder e) f = e
@@ -77,7 +78,7 @@ module _ (hs ns : List Term) where
     held-free : {h : Held} {C : Type 0} → isHeld h ≡ true → h ≡ Held.free → C
     held-free {h} p q = absurd (true≢false (sym p ∙ ap isHeld q))
 
-    held-value : (t : Term) → isHeld (δ t) ≡ true → value (seen hs ns) (image δ t) ≡ some t
+    held-value : (t : Term) → isHeld (δ t) ≡ true → value (sightOf hs ns) (image δ t) ≡ some t
     unfolding image
     held-value (Term.atom r) h = or-value _ (s _) (λ e. held-free h e)
     held-value (Term.operation g ts) h = or-value _ (s _) (λ e. held-free h e)
@@ -88,7 +89,7 @@ module _ (hs ns : List Term) where
     mutual
       unfolding image value then
 
-      derives-value : {t : Term} → Buildable δ t → value (seen hs ns) (image δ t) ≡ some t
+      derives-value : {t : Term} → Buildable δ t → value (sightOf hs ns) (image δ t) ≡ some t
       derives-value {t} (Derives.held h) = held-value t h
       derives-value (Derives.make f) = absurd f
       derives-value (Derives.operation d) = or-value _ (s _) (λ e. rw (derivesAll-value d))
@@ -96,14 +97,14 @@ module _ (hs ns : List Term) where
       derives-value (Derives.public d) = or-value _ (s _) (λ e. rw (derives-value d))
       derives-value (Derives.private d) = or-value _ (s _) (λ e. rw (derives-value d))
 
-      derivesAll-value : {ts : Terms} → DerivesAll nobody δ ts → valueAll (seen hs ns) (images δ ts) ≡ some ts
+      derivesAll-value : {ts : Terms} → DerivesAll nobody δ ts → valueAll (sightOf hs ns) (images δ ts) ≡ some ts
       derivesAll-value DerivesAll.nil = refl
       derivesAll-value (DerivesAll.cons d e) = rw (derives-value d, derivesAll-value e)
 
-    pub image-value : (t : Term) → buildable δ t ≡ true → value (seen hs ns) (image δ t) ≡ some t
+    pub image-value : (t : Term) → buildable δ t ≡ true → value (sightOf hs ns) (image δ t) ≡ some t
     image-value t e = derives-value (buildable-exact δ t .0 e)
 
-    images-value : (ts : Terms) → allBuildable δ ts ≡ true → valueAll (seen hs ns) (images δ ts) ≡ some ts
+    images-value : (ts : Terms) → allBuildable δ ts ≡ true → valueAll (sightOf hs ns) (images δ ts) ≡ some ts
     images-value ts e = derivesAll-value (allBuildable-exact δ ts .0 e)
 
 -- ---- build
@@ -119,7 +120,8 @@ plus-append (r ∷ a) b hs = plus-append a b (Term.atom r ∷ hs)
 
 module _ (ns : List Term) where
   -- whoever holds what the dictionary says afterwards finds the terms behind the images
-  pub buildAll-value : (ts : Terms) (δ : Dictionary) (hs : List Term) → Sound ((buildAll ts δ) .dictionary) hs ns → valueAll (seen hs ns) ((buildAll ts δ) .images) ≡ some ts
+  pub buildAll-value : (ts : Terms) (δ : Dictionary) (hs : List Term) → Sound ((buildAll ts δ) .dictionary) hs ns
+      → valueAll (sightOf hs ns) ((buildAll ts δ) .images) ≡ some ts
   buildAll-value ts δ hs s = rw (buildAll-images ts δ) (images-value hs ns ((buildAll ts δ) .dictionary) s ts (buildAll-buildable ts δ))
 
   -- and with the atoms made the party holds what the dictionary says afterwards
@@ -134,14 +136,18 @@ module _ (ns : List Term) where
     unfolding build plus
 
     build-sound : (t : Term) (δ : Dictionary) → BuiltSound δ (build t δ)
-    build-sound (Term.atom r) δ = or-sound _ _ δ _ (λ hs s. sound-enter δ (Term.atom r) Held.itself (Right.itself (holds-head (Term.atom r) hs)) (sound-more (Term.atom r) s))
+    build-sound (Term.atom r) δ =
+        or-sound _ _ δ _ (λ hs s. sound-enter δ (Term.atom r) Held.itself (Right.itself (holds-head (Term.atom r) hs)) (sound-more (Term.atom r) s))
     build-sound (Term.operation g ts) δ = or-sound _ _ δ _ (buildAll-sound ts δ)
     build-sound (Term.cipher k ts) δ =
-        or-sound _ _ δ _ (λ hs s. rw (plus-append ((build k δ) .made) ((buildAll ts ((build k δ) .dictionary)) .made) hs) (buildAll-sound ts ((build k δ) .dictionary) _ (build-sound k δ hs s)))
+        or-sound _ _ δ _ (λ hs s. rw (plus-append ((build k δ) .made) ((buildAll ts ((build k δ) .dictionary)) .made) hs)
+        (buildAll-sound ts ((build k δ) .dictionary) _ (build-sound k δ hs s)))
     build-sound (Term.public t) δ = or-sound _ _ δ _ (build-sound t δ)
     build-sound (Term.private t) δ = or-sound _ _ δ _ (build-sound t δ)
 
-    pub buildAll-sound : (ts : Terms) (δ : Dictionary) (hs : List Term) → Sound δ hs ns → Sound ((buildAll ts δ) .dictionary) (plus ((buildAll ts δ) .made) hs) ns
+    pub buildAll-sound : (ts : Terms) (δ : Dictionary) (hs : List Term) → Sound δ hs ns
+        → Sound ((buildAll ts δ) .dictionary) (plus ((buildAll ts δ) .made) hs) ns
     buildAll-sound Terms.nil δ = λ hs s. s
     buildAll-sound (Terms.cons t ts) δ =
-        λ hs s. rw (plus-append ((build t δ) .made) ((buildAll ts ((build t δ) .dictionary)) .made) hs) (buildAll-sound ts ((build t δ) .dictionary) _ (build-sound t δ hs s))
+        λ hs s. rw (plus-append ((build t δ) .made) ((buildAll ts ((build t δ) .dictionary)) .made) hs)
+        (buildAll-sound ts ((build t δ) .dictionary) _ (build-sound t δ hs s))

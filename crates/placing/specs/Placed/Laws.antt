@@ -20,6 +20,7 @@ use Rattle.translation.specs.Receive.{Did, Event, followed, receiveAll}
 use Rattle.translation.specs.Program.{sent, arrived}
 use Rattle.translation.specs.Narration.{narration, programOf}
 use Rattle.translation.specs.Listing.{eventWords, programWords}
+use Rattle.translation.specs.Standing.{standingAt, ifSends, ifWaits, ifEnded}
 use Rattle.translation.specs.Places.{placeOf, isSend, isReceive, isEnd, placesOf}
 use Rattle.translation.specs.Places.Laws.{None, none-append, none-news, none-receiveAll, place-first}
 use Rattle.translation.specs.Steps.Laws.{step-sends, step-receives, step-idle, before-none, before-more, before-all}
@@ -72,21 +73,21 @@ place-in t xs ys zs fs e n m h =
 -- ---- the three places
 module _ (b : List ℕ) (v : Valid b) where
   quiet-send : (s : ℕ) → Quiet (isSend s)
-  unfolding isSend
+  unfolding isSend standingAt ifSends
   quiet-send s = record { news = λ r. refl; checks = λ x i. refl; opens = λ x f n i. refl }
 
   quiet-receive : (s : ℕ) → Quiet (isReceive s)
-  unfolding isReceive
+  unfolding isReceive standingAt ifWaits
   quiet-receive s = record { news = λ r. refl; checks = λ x i. refl; opens = λ x f n i. refl }
 
   quiet-end : Quiet isEnd
-  unfolding isEnd
+  unfolding isEnd standingAt ifEnded
   quiet-end = record { news = λ r. refl; checks = λ x i. refl; opens = λ x f n i. refl }
 
   module _ (s : ℕ) (h : s < steps b) where
     -- the SEND is the last event of its step
     pub send-place : length (before b (sender b s) (s + 1) .events) ≡ placesOf b .sends s + 1
-    unfolding placesOf isSend
+    unfolding placesOf isSend standingAt ifSends
     send-place =
         let p = sender b s in
         let d = before b p s in
@@ -103,7 +104,7 @@ module _ (b : List ℕ) (v : Valid b) where
 
     -- the RECEIVE is the first
     pub receive-place : placesOf b .receives s ≡ length (before b (receiver b s) s .events)
-    unfolding placesOf isReceive
+    unfolding placesOf isReceive standingAt ifWaits
     receive-place =
         let p = receiver b s in
         let d = before b p s in
@@ -118,7 +119,7 @@ module _ (b : List ℕ) (v : Valid b) where
 
   -- END comes last
   pub end-place : (p : ℕ) → p < parties b → placesOf b .ends p ≡ length (before b p (steps b) .events)
-  unfolding placesOf isEnd
+  unfolding placesOf isEnd standingAt ifEnded
   end-place p h =
       ap (placeOf isEnd) (before-all b p h)
       ∙ place-first isEnd (before b p (steps b) .events) [] (Event.ends (before b p (steps b) .stored)) (quiet-before isEnd quiet-end b p (steps b) (λ j l is. refl) (λ j l f c. refl)) refl

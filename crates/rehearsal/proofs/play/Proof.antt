@@ -1,6 +1,6 @@
 -- `rehearsal::play` meets its contract: one move more. Assumes nothing.
 use Rattle.rehearsal.specs.Kept.{places, counts}
-use Rattle.agreement.specs.Counting.{counted}
+use Rattle.playing.specs.Counting.{tickedAll}
 use Rattle.book.specs.Layout.{parties}
 use Rattle.words.specs.Run.Laws.{all-getD}
 use mathlib.Core.Path.{_≡_}
@@ -12,7 +12,7 @@ use Rattle.rehearsal.proofs.play.Statement.{statement}
 use Rattle.rehearsal.proofs.play.Tie as tie
 
 abbrev Inv-loop : tie.InvT-loop
-Inv-loop book sends receives ends schedule done₀ i₀ done i = (i ≤ length schedule) × (counts done ≡ counted book (places sends receives ends) (take i schedule) (counts done₀)) × (length done ≡ 16)
+Inv-loop book sends receives ends schedule done₀ i₀ done i = (i ≤ length schedule) × (counts done ≡ tickedAll book (places sends receives ends) (take i schedule) (counts done₀)) × (length done ≡ 16)
 
 abbrev μ-loop : tie.MeasureT-loop
 μ-loop book sends receives ends schedule done₀ i₀ done i = length schedule - i

@@ -1,6 +1,6 @@
 -- `rehearsal::waits` meets its contract: no step before it is waited for. Assumes nothing.
 use Rattle.rehearsal.specs.Kept.{places, counts}
-use Rattle.agreement.specs.Counting.{waitsFor}
+use Rattle.playing.specs.Counting.{waitsFor}
 use mathlib.Core.Path.{_≡_, sym, _∙_}
 use mathlib.Core.List.{[]}
 use mathlib.Core.Bool.{false}

@@ -1,25 +1,18 @@
 -- Laws of building: what it makes, and that it makes only free atoms exactly where there is a derivation. Assumes nothing.
 use Prim.Native.Nat.{ℕ, _*_, _≤_}
 use mathlib.Core.Bool.{true, false, true≢false}
-use mathlib.Core.List.{List, [], _∷_, _++_, List·Memᴰ, List·Memᴰ·head, List·Memᴰ·tail, List·Memᴰ·append-cases, List·Memᴰ·not-nil, List·Memᴰ·eq-of-singleton, Memᴰ·append-left, Memᴰ·append-right}
+use mathlib.Core.List.{List, [], _∷_, _++_, List·Memᴰ, List·Memᴰ·head, List·Memᴰ·append-cases, List·Memᴰ·not-nil, List·Memᴰ·eq-of-singleton, Memᴰ·append-left, Memᴰ·append-right}
 use mathlib.Core.Logic.{_⊎_, inl, inr, ⊎-elim}
 use mathlib.Core.Path.{_≡_, refl, sym, ap, _∙_, subst}
 use native.Mathlib.Omega.{arith}
 use lib.ListN.{length, length-append}
+use Rattle.words.specs.Run.{NoRepeat}
+use Rattle.words.specs.Run.Laws.{no-repeat-append}
 use Rattle.terms.specs.Term.{Term, Terms, size, sizes, Occurs, OccursIn}
 use Rattle.terms.specs.Image.{Image}
 use Rattle.translation.specs.Dictionary.{Held, Dictionary, isHeld, enter, Derives, DerivesAll, imageOr}
 use Rattle.translation.specs.Dictionary.Laws.{enter-same, enter-ind, Grows, enter-grows, derivesAll-from}
 use Rattle.translation.specs.Build.{Built, builtOr, build, buildAll}
-
-abbrev pub NoRepeat : List ℕ → Type 0
-NoRepeat [] = Unit {0}
-NoRepeat (r ∷ rs) = (List·Memᴰ r rs → ⊥) × NoRepeat rs
-
-pub no-repeat-append : (a b : List ℕ) → NoRepeat a → NoRepeat b → ((r : ℕ) → List·Memᴰ r a → List·Memᴰ r b → ⊥) → NoRepeat (a ++ b)
-no-repeat-append [] b p q d = q
-no-repeat-append (x ∷ a) b p q d =
-    (λ m. ⊎-elim (p .0) (λ n. d x (List·Memᴰ·head refl) n) (List·Memᴰ·append-cases a m), no-repeat-append a b (p .1) q (λ r m n. d r (List·Memᴰ·tail m) n))
 
 abbrev Holds : Dictionary → Term → Type 0
 Holds δ t = isHeld (δ t) ≡ true

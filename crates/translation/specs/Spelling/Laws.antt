@@ -6,6 +6,7 @@ use mathlib.Core.Path.{_≡_, refl, sym, ap, _∙_, subst}
 use native.Mathlib.Omega.{arith}
 use lib.ListN.{length, getD, take, drop, length-append, List·getD-append}
 use lib.Seq.{drop-append-add, take-append-seam}
+use Rattle.words.specs.Choice.{then}
 use Rattle.words.specs.Run.{values}
 use Rattle.words.specs.Run.Laws.{run-take, values-length, values-getD}
 use Rattle.terms.specs.Term.{Term}
@@ -21,7 +22,7 @@ use Rattle.translation.specs.Narration.{narration, programOf}
 use Rattle.translation.specs.Rows.{Names, NamesAll, StoredAll, EventNames, ProgramNames}
 use Rattle.translation.specs.Rows.Laws.{programs-name-rows}
 use Rattle.translation.specs.Listing.{pairWords, eventWords, programWords, heads, bodies, framed, partWords, listing}
-use Rattle.translation.specs.Spelling.{then, readImage, readImages, readPairs, readEvent, readEvents, readProgram, partOf}
+use Rattle.translation.specs.Spelling.{readImage, readImages, readPairs, readEvent, readEvents, readProgram, partOf}
 
 -- ---- the fuel that an image takes is no more than its words
 unfoldable mutual

@@ -1,8 +1,8 @@
 -- Laws of runs. Assumes nothing.
 use Prim.Native.Nat.{ℕ, zero, suc, _+_, _-_, _≤_, _<_}
 use mathlib.Core.Bool.{Bool, true, false, true≢false}
-use mathlib.Core.Logic.{_↔_}
-use mathlib.Core.List.{List, [], _∷_, _++_, map}
+use mathlib.Core.Logic.{_↔_, ⊎-elim}
+use mathlib.Core.List.{List, [], _∷_, _++_, map, List·Memᴰ, List·Memᴰ·head, List·Memᴰ·tail, List·Memᴰ·append-cases}
 use mathlib.Core.Path.{_≡_, refl, sym, _∙_, ap, ap₂}
 use native.Mathlib.Omega.{arith}
 use native.Mathlib.Nat.{zero-add, suc-add, add-zero}
@@ -12,7 +12,7 @@ use lib.Dec.{eqb}
 use borrow.Author.Tests.{eqb-true, eq-eqb}
 use Rattle.words.specs.Choice.Laws.{pick-true, pick-false}
 use lib.Seq.{drop-cons}
-use Rattle.words.specs.Run.{run, All, values, sameWords}
+use Rattle.words.specs.Run.{run, All, NoRepeat, values, sameWords}
 
 -- ---- run
 pub run-none : (l : List ℕ) (a n : ℕ) → n ≤ 0 → run l a n ≡ []
@@ -72,6 +72,14 @@ all-imp P Q f (x ∷ xs) a = (f x (a .0), all-imp P Q f xs (a .1))
 pub map-same : {X : Type 0} (P : ℕ → Type 0) (f g : ℕ → X) → ((x : ℕ) → P x → f x ≡ g x) → (xs : List ℕ) → All P xs → map f xs ≡ map g xs
 map-same P f g h [] a = refl
 map-same P f g h (x ∷ xs) a = ap₂ _∷_ (h x (a .0)) (map-same P f g h xs (a .1))
+
+-- ---- NoRepeat
+pub no-repeat-append : (a b : List ℕ) → NoRepeat a → NoRepeat b → ((r : ℕ) → List·Memᴰ r a → List·Memᴰ r b → ⊥) → NoRepeat (a ++ b)
+no-repeat-append [] b p q d = q
+no-repeat-append (x ∷ a) b p q d = (
+  λ m. ⊎-elim (p .0) (λ n. d x (List·Memᴰ·head refl) n) (List·Memᴰ·append-cases a m),
+  no-repeat-append a b (p .1) q (λ r m n. d r (List·Memᴰ·tail m) n),
+)
 
 -- ---- values
 pub values-length {ℓ} : {X : Type ℓ} (f : ℕ → X) (i n : ℕ) → length (values f i n) ≡ n

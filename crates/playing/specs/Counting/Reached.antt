@@ -11,16 +11,19 @@ use Rattle.terms.specs.Term.{Term, Terms}
 use Rattle.translation.specs.Receive.{Event}
 use Rattle.translation.specs.Narration.{Narration, knownTo}
 use Rattle.translation.specs.Taken.{stepOf}
+use Rattle.translation.specs.Standing.{standingAt, ifSends}
 use Rattle.translation.specs.Places.{placeOf, isSend}
-use Rattle.agreement.specs.View.{change}
+use Rattle.translation.specs.Spelled.{Programs}
+use Rattle.agreement.specs.Change.{change}
+use Rattle.agreement.specs.Change.Laws.{change-ind, change-same}
 use Rattle.agreement.specs.Machine.{Party, Turn, turn, System, sentAfter, Move, move, begin, Reach}
-use Rattle.agreement.specs.Machine.Laws.{change-ind, change-same, Showing, Turned, turn-cases, Delivered, move-parties}
+use Rattle.agreement.specs.Machine.Laws.{Showing, Turned, turn-cases, Delivered, move-parties}
 use Rattle.agreement.specs.Agree.{receiverOf}
 use Rattle.agreement.specs.Order.{Rising}
 use Rattle.agreement.specs.Order.Laws.{rising-sender}
 use Rattle.agreement.specs.Flow.{Posted}
-use Rattle.agreement.specs.Start.{Played, Programs, reached-flow}
-use Rattle.agreement.specs.Counting.Standing.{Behind, behind-next, place-upto}
+use Rattle.agreement.specs.Start.{PlayableAmong, reached-flow}
+use Rattle.playing.specs.Counting.Behind.{Behind, behind-next, place-upto}
 
 -- ---- a party stays where it was, or its next event is done
 data Onward (P R : Party) : Type 0 where
@@ -48,7 +51,8 @@ onward-behind : {P R : Party} (es : List Event) → Onward P R → Behind (P .do
 onward-behind {P} {R} es (Onward.still l d) h = subst (λ n. Behind n es (R .left)) (sym d) (subst (Behind (P .done) es) (sym l) h)
 onward-behind {P} {R} es (Onward.next e l d) h = subst (λ n. Behind n es (R .left)) (sym d) (behind-next (subst (Behind (P .done) es) l h))
 
-pub reach-behind : {receiver : ℕ → ℕ} (known : ℕ → List Term) (programs : ℕ → List Event) {S : System} → Reach receiver (begin known programs) S → (p : ℕ) → Behind (S .party p .done) (programs p) (S .party p .left)
+pub reach-behind : {receiver : ℕ → ℕ} (known : ℕ → List Term) (programs : ℕ → List Event) {S : System} → Reach receiver (begin known programs) S
+    → (p : ℕ) → Behind (S .party p .done) (programs p) (S .party p .left)
 unfolding begin
 reach-behind known programs Reach.start p = Behind.all
 reach-behind {receiver} known programs (Reach.after {S = S} m r) p = onward-behind (programs p) (move-onward receiver m S p) (reach-behind known programs r p)
@@ -57,7 +61,7 @@ reach-behind {receiver} known programs (Reach.after {S = S} m r) p = onward-behi
 module _ (N : Narration) (p : ℕ) (es : List Event) where
   turned-sent : {P : Party} {t : Turn} → Rising N p 0 (P .left) → Behind (P .done) es (P .left) → Turned P t → (f : ℕ → Option Terms) (s : ℕ)
       → Posted (sentAfter (t .shown) f s) → Posted (f s) ⊎ ((stepOf N s .sender ≡ p) × (placeOf (isSend s) es < t .party .done))
-  unfolding sentAfter isSend
+  unfolding sentAfter isSend standingAt ifSends
   turned-sent h b Turned.stayed f s k = inl k
   turned-sent h b (Turned.halted l c) f s k = inl k
   turned-sent h b (Turned.did l Showing.new) f s k = inl k
@@ -69,7 +73,7 @@ module _ (N : Narration) (p : ℕ) (es : List Event) where
   turned-sent h b (Turned.did l Showing.checks) f s k = inl k
   turned-sent h b (Turned.did l Showing.opens) f s k = inl k
 
-module _ (N : Narration) (Q : ℕ) (programs : ℕ → List Event) (v : Played N Q) (w : Programs N Q programs) where
+module _ (N : Narration) (Q : ℕ) (programs : ℕ → List Event) (v : PlayableAmong N Q) (w : Programs N Q programs) where
   abbrev SentDone : System → ℕ → Type 0
   SentDone S s = Posted (S .sent s) → placeOf (isSend s) (programs (stepOf N s .sender)) < S .party (stepOf N s .sender) .done
 
@@ -77,7 +81,8 @@ module _ (N : Narration) (Q : ℕ) (programs : ℕ → List Event) (v : Played N
   none-posted h = elim h [ ]
 
   module _ {S : System} (r : Reach (receiverOf N) (begin (knownTo N) programs) S) (s : ℕ) (before : SentDone S s) where
-    sent-still : (m : Move) → Posted (S .sent s) → placeOf (isSend s) (programs (stepOf N s .sender)) < move (receiverOf N) m S .party (stepOf N s .sender) .done
+    sent-still : (m : Move) → Posted (S .sent s)
+        → placeOf (isSend s) (programs (stepOf N s .sender)) < move (receiverOf N) m S .party (stepOf N s .sender) .done
     sent-still m h = let a = before h in let c = onward-done (move-onward (receiverOf N) m S (stepOf N s .sender)) in omega arith
 
     move-sent : (m : Move) → SentDone (move (receiverOf N) m S) s
@@ -86,7 +91,8 @@ module _ (N : Narration) (Q : ℕ) (programs : ℕ → List Event) (v : Played N
         ⊎-elim (sent-still (Move.own p))
         (λ x. subst (λ i. placeOf (isSend s) (programs i) < change (S .party) p (turn (S .party p) .party) i .done) (sym (x .0))
         (subst (λ (R : Party). placeOf (isSend s) (programs p) < R .done) (sym (change-same (S .party) p _)) (x .1)))
-        (turned-sent N p (programs p) (reached-flow N Q programs v w r .rising p) (reach-behind (knownTo N) programs r p) (turn-cases (S .party p)) (S .sent) s h)
+        (turned-sent N p (programs p) (reached-flow N Q programs v w r .rising p) (reach-behind (knownTo N) programs r p) (turn-cases (S .party p))
+        (S .sent) s h)
     move-sent (Move.delivery a) h = sent-still (Move.delivery a) h
 
   pub reach-sent : {S : System} → Reach (receiverOf N) (begin (knownTo N) programs) S → (s : ℕ) → SentDone S s

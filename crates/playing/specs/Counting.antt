@@ -1,6 +1,7 @@
--- The rehearsal, counted: how many events each party has done is all that there is to know. A party at END stays; so does one whose
--- next event is the RECEIVE of a step whose SEND is not done yet; any other does its next event. No term is looked at: that no
--- comparison and no opening fails is demand 3's, and so these counts are the plain machine's (Laws).
+-- The rehearsal, counted: how many events each party has done is all that there is to know. Document 01, 'The rehearsal': "each move
+-- lets that party do its next event, or nothing if it is at END or waits for a step not yet sent." A party waits if its next event is
+-- the RECEIVE of a step whose SEND is not done yet. No term is looked at: that no comparison and no opening fails is demand 3's, and so
+-- these counts are the plain machine's (Laws).
 use Prim.Native.Nat.{ℕ, suc}
 use mathlib.Core.Bool.{Bool, false}
 use mathlib.Core.List.{List, [], _∷_}
@@ -9,8 +10,8 @@ use Rattle.words.specs.Choice.{pick}
 use Rattle.words.specs.First.{any}
 use Rattle.book.specs.Layout.{steps, sender, receiver}
 use Rattle.translation.specs.Places.{Places}
-use Rattle.agreement.specs.View.{change}
-pub mod Standing
+use Rattle.agreement.specs.Change.{change}
+pub mod Behind
 pub mod Reached
 pub mod Laws
 
@@ -28,6 +29,6 @@ module _ (b : List ℕ) (P : Places) where
   ticked p d = pick (ltb (d p) (P .ends p)) (pick (waits d p) d (change d p (suc (d p)))) d
 
   -- the parties of a schedule move one after another
-  unfoldable pub counted : List ℕ → (ℕ → ℕ) → ℕ → ℕ
-  counted [] d = d
-  counted (p ∷ ps) d = counted ps (ticked p d)
+  unfoldable pub tickedAll : List ℕ → (ℕ → ℕ) → ℕ → ℕ
+  tickedAll [] d = d
+  tickedAll (p ∷ ps) d = tickedAll ps (ticked p d)

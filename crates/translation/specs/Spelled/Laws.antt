@@ -1,26 +1,23 @@
--- The lent words of an accepted book spell each party's program. Assumes nothing.
+-- Laws of the programs that words spell: the lent words of an accepted book spell each party's program. Assumes nothing.
 use Prim.Native.Nat.{ℕ, zero, suc, _+_, _*_, _≤_, _<_}
 use native.Mathlib.Omega.{arith}
 use mathlib.Core.List.{List, [], _∷_, _++_}
 use mathlib.Core.Option.{some}
-use mathlib.Core.Path.{_≡_, refl, sym, ap, _∙_, subst}
+use mathlib.Core.Path.{_≡_, refl, ap, _∙_}
 use lib.ListN.{length, getD, drop, length-append, List·getD-append}
 use borrow.Author.Tests.{lt-ltb, le-ltb}
 use Rattle.words.specs.Choice.Laws.{pick-true, pick-false}
 use Rattle.words.specs.Run.{run, values}
 use Rattle.words.specs.Run.Laws.{values-length}
 use Rattle.terms.specs.Table.{term}
-use Rattle.book.specs.Layout.{table, parties, steps}
-use Rattle.translation.specs.Program.{Step}
-use Rattle.translation.specs.Narration.{stepAt, narration, programOf}
-use Rattle.translation.specs.Taken.Laws.{steps-length, step-is}
+use Rattle.book.specs.Layout.{table, parties}
+use Rattle.translation.specs.Narration.{narration, programOf}
 use Rattle.translation.specs.Listing.{heads, bodies, framed, partWords, listing}
 use Rattle.translation.specs.Spelling.{readProgram, partOf}
 use Rattle.translation.specs.Spelling.Laws.{heads-length, listing-spells}
 use Rattle.translation.specs.Outcome.{outcome, Plays}
 use Rattle.translation.specs.Outcome.Laws.{exactly-written, written-past}
-use Rattle.agreement.specs.Spelled.{orEnd, spelled}
-use Rattle.agreement.specs.Start.{Played, Programs}
+use Rattle.translation.specs.Spelled.{orEnd, spelled, Programs}
 
 -- ---- run and partOf: words behind a listing are nobody's part
 run-within : (l k : List ℕ) (a n : ℕ) → a + n ≤ length l → run (l ++ k) a n ≡ run l a n
@@ -28,7 +25,8 @@ unfolding run
 run-within l k a zero h = refl
 run-within l k a (suc n) h = rw (List·getD-append l k 0 a (omega arith), run-within l k (suc a) n (omega arith))
 
-heads-fit : (o : ℕ) (ls : List (List ℕ)) (p : ℕ) → p < length ls → getD (heads o ls) (2 * p) 0 + getD (heads o ls) (suc (2 * p)) 0 ≤ o + length (bodies ls)
+heads-fit : (o : ℕ) (ls : List (List ℕ)) (p : ℕ) → p < length ls
+    → getD (heads o ls) (2 * p) 0 + getD (heads o ls) (suc (2 * p)) 0 ≤ o + length (bodies ls)
 unfolding heads bodies
 heads-fit o [] p h = absurd (omega arith)
 heads-fit o (l ∷ ls) zero h = let a = length-append l (bodies ls) in omega arith
@@ -54,9 +52,11 @@ part-within ls rest p h =
     rw (List·getD-append w rest 0 (1 + 2 * p) (omega arith), List·getD-append w rest 0 (2 + 2 * p) (omega arith))
     (run-within w rest (getD w (1 + 2 * p) 0) (getD w (2 + 2 * p) 0) (omega arith))
 
--- ---- what demand 3 needs of the book
+-- ---- spelled
 module _ (b : List ℕ) where
-  spelled-programs : (w : List ℕ) → ((p : ℕ) → p < parties b → readProgram (term (table b)) (partOf w p) ≡ some (programOf (narration b) p)) → Programs (narration b) (parties b) (spelled b w)
+  spelled-programs : (w : List ℕ)
+      → ((p : ℕ) → p < parties b → readProgram (term (table b)) (partOf w p) ≡ some (programOf (narration b) p))
+      → Programs (narration b) (parties b) (spelled b w)
   unfolding spelled orEnd
   spelled-programs w h =
       record {
@@ -64,36 +64,25 @@ module _ (b : List ℕ) where
         nobody = λ p l. pick-false _ _ _ (le-ltb p (parties b) l);
       }
 
-  module _ (plays : Plays b) where
-    pub plays-programs : Programs (narration b) (parties b) (spelled b (listing b))
-    plays-programs = spelled-programs (listing b) (listing-spells b (plays .valid))
-
-    pub plays-played : Played (narration b) (parties b)
-    unfolding stepAt
-    plays-played =
-        let e = steps-length b in
-        record {
-          senders = λ s l. (let k : s < steps b = omega arith in subst (λ (a : Step). a .sender < parties b) (sym (step-is b s k)) (plays .valid .stepsKeep s k .sends));
-          playable = λ s l. plays .playable s (omega arith);
-        }
+  -- the listing of a book that plays
+  pub plays-programs : Plays b → Programs (narration b) (parties b) (spelled b (listing b))
+  plays-programs plays = spelled-programs (listing b) (listing-spells b (plays .valid))
 
 -- ---- a book whose outcome is a listing
 module _ (b out : List ℕ) (accepted : outcome b out .says .number ≡ 0) where
-  accepted-plays : Plays b × (length (listing b) ≤ length out)
+  pub accepted-plays : Plays b
   unfolding outcome
-  accepted-plays = exactly-written b out .0 accepted
+  accepted-plays = exactly-written b out .0 accepted .0
 
   -- the words that a party's part of the lent memory holds are its program
-  pub outcome-spells : (p : ℕ) → p < parties b → readProgram (term (table b)) (partOf (outcome b out .lent) p) ≡ some (programOf (narration b) p)
+  pub outcome-spells : (p : ℕ) → p < parties b
+      → readProgram (term (table b)) (partOf (outcome b out .lent) p) ≡ some (programOf (narration b) p)
   unfolding listing
   outcome-spells p h =
       let n = values-length (partWords b) 0 (parties b) in
       ap (λ w. readProgram (term (table b)) (partOf w p)) (written-past b out accepted)
       ∙ ap (readProgram (term (table b))) (part-within (values (partWords b) 0 (parties b)) (drop (length (listing b)) out) p (omega arith))
-      ∙ listing-spells b (accepted-plays .0 .valid) p h
+      ∙ listing-spells b (accepted-plays .valid) p h
 
   pub accepted-programs : Programs (narration b) (parties b) (spelled b (outcome b out .lent))
   accepted-programs = spelled-programs b (outcome b out .lent) outcome-spells
-
-  pub accepted-played : Played (narration b) (parties b)
-  accepted-played = plays-played b (accepted-plays .0)

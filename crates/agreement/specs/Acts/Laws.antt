@@ -13,9 +13,9 @@ use Rattle.words.specs.Choice.Laws.{pick-ind}
 use Rattle.translation.specs.Program.{Step, Act, actsOf}
 use Rattle.translation.specs.Narration.{Narration}
 use Rattle.translation.specs.Taken.{stepOf}
-use Rattle.agreement.specs.Agree.{Said}
-use Rattle.agreement.specs.Safe.Laws.{ActsSaid}
-use Rattle.agreement.specs.Parts.{Parts}
+use Rattle.agreement.specs.Agree.{Narrated}
+use Rattle.agreement.specs.Safe.Laws.{ActsNarrated}
+use Rattle.agreement.specs.Acts.{ActsFrom}
 
 module _ (N : Narration) where
   -- the step behind those of `before`
@@ -23,8 +23,8 @@ module _ (N : Narration) where
   unfolding stepOf
   step-seam before a later e = rw e (getD-append-seam before a later _)
 
-  said-seam : (before : List Step) (a : Step) (later : List Step) → N .says ≡ before ++ a ∷ later → Said N (length before) (a .messages)
-  said-seam before a later e =
+  narrated-seam : (before : List Step) (a : Step) (later : List Step) → N .says ≡ before ++ a ∷ later → Narrated N (length before) (a .messages)
+  narrated-seam before a later e =
       let l = ap length e ∙ length-append before (a ∷ later) in
       record { within = omega arith; messages = ap (λ (b : Step). b .messages) (step-seam before a later e) }
 
@@ -36,35 +36,36 @@ module _ (N : Narration) where
   length-on before a = let l = length-append before (a ∷ []) in omega arith
 
   module _ (p : ℕ) where
-    parts-low : {low high : ℕ} {acts : List Act} → low ≤ high → Parts N p high acts → Parts N p low acts
-    parts-low l Parts.nil = Parts.nil
-    parts-low l (Parts.sends m w e r) = Parts.sends (le-trans l m) w e r
-    parts-low l (Parts.receives m w e r) = Parts.receives (le-trans l m) w e r
+    acts-low : {low high : ℕ} {acts : List Act} → low ≤ high → ActsFrom N p high acts → ActsFrom N p low acts
+    acts-low l ActsFrom.nil = ActsFrom.nil
+    acts-low l (ActsFrom.sends m w e r) = ActsFrom.sends (le-trans l m) w e r
+    acts-low l (ActsFrom.receives m w e r) = ActsFrom.receives (le-trans l m) w e r
 
-    own-parts-from : (before later : List Step) → N .says ≡ before ++ later → Parts N p (length before) (actsOf p (length before) later)
+    own-acts-from : (before later : List Step) → N .says ≡ before ++ later → ActsFrom N p (length before) (actsOf p (length before) later)
     unfolding actsOf
-    own-parts-from before [] e = Parts.nil
-    own-parts-from before (a ∷ later) e =
-        let rest : Parts N p (suc (length before)) (actsOf p (suc (length before)) later) = subst (λ n. Parts N p n (actsOf p n later)) (length-on before a) (own-parts-from (before ++ a ∷ []) later (split-on before a later e)) in
-        let w = said-seam before a later e in
+    own-acts-from before [] e = ActsFrom.nil
+    own-acts-from before (a ∷ later) e =
+        let rest : ActsFrom N p (suc (length before)) (actsOf p (suc (length before)) later) =
+        subst (λ n. ActsFrom N p n (actsOf p n later)) (length-on before a) (own-acts-from (before ++ a ∷ []) later (split-on before a later e)) in
+        let w = narrated-seam before a later e in
         let z = step-seam before a later e in
-        pick-ind (Parts N p (length before)) (eqb (a .sender) p) _ _
-        (λ c. Parts.sends (le-refl _) w (ap (λ (b : Step). b .sender) z ∙ eqb-true _ _ c) rest)
-        (λ c. pick-ind (Parts N p (length before)) (eqb (a .receiver) p) _ _
-        (λ d. Parts.receives (le-refl _) w (ap (λ (b : Step). b .receiver) z ∙ eqb-true _ _ d) rest)
-        (λ d. parts-low (omega arith) rest))
+        pick-ind (ActsFrom N p (length before)) (eqb (a .sender) p) _ _
+        (λ c. ActsFrom.sends (le-refl _) w (ap (λ (b : Step). b .sender) z ∙ eqb-true _ _ c) rest)
+        (λ c. pick-ind (ActsFrom N p (length before)) (eqb (a .receiver) p) _ _
+        (λ d. ActsFrom.receives (le-refl _) w (ap (λ (b : Step). b .receiver) z ∙ eqb-true _ _ d) rest)
+        (λ d. acts-low (omega arith) rest))
 
-    pub own-parts : Parts N p 0 (actsOf p 0 (N .says))
-    own-parts = own-parts-from [] (N .says) refl
+    pub own-acts : ActsFrom N p 0 (actsOf p 0 (N .says))
+    own-acts = own-acts-from [] (N .says) refl
 
-    pub parts-said : {low : ℕ} {acts : List Act} → Parts N p low acts → ActsSaid N acts
-    parts-said Parts.nil = tt
-    parts-said (Parts.sends m w e r) = (w, parts-said r)
-    parts-said (Parts.receives m w e r) = (w, parts-said r)
+    pub acts-narrated : {low : ℕ} {acts : List Act} → ActsFrom N p low acts → ActsNarrated N acts
+    acts-narrated ActsFrom.nil = tt
+    acts-narrated (ActsFrom.sends m w e r) = (w, acts-narrated r)
+    acts-narrated (ActsFrom.receives m w e r) = (w, acts-narrated r)
 
     -- a step that the party sends is among its acts
-    own-sends-from : (before later : List Step) (s : ℕ) → N .says ≡ before ++ later → length before ≤ s → s < length (N .says) → stepOf N s .sender ≡ p
-        → List·Memᴰ (Act.sends s (stepOf N s .messages)) (actsOf p (length before) later)
+    own-sends-from : (before later : List Step) (s : ℕ) → N .says ≡ before ++ later → length before ≤ s → s < length (N .says)
+        → stepOf N s .sender ≡ p → List·Memᴰ (Act.sends s (stepOf N s .messages)) (actsOf p (length before) later)
     unfolding actsOf
     own-sends-from before [] s e l m c = let n = ap length e ∙ length-append before [] in absurd (omega arith)
     own-sends-from before (a ∷ later) s e l m c =
@@ -75,7 +76,8 @@ module _ (N : Narration) where
         acts : List Act
         acts = actsOf p (suc (length before)) later
 
-        go : Dec (length before ≡ s) → (suc (length before) ≤ s → List·Memᴰ (Act.sends s (stepOf N s .messages)) acts) → List·Memᴰ (Act.sends s (stepOf N s .messages)) (actsOf p (length before) (a ∷ later))
+        go : Dec (length before ≡ s) → (suc (length before) ≤ s → List·Memᴰ (Act.sends s (stepOf N s .messages)) acts)
+            → List·Memᴰ (Act.sends s (stepOf N s .messages)) (actsOf p (length before) (a ∷ later))
         go (yes q) r =
             let z : stepOf N s ≡ a = ap (stepOf N) (sym q) ∙ step-seam before a later e in
             unfold actsOf in
@@ -85,7 +87,8 @@ module _ (N : Narration) where
         go (no q) r =
             unfold actsOf in
             pick-ind (List·Memᴰ (Act.sends s (stepOf N s .messages))) (eqb (a .sender) p) _ _ (λ d. List·Memᴰ·tail (r (omega arith)))
-            (λ d. pick-ind (List·Memᴰ (Act.sends s (stepOf N s .messages))) (eqb (a .receiver) p) _ _ (λ f. List·Memᴰ·tail (r (omega arith))) (λ f. r (omega arith)))
+            (λ d. pick-ind (List·Memᴰ (Act.sends s (stepOf N s .messages))) (eqb (a .receiver) p) _ _ (λ f. List·Memᴰ·tail (r (omega arith)))
+            (λ f. r (omega arith)))
 
     pub own-sends-in : (s : ℕ) → s < length (N .says) → stepOf N s .sender ≡ p → List·Memᴰ (Act.sends s (stepOf N s .messages)) (actsOf p 0 (N .says))
     own-sends-in s m c = own-sends-from [] (N .says) s refl (omega arith) m c

@@ -6,13 +6,12 @@ use Prim.Native.Nat.{ℕ, suc}
 use mathlib.Core.Bool.{Bool, true, false}
 use mathlib.Core.List.{List, [], _∷_}
 use mathlib.Core.Option.{Option, none, some}
-use lib.Dec.{eqb}
-use Rattle.words.specs.Choice.{pick, choose}
+use Rattle.words.specs.Choice.{pick, choose, then}
 use Rattle.terms.specs.Term.{Term, Terms, same}
 use Rattle.terms.specs.Image.{Image, Images}
-use Rattle.translation.specs.Spelling.{then}
+use Rattle.agreement.specs.Change.{change}
 
-pub record View : Type 0 where
+pub record Sight : Type 0 where
   -- the terms that it holds as themselves: known at the start, or made
   pub itself : List Term
   -- its bound placeholders, by the number that the listing names
@@ -24,7 +23,7 @@ holds (u ∷ us) t = choose (same u t) true (holds us t)
 
 -- ---- the term that an image stands for
 unfoldable mutual
-  pub value : View → Image → Option Term
+  pub value : Sight → Image → Option Term
   value v (Image.itself t) = pick (holds (v .itself) t) (some t) none
   value v (Image.placeholder x) = v .placeholders x
   value v (Image.operation g is) = then (valueAll v is) (λ ts. some (Term.operation g ts))
@@ -32,22 +31,18 @@ unfoldable mutual
   value v (Image.public i) = then (value v i) (λ t. some (Term.public t))
   value v (Image.private i) = then (value v i) (λ t. some (Term.private t))
 
-  pub valueAll : View → Images → Option Terms
+  pub valueAll : Sight → Images → Option Terms
   valueAll v Images.nil = some Terms.nil
   valueAll v (Images.cons i is) = then (value v i) (λ t. then (valueAll v is) (λ ts. some (Terms.cons t ts)))
 
 -- ---- bound placeholders and atoms made
--- f with another value at p
-unfoldable pub change : {A : Type 0} → (ℕ → A) → ℕ → A → ℕ → A
-change f p a q = pick (eqb p q) a (f q)
-
 -- the placeholders from x on stand for the terms
 unfoldable pub bind : ℕ → Terms → (ℕ → Option Term) → ℕ → Option Term
 bind x Terms.nil f = f
 bind x (Terms.cons t ts) f = bind (suc x) ts (change f x (some t))
 
-abbrev pub binds : ℕ → Terms → View → View
+abbrev pub binds : ℕ → Terms → Sight → Sight
 binds x ts v = record { itself = v .itself; placeholders = bind x ts (v .placeholders) }
 
-abbrev pub gains : ℕ → View → View
+abbrev pub gains : ℕ → Sight → Sight
 gains r v = record { itself = Term.atom r ∷ v .itself; placeholders = v .placeholders }

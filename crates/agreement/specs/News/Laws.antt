@@ -11,19 +11,21 @@ use lib.Seq.{take-append-seam}
 use lib.Dec.{eqb}
 use borrow.Author.Tests.{eqb-true}
 use Rattle.words.specs.Choice.Laws.{pick-ind}
+use Rattle.words.specs.Run.{NoRepeat}
+use Rattle.words.specs.Run.Laws.{no-repeat-append}
 use Rattle.terms.specs.Term.{Term, Terms, count, listed, Occurs, OccursIn}
 use Rattle.terms.specs.Image.{Images}
 use Rattle.translation.specs.Dictionary.{Dictionary, start}
 use Rattle.translation.specs.Build.{buildAll}
-use Rattle.translation.specs.Build.Laws.{NoRepeat, no-repeat-append, buildAll-makes, derivesAll-free}
+use Rattle.translation.specs.Build.Laws.{buildAll-makes, derivesAll-free}
 use Rattle.translation.specs.Receive.{Event, Did, followed, receiveAll}
 use Rattle.translation.specs.Receive.Laws.{Quiet, receiveAll-quiet}
 use Rattle.translation.specs.Program.{Step, Act, actsOf, act, walk, walked, program}
 use Rattle.translation.specs.Program.Laws.{acts-append, walk-append}
 use Rattle.translation.specs.Narration.{Narration, knownTo, programOf}
 use Rattle.translation.specs.Taken.{Taken, Nobodys, stepOf, holdsBefore, madeAt, Playable}
-use Rattle.agreement.specs.Parts.Laws.{step-seam, split-on, length-on}
-use Rattle.agreement.specs.Making.{news, MadeFrom}
+use Rattle.agreement.specs.Acts.Laws.{step-seam, split-on, length-on}
+use Rattle.agreement.specs.News.{news, MadeFrom}
 
 -- ---- news
 news-append : (es fs : List Event) → news (es ++ fs) ≡ news es ++ news fs
@@ -49,7 +51,8 @@ news-new (r ∷ rs) s is = ap (λ l. r ∷ l) (news-new rs s is)
 
 news-sends : (s : ℕ) (ts : Terms) (δ : Dictionary) (n : ℕ) → news (walk (Act.sends s ts ∷ []) δ n .events) ≡ buildAll ts δ .made
 unfolding walk act
-news-sends s ts δ n = let b = buildAll ts δ in ap news (append-nil (map Event.new (b .made) ++ Event.sends s (b .images) ∷ [])) ∙ news-new (b .made) s (b .images)
+news-sends s ts δ n =
+    let b = buildAll ts δ in ap news (append-nil (map Event.new (b .made) ++ Event.sends s (b .images) ∷ [])) ∙ news-new (b .made) s (b .images)
 
 news-receives : (s : ℕ) (ts : Terms) (δ : Dictionary) (n : ℕ) → news (walk (Act.receives s ts ∷ []) δ n .events) ≡ []
 unfolding walk act news
@@ -72,7 +75,8 @@ module _ (N : Narration) (p : ℕ) where
   on : (before : List Step) (a : Step) → doneBefore (before ++ a ∷ []) ≡ followed (doneBefore before) (doneAt before a)
   unfolding walked
   on before a =
-      ap (λ acts. walk acts (start (knownTo N p)) 0) (acts-append p 0 before (a ∷ []) ∙ ap (λ n. actsOf p 0 before ++ actsOf p n (a ∷ [])) (zero-add (length before)))
+      ap (λ acts. walk acts (start (knownTo N p)) 0)
+      (acts-append p 0 before (a ∷ []) ∙ ap (λ n. actsOf p 0 before ++ actsOf p n (a ∷ [])) (zero-add (length before)))
       ∙ walk-append (actsOf p 0 before) (actsOf p (length before) (a ∷ [])) (start (knownTo N p)) 0
       ∙ ap (λ n. followed (doneBefore before) (walk (actsOf p (length before) (a ∷ [])) (doneBefore before .dictionary) n)) (zero-add _)
 
@@ -100,16 +104,20 @@ module _ (N : Narration) (p : ℕ) where
       (λ d. subst (MadeHere before) (sym (news-receives k (a .messages) (B .dictionary) n)) MadeHere.idles)
       (λ d. subst (MadeHere before) (sym (news-idle (B .dictionary) n)) MadeHere.idles))
     where
-      made : stepOf N (length before) ≡ a → stepOf N (length before) .sender ≡ p → madeAt N (length before) ≡ buildAll (a .messages) (doneBefore before .dictionary) .made
+      made : stepOf N (length before) ≡ a → stepOf N (length before) .sender ≡ p
+          → madeAt N (length before) ≡ buildAll (a .messages) (doneBefore before .dictionary) .made
       made z q =
           unfold madeAt in
-          ap₂ (λ (b : Step) (h : Dictionary). buildAll (b .messages) h .made) z (ap (λ r. holdsBefore N r (length before)) q ∙ holds-before before (a ∷ later) e)
+          ap₂ (λ (b : Step) (h : Dictionary). buildAll (b .messages) h .made) z
+          (ap (λ r. holdsBefore N r (length before)) q ∙ holds-before before (a ∷ later) e)
 
-  here-then : {before : List Step} {rs qs : List ℕ} → length before < length (N .says) → MadeHere before rs → MadeFrom N p (suc (length before)) qs → MadeFrom N p (length before) (rs ++ qs)
+  here-then : {before : List Step} {rs qs : List ℕ} → length before < length (N .says) → MadeHere before rs → MadeFrom N p (suc (length before)) qs
+      → MadeFrom N p (length before) (rs ++ qs)
   here-then l (MadeHere.sends e) r = MadeFrom.sends l e r
   here-then l MadeHere.idles r = MadeFrom.idles r
 
-  made-from : (before later : List Step) → N .says ≡ before ++ later → MadeFrom N p (length before) (news (walk (actsOf p (length before) later) (doneBefore before .dictionary) (length (doneBefore before .given)) .events))
+  made-from : (before later : List Step) → N .says ≡ before ++ later
+      → MadeFrom N p (length before) (news (walk (actsOf p (length before) later) (doneBefore before .dictionary) (length (doneBefore before .given)) .events))
   unfolding actsOf walk news
   made-from before [] e = MadeFrom.nothing
   made-from before (a ∷ later) e =
@@ -123,12 +131,14 @@ module _ (N : Narration) (p : ℕ) where
       let w : walk (actsOf p k (a ∷ later)) (B .dictionary) n ≡ followed D (walk (actsOf p (suc k) later) (D .dictionary) (n + length (D .given))) =
       ap (λ acts. walk acts (B .dictionary) n) (acts-append p k (a ∷ []) later ∙ ap (λ m. actsOf p k (a ∷ []) ++ actsOf p m later) one)
       ∙ walk-append (actsOf p k (a ∷ [])) (actsOf p (suc k) later) (B .dictionary) n in
+      let C = doneBefore (before ++ a ∷ []) in
       let again = made-from (before ++ a ∷ []) later (split-on N before a later e) in
       let rest : MadeFrom N p (suc k) (news (walk (actsOf p (suc k) later) (D .dictionary) (n + length (D .given)) .events)) =
       subst (λ m. MadeFrom N p (suc k) (news (walk (actsOf p (suc k) later) (D .dictionary) m .events))) g
       (subst (λ (d : Did). MadeFrom N p (suc k) (news (walk (actsOf p (suc k) later) (d .dictionary) (length (d .given)) .events))) (on before a)
-      (subst (λ m. MadeFrom N p m (news (walk (actsOf p m later) (doneBefore (before ++ a ∷ []) .dictionary) (length (doneBefore (before ++ a ∷ []) .given)) .events))) (length-on N before a) again)) in
-      subst (MadeFrom N p k) (sym (ap (λ (d : Did). news (d .events)) w ∙ news-append (D .events) _)) (here-then (omega arith) (made-here before a later e) rest)
+      (subst (λ m. MadeFrom N p m (news (walk (actsOf p m later) (C .dictionary) (length (C .given)) .events))) (length-on N before a) again)) in
+      subst (MadeFrom N p k) (sym (ap (λ (d : Did). news (d .events)) w ∙ news-append (D .events) _))
+      (here-then (omega arith) (made-here before a later e) rest)
 
   program-makes : MadeFrom N p 0 (news (programOf N p))
   unfolding programOf program walked actsOf walk news
@@ -204,7 +214,8 @@ module _ (N : Narration) where
     from-once : {p low : ℕ} {rs : List ℕ} → MadeFrom N p low rs → NoRepeat rs
     from-once MadeFrom.nothing = tt
     from-once {low = low} (MadeFrom.sends {rs = rs} l e h) =
-        no-repeat-append (madeAt N low) rs (made-once low) (from-once h) (λ r m n. let z = from-makes h n in two-steps low (z .step) r (z .from) (z .within) m (z .member))
+        no-repeat-append (madeAt N low) rs (made-once low) (from-once h)
+        (λ r m n. let z = from-makes h n in two-steps low (z .step) r (z .from) (z .within) m (z .member))
     from-once (MadeFrom.idles h) = from-once h
 
     -- what a program makes is nobody's at the start, is made once, and by no other party's program

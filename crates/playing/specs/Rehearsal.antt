@@ -2,37 +2,33 @@
 -- a schedule of party numbers .., each move lets that party do its next event, or nothing if it is at END or waits for a step not yet
 -- sent. The output is Q words: events done by each party, END not counted. .. The rehearsal is the case in which a sent step's copy is
 -- handed over whenever its waiting receiver is moved." So a move of the rehearsal is a move of the plain machine, and the machine
--- starts from the programs that the listing's words spell.
-use Prim.Native.Nat.{ℕ}
+-- starts from the programs that the listing's words spell. Refusal 11: "rehearsal only: more than 4,096 moves, or a move that names no
+-- party", "4,096, else smallest bad move".
+use Prim.Native.Nat.{ℕ, _≤_, _<_}
 use mathlib.Core.List.{List, [], _∷_, _++_}
+use mathlib.Core.Path.{_≡_}
 use lib.ListN.{length, getD}
 use lib.Dec.{ltb, leb}
-use Rattle.words.specs.Run.{values}
+use Rattle.words.specs.Run.{All, values}
 use Rattle.book.specs.Layout.{parties}
 use Rattle.book.specs.Said.{Said, said}
 use Rattle.book.specs.Refusals.{Line, line, here, firstOf, readingTable}
 use Rattle.translation.specs.Receive.{Event}
+use Rattle.translation.specs.Standing.{standing, ifWaits}
 use Rattle.translation.specs.Narration.{narration}
 use Rattle.translation.specs.Listing.{listing}
 use Rattle.translation.specs.Outcome.{Outcome, takenLine, roomLine, laid}
-use Rattle.agreement.specs.Machine.{System, Move, move}
+use Rattle.agreement.specs.Machine.{System, Move, move, started}
 use Rattle.agreement.specs.Agree.{receiverOf}
-use Rattle.agreement.specs.Spelled.{started}
 pub mod Laws
 pub mod Came
-pub mod Trials
+pub mod Rehearsals
 pub mod Idle
 
 -- ---- the play
 -- the move that party p makes with these events left: it takes the copy of the step that it waits for, or moves by itself
 unfoldable pub moveOf : ℕ → List Event → Move
-moveOf p [] = Move.own p
-moveOf p (Event.new r ∷ es) = Move.own p
-moveOf p (Event.sends s is ∷ es) = Move.own p
-moveOf p (Event.receives s f n ∷ es) = Move.delivery s
-moveOf p (Event.checks x i ∷ es) = Move.own p
-moveOf p (Event.opens x f n i ∷ es) = Move.own p
-moveOf p (Event.ends ps ∷ es) = Move.own p
+moveOf p es = ifWaits (standing es) (λ s f n. Move.delivery s) (Move.own p)
 
 -- the parties of a schedule move one after another
 unfoldable pub played : (ℕ → ℕ) → List ℕ → System → System
@@ -63,3 +59,19 @@ rehearsalSays b ms out =
 -- of the words b, the schedule ms and the lent words out
 unfoldable pub rehearsal : List ℕ → List ℕ → List ℕ → Outcome
 rehearsal b ms out = laid (rehearsalSays b ms out) out (eventsDone b ms)
+
+-- ---- what is said of it, and proved in Laws
+-- what it promises of the words b, the schedule ms and the lent words out
+abbrev pub RehearsalPromise : List ℕ → List ℕ → List ℕ → Outcome → Type 0
+RehearsalPromise b ms out o = o ≡ rehearsal b ms out
+
+-- refusal 11 is due with the values vs: more than 4,096 moves; or at most that many, and place i is the smallest whose move names none
+-- of the q parties
+pub data BadMoves (q : ℕ) (ms vs : List ℕ) : Type 0 where
+  long : mostMoves < length ms → vs ≡ mostMoves ∷ [] → BadMoves q ms vs
+  nameless : length ms ≤ mostMoves → (i : ℕ) → i < length ms → q ≤ getD ms i 0
+      → ((k : ℕ) → k < i → getD ms k 0 < q) → vs ≡ i ∷ [] → BadMoves q ms vs
+
+-- every move names a party
+abbrev pub Named : ℕ → List ℕ → Type 0
+Named q ms = All (λ p. p < q) ms

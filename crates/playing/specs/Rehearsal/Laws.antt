@@ -11,7 +11,6 @@ use lib.ListN.{length, getD, drop}
 use lib.Seq.{sets}
 use lib.Dec.{ltb, leb}
 use borrow.Author.Tests.{ltb-false, le-ltb, leb-false, lt-leb}
-use Rattle.words.specs.Run.{All}
 use Rattle.words.specs.Run.Laws.{values-length, all-getD, getD-all}
 use Rattle.book.specs.Layout.{parties}
 use Rattle.book.specs.Said.{Said, said}
@@ -21,31 +20,30 @@ use Rattle.book.specs.Refusals.Laws.{append-keep, keep-append, given, passed, c
 use Rattle.book.specs.Valid.{Valid}
 use Rattle.translation.specs.Outcome.{roomLine, acceptance, Outcome, Unplayable, Plays}
 use Rattle.translation.specs.Outcome.Laws.{room-line, ends-in-room, room-exact, room-says, fits-exact, laid-keeps, laid-lays, laid-past, ten, ten-lines, book-first, takenLine-exact, keep-plays, plays-keep}
-use Rattle.agreement.specs.Rehearsal.{eventsDone, mostMoves, longLine, moveLine, rehearsalSays, rehearsal}
+use Rattle.playing.specs.Rehearsal.{eventsDone, mostMoves, longLine, moveLine, rehearsalSays, rehearsal, BadMoves, Named, RehearsalPromise}
 
 -- ---- refusal 11
--- more than 4,096 moves; or at most that many, and place i is the smallest whose move names none of the q parties
-pub data BadMoves (q : ℕ) (ms vs : List ℕ) : Type 0 where
-  long : mostMoves < length ms → vs ≡ mostMoves ∷ [] → BadMoves q ms vs
-  nameless : length ms ≤ mostMoves → (i : ℕ) → i < length ms → q ≤ getD ms i 0 → ((k : ℕ) → k < i → getD ms k 0 < q) → vs ≡ i ∷ [] → BadMoves q ms vs
-
--- every move names a party
-abbrev pub Named : ℕ → List ℕ → Type 0
-Named q ms = All (λ p. p < q) ms
-
 abbrev long-line : List ℕ → Ruled
 long-line ms =
-    record { line = line 11 1 (λ i. ltb mostMoves (length ms)) (λ i. mostMoves ∷ []); rule = λ i. length ms ≤ mostMoves; exact = λ i. (λ e. ltb-false _ _ e, λ h. le-ltb _ _ h) }
+    record {
+      line = line 11 1 (λ i. ltb mostMoves (length ms)) (λ i. mostMoves ∷ []);
+      rule = λ i. length ms ≤ mostMoves;
+      exact = λ i. (λ e. ltb-false _ _ e, λ h. le-ltb _ _ h);
+    }
 
 abbrev move-line : ℕ → List ℕ → Ruled
 move-line q ms =
-    record { line = line 11 (length ms) (λ i. leb q (getD ms i 0)) here; rule = λ i. getD ms i 0 < q; exact = λ i. (λ e. leb-false _ _ e, λ h. lt-leb _ _ h) }
+    record {
+      line = line 11 (length ms) (λ i. leb q (getD ms i 0)) here;
+      rule = λ i. getD ms i 0 < q;
+      exact = λ i. (λ e. leb-false _ _ e, λ h. lt-leb _ _ h);
+    }
 
 module _ (b ms : List ℕ) where
   -- ---- refusals 1 to 10 are the book's
-  pub acceptance-first : (out : List ℕ) → (acceptance b .number ≡ 0 → ⊥) → rehearsalSays b ms out ≡ acceptance b
+  pub rehearsal-acceptance-first : (out : List ℕ) → (acceptance b .number ≡ 0 → ⊥) → rehearsalSays b ms out ≡ acceptance b
   unfolding rehearsalSays
-  acceptance-first out n = book-first b _ _ n
+  rehearsal-acceptance-first out n = book-first b _ _ n
 
   -- ---- the lines before refusal 12
   abbrev moves : List Ruled
@@ -64,8 +62,8 @@ module _ (b ms : List ℕ) where
       (keep-plays b (r .0), r .1 .0 0 (omega arith), getD-all (λ q. q < parties b) ms (r .1 .1 .0))
 
   -- ---- refusal 10
-  pub exactly-10 : (out vs : List ℕ) → (rehearsalSays b ms out ≡ said 10 vs) ↔ (Valid b × Unplayable b vs)
-  exactly-10 out vs =
+  pub rehearsal-exactly-10 : (out vs : List ℕ) → (rehearsalSays b ms out ≡ said 10 vs) ↔ (Valid b × Unplayable b vs)
+  rehearsal-exactly-10 out vs =
       let r = takenLine-exact b (moves ++ room-line (length out) (parties b) ∷ []) (said 0 (parties b ∷ [])) (omega arith) (omega arith) vs in
       (λ e. r .0 (sym (says-lines out) ∙ e), λ u. says-lines out ∙ r .1 u)
 
@@ -83,13 +81,15 @@ module _ (b ms : List ℕ) where
     bad-given : AllKeep (ten b) → BadMoves (parties b) ms vs → ends-in-room (ten b ++ moves) (length out) (parties b) ≡ said 11 vs
     bad-given k (BadMoves.long h e) = given (ten b) (long-line ms) behind rest vs k (cause-long vs h e)
     bad-given k (BadMoves.nameless l i h n s e) =
-        given (ten b ++ long-line ms ∷ []) (move-line (parties b) ms) (room-line (length out) (parties b) ∷ []) rest vs (append-keep (ten b) (long-line ms ∷ []) k (λ i j. l, tt))
+        given (ten b ++ long-line ms ∷ []) (move-line (parties b) ms) (room-line (length out) (parties b) ∷ []) rest vs
+        (append-keep (ten b) (long-line ms ∷ []) k (λ i j. l, tt))
         (record { place = i; within = h; broken = λ j. omega arith; smallest = s; says = e })
 
     given-bad : firstOf (long-line ms .line ∷ lines behind) rest ≡ said 11 vs → BadMoves (parties b) ms vs
     given-bad e = elim (decLt mostMoves (length ms)) [
       | yes h ↦
-          BadMoves.long h (ap (λ (s : Said). s .values) (sym e ∙ given [] (long-line ms) behind rest (mostMoves ∷ []) tt (cause-long (mostMoves ∷ []) h refl)))
+          BadMoves.long h (ap (λ (s : Said). s .values)
+          (sym e ∙ given [] (long-line ms) behind rest (mostMoves ∷ []) tt (cause-long (mostMoves ∷ []) h refl)))
       | no h ↦
           let l : length ms ≤ mostMoves = omega arith in
           let k = all-keep (long-line ms ∷ []) (lines behind) rest (λ i j. l, tt) in
@@ -100,16 +100,17 @@ module _ (b ms : List ℕ) where
         no-party : (i : ℕ) → (getD ms i 0 < parties b → ⊥) → parties b ≤ getD ms i 0
         no-party i n = elim (decLt (getD ms i 0) (parties b)) [ yes h ↦ absurd (n h) | no h ↦ omega arith ]
 
-    pub exactly-11 : (rehearsalSays b ms out ≡ said 11 vs) ↔ (Plays b × BadMoves (parties b) ms vs)
-    exactly-11 = (
+    pub rehearsal-exactly-11 : (rehearsalSays b ms out ≡ said 11 vs) ↔ (Plays b × BadMoves (parties b) ms vs)
+    rehearsal-exactly-11 = (
       λ e. (let r = passed 11 (ten b) (long-line ms .line ∷ lines behind) rest vs (omega arith) (sym (says-lines out) ∙ e) in
           (keep-plays b (r .0), given-bad (r .1))),
       λ u. says-lines out ∙ bad-given (plays-keep b (u .0)) (u .1),
     )
 
   -- ---- refusal 12
-  pub exactly-12 : (out vs : List ℕ) → (rehearsalSays b ms out ≡ said 12 vs) ↔ (Plays b × (length ms ≤ mostMoves) × Named (parties b) ms × (length out < parties b) × (vs ≡ parties b ∷ []))
-  exactly-12 out vs =
+  pub rehearsal-exactly-12 : (out vs : List ℕ) → (rehearsalSays b ms out ≡ said 12 vs)
+      ↔ (Plays b × (length ms ≤ mostMoves) × Named (parties b) ms × (length out < parties b) × (vs ≡ parties b ∷ []))
+  rehearsal-exactly-12 out vs =
       let r = room-exact (ten b ++ moves) (length out) (parties b) (omega arith) vs in (
         λ e. (let z = r .0 (sym (says-lines out) ∙ e) in
             let k = all-kept (z .0) in
@@ -118,7 +119,8 @@ module _ (b ms : List ℕ) where
       )
 
   -- ---- the schedule is played
-  pub exactly-played : (out : List ℕ) → (rehearsalSays b ms out .number ≡ 0) ↔ (Plays b × (length ms ≤ mostMoves) × Named (parties b) ms × (parties b ≤ length out))
+  pub exactly-played : (out : List ℕ) → (rehearsalSays b ms out .number ≡ 0)
+      ↔ (Plays b × (length ms ≤ mostMoves) × Named (parties b) ms × (parties b ≤ length out))
   exactly-played out =
       let n = ap (λ (s : Said). s .number) (says-lines out) in
       let r = fits-exact (ten b ++ moves) (length out) (parties b) (omega arith) in (
@@ -128,13 +130,14 @@ module _ (b ms : List ℕ) where
         λ u. n ∙ r .1 (keep-all (u .0) (u .1) (u .2), u .3),
       )
 
-  pub played-says : (out : List ℕ) → Plays b → length ms ≤ mostMoves → Named (parties b) ms → parties b ≤ length out → rehearsalSays b ms out ≡ said 0 (parties b ∷ [])
+  pub played-says : (out : List ℕ) → Plays b → length ms ≤ mostMoves → Named (parties b) ms → parties b ≤ length out
+      → rehearsalSays b ms out ≡ said 0 (parties b ∷ [])
   played-says out p l a h = says-lines out ∙ room-says (ten b ++ moves) (length out) (parties b) (keep-all p l a) h
 
   -- a refusal changes no lent word
-  pub refused-keeps : (out : List ℕ) → (rehearsal b ms out .says .number ≡ 0 → ⊥) → rehearsal b ms out .lent ≡ out
+  pub rehearsal-keeps : (out : List ℕ) → (rehearsal b ms out .says .number ≡ 0 → ⊥) → rehearsal b ms out .lent ≡ out
   unfolding rehearsal
-  refused-keeps out n = laid-keeps (rehearsalSays b ms out) out (eventsDone b ms) n
+  rehearsal-keeps out n = laid-keeps (rehearsalSays b ms out) out (eventsDone b ms) n
 
   -- else the events done are laid over what was lent
   pub played-lays : (out : List ℕ) → rehearsal b ms out .says .number ≡ 0 → rehearsal b ms out .lent ≡ sets out 0 (eventsDone b ms)
@@ -156,9 +159,5 @@ module _ (b ms : List ℕ) where
       laid-past (rehearsalSays b ms out) out (eventsDone b ms) e (omega arith) ∙ ap (λ n. eventsDone b ms ++ drop n out) d
 
 -- ---- no two outcomes keep one promise
--- what a rehearsal promises of the words b, the schedule ms and the lent words out
-abbrev pub Promise : List ℕ → List ℕ → List ℕ → Outcome → Type 0
-Promise b ms out o = o ≡ rehearsal b ms out
-
-pub rehearsal-one : (b ms out : List ℕ) (o p : Outcome) → Promise b ms out o → Promise b ms out p → o ≡ p
+pub rehearsal-one : (b ms out : List ℕ) (o p : Outcome) → RehearsalPromise b ms out o → RehearsalPromise b ms out p → o ≡ p
 rehearsal-one b ms out o p e f = e ∙ sym f

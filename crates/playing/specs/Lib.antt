@@ -1,0 +1,2 @@
+pub mod Rehearsal
+pub mod Counting

@@ -1,0 +1,1 @@
+// The rehearsal's meaning and its counting: meaning only.

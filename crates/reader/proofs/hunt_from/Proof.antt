@@ -1,55 +1,57 @@
--- `reader::hunt_from` meets its contract: a row up to a part has its own parts before it, and can't agree. Assumes nothing.
+-- `reader::hunt_from` meets its contract: a row up to one of the row's parts has its own parts before it, and can't agree with the row.
+-- Assumes nothing.
+use Prim.Native.Nat.{_-_, _≤_, _<_}
 use mathlib.Core.Logic.{inl, inr}
-use mathlib.Core.Path.{_≡_}
-use mathlib.Core.Bool.{false}
-use Prim.Native.Nat.{ℕ, _-_, _≤_, _<_}
-use Rattle.book.specs.Rules.{agrees}
-use Rattle.reader.proofs.Laws.{part-inside, part-before, before-part}
-use borrow.Author.Needs.{needs}
 use native.Mathlib.Omega.{arith}
+use borrow.Author.Needs.{needs}
+use Rattle.book.specs.Rules.{agrees}
+use Rattle.reader.proofs.Rows.{Parts, parts-of}
+use Rattle.reader.proofs.Scans.{Passed, passed-none}
+use Rattle.reader.proofs.Twins.{up-to-part}
 use Rattle.reader.proofs.hunt_from.Statement.{statement}
 use Rattle.reader.proofs.hunt_from.Tie as tie
 
 abbrev Inv-loop : tie.InvT-loop
-Inv-loop book row first n from₀ j₀ from j = (j ≤ n) × ((k : ℕ) → k < from → agrees book row k ≡ false) × (from ≤ row)
+Inv-loop book row first n from₀ j₀ from j = (j ≤ n) × Passed (agrees book row) from × (from ≤ row)
 
 abbrev μ-loop : tie.MeasureT-loop
 μ-loop book row first n from₀ j₀ from j = n - j
 
-add-from : tie.Need-add-from Inv-loop μ-loop
-add-from c =
-    let after-pooled : tie.After-pooled Inv-loop μ-loop = search in
+-- the row's parts, as its first and its count say
+module _ (c : tie.After-row-count Inv-loop μ-loop) where
+  abbrev start : tie.Start Inv-loop μ-loop
+  start = search
+
+  abbrev first : tie.After-row-first Inv-loop μ-loop
+  first = search
+
+  parts : Parts (start .args .book .now) (start .args .row) (first .row-first .result) (c .row-count .result)
+  parts = search parts-of
+
+-- the part that was read is an earlier row
+earlier : (c : tie.After-pooled Inv-loop μ-loop) → c .pooled .result < start (search) .args .row
+earlier c =
     let in-loop : tie.In-loop Inv-loop μ-loop = search in
-    let after-row-count : tie.After-row-count Inv-loop μ-loop = search in
-    let after-row-first : tie.After-row-first Inv-loop μ-loop = search in
-    let start : tie.Start Inv-loop μ-loop = search in
-    let i = (part-before _ (start .pre .1) _ (start .pre .2) _ _ (after-row-first .row-first .ensures .0)
-    (after-row-count .row-count .ensures .0) _ _ (in-loop .loop-test .taken) (after-pooled .pooled .ensures)) in
+    let e = parts (search) .earlier _ (in-loop .loop-test .taken) in
     omega arith
 
+-- the hunt begins behind the part, or where it was to begin before
 loop-again : tie.Need-loop-again Inv-loop μ-loop
 loop-again c =
     let after-pooled : tie.After-pooled Inv-loop μ-loop = search in
     let in-loop : tie.In-loop Inv-loop μ-loop = search in
     let at-loop : tie.At-loop Inv-loop μ-loop = search in
-    let after-row-count : tie.After-row-count Inv-loop μ-loop = search in
-    let after-row-first : tie.After-row-first Inv-loop μ-loop = search in
-    let start : tie.Start Inv-loop μ-loop = search in (
-      let t = in-loop .loop-test .taken in omega arith,
+    let count : tie.After-row-count Inv-loop μ-loop = search in
+    let first-of : tie.After-row-first Inv-loop μ-loop = search in
+    let here : tie.Start Inv-loop μ-loop = search in
+    let before = earlier after-pooled in (
+      omega arith,
       elim (c .if1 .came) [
-        | inl w ↦ (λ k h. before-part _ (start .pre .1) _ (start .pre .2) _ _ _ _
-            (after-row-first .row-first .ensures .0) (after-row-count .row-count .ensures .0)
-            (in-loop .loop-test .taken) (after-pooled .pooled .ensures) k (let e = w .1 in omega arith))
-        | inr w ↦
-            (λ k h. at-loop .loop .inv .1 k (let e = w .1 in omega arith))
+        | inl w ↦ λ k h. up-to-part _ (here .pre .1) _ (here .pre .2) _ _ _ _ (first-of .row-first .ensures .0)
+            (count .row-count .ensures .0) (in-loop .loop-test .taken) (after-pooled .pooled .ensures) k (let e = w .1 in omega arith)
+        | inr w ↦ λ k h. at-loop .loop .inv .1 k (let e = w .1 in omega arith)
       ],
-      elim (c .if1 .came) [
-        | inl w ↦ (let i = (part-before _ (start .pre .1) _ (start .pre .2) _ _
-            (after-row-first .row-first .ensures .0) (after-row-count .row-count .ensures .0) _ _
-            (in-loop .loop-test .taken) (after-pooled .pooled .ensures)) in let e = w .1 in omega arith)
-        | inr w ↦
-            (let e = w .1 in let h = at-loop .loop .inv .2 in omega arith)
-      ],
+      elim (c .if1 .came) [ inl w ↦ (let e = w .1 in omega arith) | inr w ↦ (let e = w .1 in omega arith) ],
     )
 
 pub hunt-from-spec : {M : Type 1} → statement M
@@ -60,9 +62,9 @@ hunt-from-spec =
     μ-loop
     (λ c κs. search needs)  -- row-first-requires
     (λ c κs. search needs)  -- row-count-requires
-    (λ c. (omega arith, λ k h. absurd (omega arith), omega arith))  -- loop-holds
-    (λ c κs. search (part-inside, needs))  -- pooled-requires
-    add-from
+    (λ c. (omega arith, passed-none _, omega arith))  -- loop-holds
+    (λ c κs. (search needs, omega (arith, parts (search))))  -- pooled-requires
+    (λ c. omega (arith, earlier (search)))  -- add-from
     (λ c. search needs)  -- add-j
     (λ c. search needs)  -- loop-less
     loop-again

@@ -1,5 +1,5 @@
 -- `reader::list_breaks` meets its contract: the four tests of a list, one after the other. Assumes nothing.
-use Rattle.reader.proofs.Laws.{list-low, list-high, list-place, list-pool, list-entries}
+use Rattle.reader.proofs.Lists.{list-low, list-high, list-place, list-pool, list-entries}
 use native.Mathlib.Omega.{arith}
 use borrow.Author.Needs.{needs}
 use Rattle.reader.proofs.list_breaks.Statement.{statement}

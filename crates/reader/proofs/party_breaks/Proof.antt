@@ -1,5 +1,6 @@
 -- `reader::party_breaks` meets its contract: the tests of a party's rule, one after the other. Assumes nothing.
-use Rattle.reader.proofs.Laws.{party-no-row, party-no-atom, party-repeats, party-list, list-inside, party-falls}
+use Rattle.reader.proofs.Lists.{list-inside}
+use Rattle.reader.proofs.Parties.{party-no-row, party-no-atom, party-repeats, party-list, party-falls}
 use native.Mathlib.Omega.{arith}
 use borrow.Author.Needs.{needs}
 use Rattle.reader.proofs.party_breaks.Statement.{statement}

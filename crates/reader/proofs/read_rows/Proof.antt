@@ -1,5 +1,5 @@
 -- `reader::read_rows` meets its contract: the lines 4 to 6 of the table, and then the rest. Assumes nothing.
-use Rattle.reader.proofs.Laws.{says-row, says-size, says-repeat, says-rest, rows-kept, rows-counted}
+use Rattle.reader.proofs.Verdict.{says-row, says-size, says-repeat, says-rest, rows-kept, rows-counted}
 use borrow.Author.Needs.{needs}
 use Rattle.reader.proofs.read_rows.Statement.{statement}
 use Rattle.reader.proofs.read_rows.Tie as tie

@@ -1,26 +1,29 @@
--- `reader::twin` meets its contract: no row passed agrees, and the parts passed are equal; a difference in kind, tag, count or part shows that two rows do not agree. Assumes nothing.
+-- `reader::twin` meets its contract: no row passed agrees, and the parts passed are equal; a difference in kind, tag, count or part
+-- shows that two rows do not agree. Assumes nothing.
 use Prim.Native.Nat.{ℕ, _-_, _≤_, _<_}
 use mathlib.Core.Path.{_≡_, refl, sym, _∙_}
-use mathlib.Core.Bool.{false}
 use mathlib.Core.Logic.{⊎-elim}
-use borrow.Author.Count.{below-more}
+use borrow.Author.Count.{below-none, below-more}
 use borrow.Author.Needs.{needs}
 use native.Mathlib.Omega.{arith}
 use Rattle.words.specs.First.Laws.{first-at, first-end}
 use Rattle.book.specs.Layout.{pooled}
 use Rattle.book.specs.Rules.{agrees}
-use Rattle.reader.proofs.Laws.{part-inside, part-reach, agree-all, agree-kind, agree-tag, agree-count, agree-part}
+use Rattle.reader.proofs.Rows.{Parts, parts-of}
+use Rattle.reader.proofs.Scans.{Passed, passed-more}
+use Rattle.reader.proofs.Twins.{agree-all, agree-kind, agree-tag, agree-count, agree-part}
 use Rattle.reader.proofs.twin.Statement.{statement}
 use Rattle.reader.proofs.twin.Tie as tie
 
 abbrev Inv-parts : tie.InvT-parts
-Inv-parts book row kind tag first n k other j₀ j = (j ≤ n) × ((i : ℕ) → i < j → pooled book other i ≡ pooled book first i)
+Inv-parts book row kind tag first n k other j₀ j =
+    (j ≤ n) × ((i : ℕ) → i < j → pooled book other i ≡ pooled book first i)
 
 abbrev μ-parts : tie.MeasureT-parts
 μ-parts book row kind tag first n k other j₀ j = n - j
 
 abbrev Inv-rows : tie.InvT-rows
-Inv-rows book row kind tag first n k₀ k = (k ≤ row) × ((m : ℕ) → m < k → agrees book row m ≡ false)
+Inv-rows book row kind tag first n k₀ k = (k ≤ row) × Passed (agrees book row) k
 
 abbrev μ-rows : tie.MeasureT-rows
 μ-rows book row kind tag first n k₀ k = row - k
@@ -29,28 +32,29 @@ abbrev μ-rows : tie.MeasureT-rows
 abbrev in-twin : (tie.InvT-parts → tie.MeasureT-parts → tie.InvT-rows → tie.MeasureT-rows → Type 0) → Type 0
 in-twin P = P Inv-parts μ-parts Inv-rows μ-rows
 
--- a part of the other row, and of the row itself, lies in the pool
-pooled-requires : in-twin tie.Need-pooled-requires
-pooled-requires c κs = (
-  search,
-  let start : in-twin tie.Start = search in
-      let at-parts : in-twin tie.At-parts = search in
-      let first2 : in-twin tie.After-row-first2 = search in
-      let then4 : in-twin tie.Then4 = search in
-      let count2 : in-twin tie.After-row-count2 = search in
-      let at-rows : in-twin tie.At-rows = search in
-      part-reach _ (start .pre .1) _ _ _ _ _ _ (start .pre .2) (at-rows .rows .inv .0) (first2 .row-first2 .ensures .0)
-      (count2 .row-count2 .ensures .0) (then4 .if4 .taken) (at-parts .parts .inv .0) (c .if5 .left),
-)
+-- the parts of the row, and of the other row, as their firsts and their counts say
+module _ (c : in-twin tie.After-row-count) where
+  abbrev start : in-twin tie.Start
+  start = search
 
-pooled-requires-2 : in-twin tie.Need-pooled-requires-2
-pooled-requires-2 c κs =
-    let count : in-twin tie.After-row-count = search in
-    let first : in-twin tie.After-row-first = search in
-    let start : in-twin tie.Start = search in (
-      start .pre .0,
-      part-inside _ (start .pre .1) _ (start .pre .2) _ _ (first .row-first .ensures .0) (count .row-count .ensures .0) _ (omega arith),
-    )
+  abbrev first : in-twin tie.After-row-first
+  first = search
+
+  parts : Parts (start .args .book .now) (start .args .row) (first .row-first .result) (c .row-count .result)
+  parts = search parts-of
+
+module _ (c : in-twin tie.After-row-first2) where
+  abbrev here : in-twin tie.Start
+  here = search
+
+  abbrev count2 : in-twin tie.After-row-count2
+  count2 = search
+
+  abbrev at-rows : in-twin tie.At-rows
+  at-rows = search
+
+  parts2 : Parts (here .args .book .now) (at-rows .rows .k) (c .row-first2 .result) (count2 .row-count2 .result)
+  parts2 = parts-of _ (here .pre .1) _ (omega arith) _ _ (c .row-first2 .ensures .0) (count2 .row-count2 .ensures .0)
 
 parts-again : in-twin tie.Need-parts-again
 parts-again c = (
@@ -71,19 +75,22 @@ rows-again c = (
       let first : in-twin tie.After-row-first = search in
       let tag : in-twin tie.After-row-tag = search in
       let kind : in-twin tie.After-row-kind = search in
-      below-more _ _ (at-rows .rows .inv .1)
-      (⊎-elim (λ w. agree-part _ _ _ _ _ _ _ (first .row-first .ensures .0) (count .row-count .ensures .0) (w .3 .ensures .0) (w .4 .taken) (w .5 .ensures .0) _ _ _ (w .6 .inv .0) (w .7 .left) (w .8 .ensures) (w .9 .ensures) (w .10 .taken))
+      passed-more _ _ (at-rows .rows .inv .1)
+      (⊎-elim (λ w. agree-part _ _ _ _ _ _ _ (first .row-first .ensures .0) (count .row-count .ensures .0) (w .3 .ensures .0)
+      (w .4 .taken) (w .5 .ensures .0) _ _ _ (w .6 .inv .0) (w .7 .left) (w .8 .ensures) (w .9 .ensures) (w .10 .taken))
       (⊎-elim (λ w. agree-count _ _ _ _ _ (count .row-count .ensures .0) (w .3 .ensures .0) (w .4 .left))
       (⊎-elim (λ w. agree-tag _ _ _ _ _ (tag .row-tag .ensures) (w .1 .ensures) (w .2 .left))
       (λ w. agree-kind _ _ _ _ _ (kind .row-kind .ensures) (kind2 .row-kind2 .ensures) (w .left))))
       (c .if2 .came)),
 )
 
+-- no row before the row itself agrees
 returns : in-twin tie.Need-returns
 returns c =
     let at-rows : in-twin tie.At-rows = search in
     first-end _ _ _ refl (λ m h. at-rows .rows .inv .1 m (omega arith))
 
+-- the other row agrees in kind, tag, count and every part
 returns-2 : in-twin tie.Need-returns-2
 returns-2 c =
     let at-parts : in-twin tie.At-parts = search in
@@ -100,9 +107,10 @@ returns-2 c =
     let tag : in-twin tie.After-row-tag = search in
     let kind : in-twin tie.After-row-kind = search in
     let same =
-    agree-all _ _ _ _ _ _ _ (first .row-first .ensures .0) (count .row-count .ensures .0) (count2 .row-count2 .ensures .0) (then4 .if4 .taken)
-    (first2 .row-first2 .ensures .0) _ _ _ _ _ (kind .row-kind .ensures) (kind2 .row-kind2 .ensures) (then2 .if2 .taken)
-    (tag .row-tag .ensures) (tag2 .row-tag2 .ensures) (then3 .if3 .taken) (c .if5 .taken) (at-parts .parts .inv .1) in
+    agree-all _ _ _ _ _ _ _ (first .row-first .ensures .0) (count .row-count .ensures .0) (count2 .row-count2 .ensures .0)
+    (then4 .if4 .taken) (first2 .row-first2 .ensures .0) _ _ _ _ _ (kind .row-kind .ensures) (kind2 .row-kind2 .ensures)
+    (then2 .if2 .taken) (tag .row-tag .ensures) (tag2 .row-tag2 .ensures) (then3 .if3 .taken) (c .if5 .taken)
+    (at-parts .parts .inv .1) in
     first-at _ _ _ (omega arith) (at-rows .rows .inv .1) same
 
 pub twin-spec : {M : Type 1} → statement M
@@ -123,9 +131,9 @@ twin-spec =
     (λ c κs. search needs)  -- row-tag-requires-2
     (λ c κs. search needs)  -- row-count-requires-2
     (λ c κs. search needs)  -- row-first-requires-2
-    (λ c. (search needs, λ i h. absurd (omega arith)))  -- parts-holds
-    pooled-requires
-    pooled-requires-2
+    (λ c. (search needs, below-none _))  -- parts-holds
+    (λ c κs. (search, omega (arith, parts2 (search))))  -- pooled-requires
+    (λ c κs. (search, omega (arith, parts (search))))  -- pooled-requires-2
     (λ c. search needs)  -- add-j
     (λ c. search needs)  -- parts-less
     parts-again

@@ -1,0 +1,91 @@
+-- Refusal 6: rows that agree in kind, tag and parts, and a row that repeats an earlier one. Assumes nothing.
+use Prim.Native.Nat.{ℕ, _+_, _≤_, _<_}
+use mathlib.Core.Bool.{true, false}
+use mathlib.Core.List.{List}
+use mathlib.Core.Path.{_≡_, sym, ap, _∙_}
+use native.Mathlib.Omega.{arith}
+use lib.ListN.{length, getD}
+use lib.Seq.{ext-getD}
+use lib.Dec.{ltb}
+use borrow.Author.Tests.{eq-eqb, ne-eqb}
+use Rattle.words.specs.Choice.Laws.{pick-true, pick-false}
+use Rattle.words.specs.First.{first, any}
+use Rattle.words.specs.Run.{run}
+use Rattle.words.specs.Run.Laws.{run-length, run-getD}
+use Rattle.book.specs.Layout.{begins, rows, kind, tag, rowFirst, rowCount, pooled, parts}
+use Rattle.book.specs.Rules.{Agree, agrees, repeats}
+use Rattle.book.specs.Rules.Laws.{agrees-exact, not-agrees}
+use Rattle.reader.specs.Scanned.{RowsKeep}
+
+-- ---- the parts of a row, as numbers: how many there are, and which
+parts-length : (b : List ℕ) (r : ℕ) → length (parts b r) ≡ rowCount b r
+parts-length b r = run-length b (begins b 3 + rowFirst b r) (rowCount b r)
+
+parts-at : (b : List ℕ) (r j : ℕ) → j < rowCount b r → getD (parts b r) j 0 ≡ pooled b (rowFirst b r) j
+parts-at b r j l = run-getD b (begins b 3 + rowFirst b r) (rowCount b r) j l
+
+-- ---- Agree: rows that agree have as many parts, and the same; and the other way round
+module _ (b : List ℕ) (r k : ℕ) where
+  agreed-counts : Agree b r k → rowCount b k ≡ rowCount b r
+  agreed-counts x = sym (parts-length b k) ∙ ap length (x .partss) ∙ parts-length b r
+
+  agreed-parts : Agree b r k → (j : ℕ) → j < rowCount b r → pooled b (rowFirst b k) j ≡ pooled b (rowFirst b r) j
+  agreed-parts x j l =
+      let c = agreed-counts x in
+      sym (parts-at b k j (omega arith)) ∙ ap (λ (w : List ℕ). getD w j 0) (x .partss) ∙ parts-at b r j l
+
+  same-parts : rowCount b k ≡ rowCount b r → ((j : ℕ) → j < rowCount b r → pooled b (rowFirst b k) j ≡ pooled b (rowFirst b r) j)
+      → parts b k ≡ parts b r
+  same-parts e h =
+      let p = parts-length b k in
+      let q = parts-length b r in
+      ext-getD 0 _ _ (omega arith) (λ j l. parts-at b k j (omega arith) ∙ h j (omega arith) ∙ sym (parts-at b r j (omega arith)))
+
+  -- ---- agrees: what was read of the row r and of the row k decides
+  pub agree-kind : (c c' : ℕ) → c ≡ kind b r → c' ≡ kind b k → (c' ≡ c → ⊥) → agrees b r k ≡ false
+  agree-kind c c' e a n = not-agrees b r k (λ x. n (a ∙ x .kinds ∙ sym e))
+
+  pub agree-tag : (t t' : ℕ) → t ≡ tag b r → t' ≡ tag b k → (t' ≡ t → ⊥) → agrees b r k ≡ false
+  agree-tag t t' e a n = not-agrees b r k (λ x. n (a ∙ x .tags ∙ sym e))
+
+  pub agree-count : (n n' : ℕ) → n ≡ rowCount b r → n' ≡ rowCount b k → (n' ≡ n → ⊥) → agrees b r k ≡ false
+  agree-count n n' e a m = not-agrees b r k (λ x. m (a ∙ agreed-counts x ∙ sym e))
+
+  module _ (f n g n' : ℕ) (ef : f ≡ rowFirst b r) (en : n ≡ rowCount b r) (a : n' ≡ rowCount b k) (d : n' ≡ n) (y : g ≡ rowFirst b k) (j : ℕ) where
+    pub agree-part : (p q : ℕ) → j ≤ n → (j ≡ n → ⊥) → p ≡ pooled b g j → q ≡ pooled b f j → (p ≡ q → ⊥) → agrees b r k ≡ false
+    agree-part p q l z hp hq m =
+        not-agrees b r k (λ x. m (hp ∙ ap (λ w. pooled b w j) y ∙ agreed-parts x j (omega arith) ∙ ap (λ w. pooled b w j) (sym ef) ∙ sym hq))
+
+    pub agree-all : (c c' t t' : ℕ) → c ≡ kind b r → c' ≡ kind b k → c' ≡ c → t ≡ tag b r → t' ≡ tag b k → t' ≡ t
+        → j ≡ n → ((i : ℕ) → i < j → pooled b g i ≡ pooled b f i) → agrees b r k ≡ true
+    agree-all c c' t t' ec h h' et u u' z p =
+        agrees-exact b r k .1
+        (record {
+          kinds = sym h ∙ h' ∙ ec;
+          tags = sym u ∙ u' ∙ et;
+          partss = same-parts (sym a ∙ d ∙ en) (λ i l. ap (λ x. pooled b x i) (sym y) ∙ p i (omega arith) ∙ ap (λ x. pooled b x i) ef);
+        })
+
+-- a row up to one of the parts of row r has its own parts before it, so that it can't agree with row r
+pub up-to-part : (b : List ℕ) → RowsKeep b → (r : ℕ) → r < rows b → (f n j p : ℕ) → f ≡ rowFirst b r → n ≡ rowCount b r
+    → j < n → p ≡ pooled b f j → (k : ℕ) → k ≤ p → agrees b r k ≡ false
+up-to-part b keep r l f n j p d e z h k m = not-agrees b r k (λ x. go x)
+  where
+    go : Agree b r k → ⊥
+    go x =
+        let c = agreed-counts b r k x in
+        let w = agreed-parts b r k x j (omega arith) in
+        let y : pooled b f j ≡ pooled b (rowFirst b r) j = ap (λ i. pooled b i j) d in
+        let i = keep r l .listed .each j (omega arith) in
+        let o = keep k (omega arith) .listed .each j (omega arith) in
+        absurd (omega arith)
+
+-- ---- repeats: an atom repeats nothing; another row, if its twin t is an earlier row
+module _ (b : List ℕ) (r k : ℕ) (d : k ≡ kind b r) where
+  pub repeats-atom : k ≡ 0 → false ≡ repeats b r
+  unfolding repeats
+  repeats-atom e = sym (pick-true _ _ _ (eq-eqb (kind b r) 0 (omega arith)))
+
+  pub repeats-twin : (k ≡ 0 → ⊥) → (t : ℕ) → t ≡ first (agrees b r) r → ltb t r ≡ repeats b r
+  unfolding repeats any
+  repeats-twin n t e = ap (λ x. ltb x r) e ∙ sym (pick-false _ _ _ (ne-eqb (kind b r) 0 (λ z. n (d ∙ z))))

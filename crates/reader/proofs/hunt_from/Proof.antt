@@ -38,21 +38,20 @@ earlier c =
 -- the hunt begins behind the part, or where it was to begin before
 loop-again : tie.Need-loop-again Inv-loop μ-loop
 loop-again c =
-    let after-pooled : tie.After-pooled Inv-loop μ-loop = search in
+    let part : tie.After-pooled Inv-loop μ-loop = search in
     let in-loop : tie.In-loop Inv-loop μ-loop = search in
     let at-loop : tie.At-loop Inv-loop μ-loop = search in
     let count : tie.After-row-count Inv-loop μ-loop = search in
-    let first-of : tie.After-row-first Inv-loop μ-loop = search in
+    let begins : tie.After-row-first Inv-loop μ-loop = search in
     let here : tie.Start Inv-loop μ-loop = search in
-    let before = earlier after-pooled in (
-      omega arith,
-      elim (c .if1 .came) [
-        | inl w ↦ λ k h. up-to-part _ (here .pre .1) _ (here .pre .2) _ _ _ _ (first-of .row-first .ensures .0)
-            (count .row-count .ensures .0) (in-loop .loop-test .taken) (after-pooled .pooled .ensures) k (let e = w .1 in omega arith)
-        | inr w ↦ λ k h. at-loop .loop .inv .1 k (let e = w .1 in omega arith)
-      ],
-      elim (c .if1 .came) [ inl w ↦ (let e = w .1 in omega arith) | inr w ↦ (let e = w .1 in omega arith) ],
-    )
+    let before = earlier part in
+    let no-twin =
+    up-to-part _ (here .pre .1) _ (here .pre .2) _ _ _ _ (begins .row-first .ensures .0) (count .row-count .ensures .0)
+    (in-loop .loop-test .taken) (part .pooled .ensures) in
+    elim (c .if1 .came) [
+      | inl (taken, behind) ↦ (omega arith, (λ k h. no-twin k (omega arith)), omega arith)
+      | inr (left, same) ↦ (omega arith, (λ k h. at-loop .loop .inv .1 k (omega arith)), omega arith)
+    ]
 
 pub hunt-from-spec : {M : Type 1} → statement M
 hunt-from-spec =

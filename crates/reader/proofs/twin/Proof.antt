@@ -2,7 +2,7 @@
 -- shows that two rows do not agree. Assumes nothing.
 use Prim.Native.Nat.{ℕ, _-_, _≤_, _<_}
 use mathlib.Core.Path.{_≡_, refl, sym, _∙_}
-use mathlib.Core.Logic.{⊎-elim}
+use mathlib.Core.Logic.{inl, inr}
 use borrow.Author.Count.{below-none, below-more}
 use borrow.Author.Needs.{needs}
 use native.Mathlib.Omega.{arith}
@@ -32,40 +32,44 @@ abbrev μ-rows : tie.MeasureT-rows
 abbrev in-twin : (tie.InvT-parts → tie.MeasureT-parts → tie.InvT-rows → tie.MeasureT-rows → Type 0) → Type 0
 in-twin P = P Inv-parts μ-parts Inv-rows μ-rows
 
--- the parts of the row, and of the other row, as their firsts and their counts say
+-- the row's parts, as its first and its count say
 module _ (c : in-twin tie.After-row-count) where
   abbrev start : in-twin tie.Start
   start = search
 
-  abbrev first : in-twin tie.After-row-first
-  first = search
+  abbrev own-first : in-twin tie.After-row-first
+  own-first = search
 
-  parts : Parts (start .args .book .now) (start .args .row) (first .row-first .result) (c .row-count .result)
+  parts : Parts (start .args .book .now) (start .args .row) (own-first .row-first .result) (c .row-count .result)
   parts = search parts-of
 
+-- and the other row's
 module _ (c : in-twin tie.After-row-first2) where
   abbrev here : in-twin tie.Start
   here = search
 
-  abbrev count2 : in-twin tie.After-row-count2
-  count2 = search
+  abbrev other-count : in-twin tie.After-row-count2
+  other-count = search
 
-  abbrev at-rows : in-twin tie.At-rows
-  at-rows = search
+  abbrev other : in-twin tie.At-rows
+  other = search
 
-  parts2 : Parts (here .args .book .now) (at-rows .rows .k) (c .row-first2 .result) (count2 .row-count2 .result)
-  parts2 = parts-of _ (here .pre .1) _ (omega arith) _ _ (c .row-first2 .ensures .0) (count2 .row-count2 .ensures .0)
+  parts-of-other : Parts (here .args .book .now) (other .rows .k) (c .row-first2 .result) (other-count .row-count2 .result)
+  parts-of-other =
+      parts-of _ (here .pre .1) _ (omega arith) _ _ (c .row-first2 .ensures .0) (other-count .row-count2 .ensures .0)
 
+-- the parts that were read are equal too
 parts-again : in-twin tie.Need-parts-again
 parts-again c = (
   search needs,
   let at-parts : in-twin tie.At-parts = search in
       let after-pooled : in-twin tie.After-pooled = search in
       let after-pooled2 : in-twin tie.After-pooled2 = search in
-      below-more _ _ (at-parts .parts .inv .1) (sym (after-pooled .pooled .ensures) ∙ c .if6 .left ∙ after-pooled2 .pooled2 .ensures),
+      below-more _ _ (at-parts .parts .inv .1)
+      (sym (after-pooled .pooled .ensures) ∙ c .if6 .left ∙ after-pooled2 .pooled2 .ensures),
 )
 
--- the rows differ in a part, in their count, in their tag or in their kind
+-- the other row differs in a part, in its count, in its tag or in its kind
 rows-again : in-twin tie.Need-rows-again
 rows-again c = (
   search needs,
@@ -76,12 +80,15 @@ rows-again c = (
       let tag : in-twin tie.After-row-tag = search in
       let kind : in-twin tie.After-row-kind = search in
       passed-more _ _ (at-rows .rows .inv .1)
-      (⊎-elim (λ w. agree-part _ _ _ _ _ _ _ (first .row-first .ensures .0) (count .row-count .ensures .0) (w .3 .ensures .0)
-      (w .4 .taken) (w .5 .ensures .0) _ _ _ (w .6 .inv .0) (w .7 .left) (w .8 .ensures) (w .9 .ensures) (w .10 .taken))
-      (⊎-elim (λ w. agree-count _ _ _ _ _ (count .row-count .ensures .0) (w .3 .ensures .0) (w .4 .left))
-      (⊎-elim (λ w. agree-tag _ _ _ _ _ (tag .row-tag .ensures) (w .1 .ensures) (w .2 .left))
-      (λ w. agree-kind _ _ _ _ _ (kind .row-kind .ensures) (kind2 .row-kind2 .ensures) (w .left))))
-      (c .if2 .came)),
+      (elim (c .if2 .came) [
+        | inl (if2, tag2, if3, count2, if4, first2, turn, if5, part, part2, if6) ↦
+            agree-part _ _ _ _ _ _ _ (first .row-first .ensures .0) (count .row-count .ensures .0) (count2 .ensures .0)
+            (if4 .taken) (first2 .ensures .0) _ _ _ (turn .inv .0) (if5 .left) (part .ensures) (part2 .ensures) (if6 .taken)
+        | inr (inl (if2, tag2, if3, count2, if4)) ↦
+            agree-count _ _ _ _ _ (count .row-count .ensures .0) (count2 .ensures .0) (if4 .left)
+        | inr (inr (inl (if2, tag2, if3))) ↦ agree-tag _ _ _ _ _ (tag .row-tag .ensures) (tag2 .ensures) (if3 .left)
+        | inr (inr (inr if2)) ↦ agree-kind _ _ _ _ _ (kind .row-kind .ensures) (kind2 .row-kind2 .ensures) (if2 .left)
+      ]),
 )
 
 -- no row before the row itself agrees
@@ -107,10 +114,11 @@ returns-2 c =
     let tag : in-twin tie.After-row-tag = search in
     let kind : in-twin tie.After-row-kind = search in
     let same =
-    agree-all _ _ _ _ _ _ _ (first .row-first .ensures .0) (count .row-count .ensures .0) (count2 .row-count2 .ensures .0)
-    (then4 .if4 .taken) (first2 .row-first2 .ensures .0) _ _ _ _ _ (kind .row-kind .ensures) (kind2 .row-kind2 .ensures)
-    (then2 .if2 .taken) (tag .row-tag .ensures) (tag2 .row-tag2 .ensures) (then3 .if3 .taken) (c .if5 .taken)
-    (at-parts .parts .inv .1) in
+    agree-all _ _ _ _ _ _ _ (first .row-first .ensures .0) (count .row-count .ensures .0)
+    (count2 .row-count2 .ensures .0) (then4 .if4 .taken) (first2 .row-first2 .ensures .0) _ _ _ _ _
+    (kind .row-kind .ensures) (kind2 .row-kind2 .ensures) (then2 .if2 .taken)
+    (tag .row-tag .ensures) (tag2 .row-tag2 .ensures) (then3 .if3 .taken)
+    (c .if5 .taken) (at-parts .parts .inv .1) in
     first-at _ _ _ (omega arith) (at-rows .rows .inv .1) same
 
 pub twin-spec : {M : Type 1} → statement M
@@ -132,7 +140,7 @@ twin-spec =
     (λ c κs. search needs)  -- row-count-requires-2
     (λ c κs. search needs)  -- row-first-requires-2
     (λ c. (search needs, below-none _))  -- parts-holds
-    (λ c κs. (search, omega (arith, parts2 (search))))  -- pooled-requires
+    (λ c κs. (search, omega (arith, parts-of-other (search))))  -- pooled-requires
     (λ c κs. (search, omega (arith, parts (search))))  -- pooled-requires-2
     (λ c. search needs)  -- add-j
     (λ c. search needs)  -- parts-less

@@ -52,13 +52,15 @@ size-all b keep r l s h f d =
 
 -- behind the last part, that is the row's size
 pub size-ends : (b : List ℕ) → RowsKeep b → (r : ℕ) → r < rows b → (s : List ℕ) → Sizes b s r
-    → (f n j size : ℕ) → f ≡ rowFirst b r → n ≡ rowCount b r → size ≡ sizeSoFar b s r f j → j ≤ n → n ≤ j → size ≡ rowSize (table b) r
+    → (f n j size : ℕ) → f ≡ rowFirst b r → n ≡ rowCount b r → size ≡ sizeSoFar b s r f j → j ≤ n → n ≤ j
+    → size ≡ rowSize (table b) r
 size-ends b keep r l s h f n j size d e z i o =
     let y : j ≡ rowCount b r = omega arith in
     z ∙ ap (sizeSoFar b s r f) y ∙ size-all b keep r l s h f d
 
 -- an earlier row's size, as the table has it, is at most 1,024
-pub size-known : (b s : List ℕ) (r w p : ℕ) → Sizes b s r → ((k : ℕ) → k < r → rowSize (table b) k ≤ 1024) → w ≡ p → p < r → getD s w 0 ≤ 1024
+pub size-known : (b s : List ℕ) (r w p : ℕ) → Sizes b s r → ((k : ℕ) → k < r → rowSize (table b) k ≤ 1024) → w ≡ p → p < r
+    → getD s w 0 ≤ 1024
 size-known b s r w p h k d l = let a = h w (omega arith) in let c = k w (omega arith) in omega arith
 
 -- ---- sizeBreaks: z is the size that was computed
@@ -74,7 +76,8 @@ unfolding sizeBreaks
 size-within b r z e h = le-ltb 1024 (rowSize (table b) r) (omega arith)
 
 -- ---- Sizes: the table with one entry more, stored at w
-pub size-stored : (b s : List ℕ) (r w z : ℕ) → Sizes b s r → w ≡ r → w < length s → z ≡ rowSize (table b) r → Sizes b (set s w z) (r + 1)
+pub size-stored : (b s : List ℕ) (r w z : ℕ) → Sizes b s r → w ≡ r → w < length s → z ≡ rowSize (table b) r
+    → Sizes b (set s w z) (r + 1)
 size-stored b s r w z a d h e =
     below-more (λ k. getD (set s w z) k 0 ≡ rowSize (table b) k) r (λ k m. getD-set-other s w k z 0 (λ x. omega arith) ∙ a k m)
     (ap (λ k. getD (set s w z) k 0) (sym d) ∙ getD-set-same s w z 0 h ∙ e)

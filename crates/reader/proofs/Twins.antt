@@ -51,8 +51,10 @@ module _ (b : List ℕ) (r k : ℕ) where
   pub agree-count : (n n' : ℕ) → n ≡ rowCount b r → n' ≡ rowCount b k → (n' ≡ n → ⊥) → agrees b r k ≡ false
   agree-count n n' e a m = not-agrees b r k (λ x. m (a ∙ agreed-counts x ∙ sym e))
 
-  module _ (f n g n' : ℕ) (ef : f ≡ rowFirst b r) (en : n ≡ rowCount b r) (a : n' ≡ rowCount b k) (d : n' ≡ n) (y : g ≡ rowFirst b k) (j : ℕ) where
-    pub agree-part : (p q : ℕ) → j ≤ n → (j ≡ n → ⊥) → p ≡ pooled b g j → q ≡ pooled b f j → (p ≡ q → ⊥) → agrees b r k ≡ false
+  module _ (f n g n' : ℕ) (ef : f ≡ rowFirst b r) (en : n ≡ rowCount b r)
+      (a : n' ≡ rowCount b k) (d : n' ≡ n) (y : g ≡ rowFirst b k) (j : ℕ) where
+    pub agree-part : (p q : ℕ) → j ≤ n → (j ≡ n → ⊥) → p ≡ pooled b g j → q ≡ pooled b f j → (p ≡ q → ⊥)
+        → agrees b r k ≡ false
     agree-part p q l z hp hq m =
         not-agrees b r k (λ x. m (hp ∙ ap (λ w. pooled b w j) y ∙ agreed-parts x j (omega arith) ∙ ap (λ w. pooled b w j) (sym ef) ∙ sym hq))
 

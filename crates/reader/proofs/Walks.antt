@@ -24,7 +24,8 @@ module _ (b : List ℕ) (breaks : ℕ → Bool) (before : ℕ → ℕ) where
   walk-begins n s e i = record { within = omega arith; passed = passed-none breaks; summed = e; inside = i }
 
   -- it stops at place k, of which a call said v, or behind the last place; n is the number m of places
-  pub walk-stops : (m n k s : ℕ) → Walk b breaks before n k s → n ≡ m → k < n → (v : Bool) → v ≡ breaks k → v ≡ true → Scanned b breaks before m k s
+  pub walk-stops : (m n k s : ℕ) → Walk b breaks before n k s → n ≡ m → k < n → (v : Bool) → v ≡ breaks k → v ≡ true
+      → Scanned b breaks before m k s
   walk-stops m n k s w e l v d h =
       record { stopped = stops-at breaks m k n e l (w .passed) v d h; summed = w .summed; inside = w .inside }
 

@@ -54,7 +54,8 @@ returns-4 c =
 returns-5 : tie.Need-returns-5
 returns-5 c =
     let test : tie.After-outside4 = search in
-    first-end _ _ 4 refl (passed-more _ 3 (passed-3 (search)) (count-at _ 3 _ _ (test .outside4 .ensures) (c .if4 .left)))
+    first-end _ _ 4 refl
+    (passed-more _ 3 (passed-3 (search)) (count-at _ 3 _ _ (test .outside4 .ensures) (c .if4 .left)))
 
 pub counts-spec : {M : Type 1} → statement M
 counts-spec =

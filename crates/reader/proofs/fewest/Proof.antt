@@ -1,4 +1,4 @@
--- `reader::fewest` meets its contract: each kind that it names computes, and the others are alike. Assumes nothing.
+-- `reader::fewest` meets its contract: the kinds that it names, and the others, which are alike. Assumes nothing.
 use Rattle.book.specs.Rules.{fewest}
 use Rattle.reader.proofs.ByKind.{of-kind, fewest-other}
 use Rattle.reader.proofs.fewest.Statement.{statement}

@@ -1,7 +1,9 @@
--- `reader::hunt_from` meets its contract: a row up to one of the row's parts has its own parts before it, and can't agree with the row.
--- Assumes nothing.
-use Prim.Native.Nat.{_-_, _≤_, _<_}
+-- `reader::hunt_from` meets its contract: a row up to one of the row's parts has its own parts before it, and can't
+-- agree with the row. Assumes nothing.
+use Prim.Native.Nat.{ℕ, _-_, _≤_, _<_}
+use mathlib.Core.Bool.{false}
 use mathlib.Core.Logic.{inl, inr}
+use mathlib.Core.Path.{_≡_}
 use native.Mathlib.Omega.{arith}
 use borrow.Author.Needs.{needs}
 use Rattle.book.specs.Rules.{agrees}
@@ -28,28 +30,28 @@ module _ (c : tie.After-row-count Inv-loop μ-loop) where
   parts : Parts (start .args .book .now) (start .args .row) (first .row-first .result) (c .row-count .result)
   parts = search parts-of
 
--- the part that was read is an earlier row
-earlier : (c : tie.After-pooled Inv-loop μ-loop) → c .pooled .result < start (search) .args .row
-earlier c =
-    let in-loop : tie.In-loop Inv-loop μ-loop = search in
-    let e = parts (search) .earlier _ (in-loop .loop-test .taken) in
-    omega arith
+-- the part that was read is an earlier row, and no row up to it agrees with the row
+module _ (c : tie.After-pooled Inv-loop μ-loop) where
+  abbrev here : tie.Start Inv-loop μ-loop
+  here = search
+
+  abbrev in-loop : tie.In-loop Inv-loop μ-loop
+  in-loop = search
+
+  earlier : c .pooled .result < here .args .row
+  earlier = let e = parts (search) .earlier _ (in-loop .loop-test .taken) in omega arith
+
+  no-twin : (k : ℕ) → k ≤ c .pooled .result → agrees (here .args .book .now) (here .args .row) k ≡ false
+  no-twin = search up-to-part
 
 -- the hunt begins behind the part, or where it was to begin before
 loop-again : tie.Need-loop-again Inv-loop μ-loop
 loop-again c =
     let part : tie.After-pooled Inv-loop μ-loop = search in
-    let in-loop : tie.In-loop Inv-loop μ-loop = search in
     let at-loop : tie.At-loop Inv-loop μ-loop = search in
-    let count : tie.After-row-count Inv-loop μ-loop = search in
-    let begins : tie.After-row-first Inv-loop μ-loop = search in
-    let here : tie.Start Inv-loop μ-loop = search in
     let before = earlier part in
-    let no-twin =
-    up-to-part _ (here .pre .1) _ (here .pre .2) _ _ _ _ (begins .row-first .ensures .0) (count .row-count .ensures .0)
-    (in-loop .loop-test .taken) (part .pooled .ensures) in
     elim (c .if1 .came) [
-      | inl (taken, behind) ↦ (omega arith, (λ k h. no-twin k (omega arith)), omega arith)
+      | inl (taken, behind) ↦ (omega arith, (λ k h. no-twin part k (omega arith)), omega arith)
       | inr (left, same) ↦ (omega arith, (λ k h. at-loop .loop .inv .1 k (omega arith)), omega arith)
     ]
 

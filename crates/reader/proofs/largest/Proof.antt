@@ -1,4 +1,4 @@
--- `reader::largest` meets its contract: each kind that it names computes, and the others are alike. Assumes nothing.
+-- `reader::largest` meets its contract: the kinds that it names, and the others, which are alike. Assumes nothing.
 use Rattle.book.specs.Rules.{largest}
 use Rattle.reader.proofs.ByKind.{of-kind, largest-other}
 use Rattle.reader.proofs.largest.Statement.{statement}

@@ -1,4 +1,4 @@
--- `reader::largest_tag` meets its contract: each kind that it names computes, and the others are alike. Assumes nothing.
+-- `reader::largest_tag` meets its contract: the kinds that it names, and the others, which are alike. Assumes nothing.
 use Rattle.book.specs.Rules.{largestTag}
 use Rattle.reader.proofs.ByKind.{of-kind, tag-other}
 use Rattle.reader.proofs.largest_tag.Statement.{statement}

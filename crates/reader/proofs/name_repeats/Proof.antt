@@ -20,7 +20,8 @@ loop-again c =
     let after-party-name2 : tie.After-party-name2 Inv-loop μ-loop = search in
     let at-loop : tie.At-loop Inv-loop μ-loop = search in
     let after-party-name : tie.After-party-name Inv-loop μ-loop = search in
-    let other = eqb-no _ _ _ _ (after-party-name2 .party-name2 .ensures) (after-party-name .party-name .ensures) (c .if1 .left) in
+    let other =
+    eqb-no _ _ _ _ (after-party-name2 .party-name2 .ensures) (after-party-name .party-name .ensures) (c .if1 .left) in
     (search needs, passed-more _ _ (at-loop .loop .inv .1) other)
 
 pub name-repeats-spec : {M : Type 1} → statement M

@@ -1,5 +1,5 @@
--- `reader::offsets` meets its contract: the four offsets and the length are tested one after the other; no sum wraps, as the counts
--- are bounded. Assumes nothing.
+-- `reader::offsets` meets its contract: the four offsets and the length are tested one after the other; no sum wraps,
+-- as the counts are bounded. Assumes nothing.
 use Prim.Native.Nat.{ℕ}
 use mathlib.Core.List.{List}
 use mathlib.Core.Path.{refl}
@@ -61,7 +61,8 @@ returns-6 : tie.Need-returns-6
 returns-6 c =
     let after-wide : tie.After-wide = search in
     first-end _ _ 5 refl
-    (passed-more _ 4 (passed-4 (search)) (length-right _ _ (offset-last _ _ (after-wide .wide .ensures .0)) (c .if5 .left)))
+    (passed-more _ 4 (passed-4 (search))
+    (length-right _ _ (offset-last _ _ (after-wide .wide .ensures .0)) (c .if5 .left)))
 
 pub offsets-spec : {M : Type 1} → statement M
 offsets-spec =

@@ -1,5 +1,5 @@
--- `reader::oversize` meets its contract: the sizes of the rows that the loop has passed stand in the table, and none is over 1,024.
--- Assumes nothing.
+-- `reader::oversize` meets its contract: the sizes of the rows that the loop has passed stand in the table, and none is
+-- over 1,024. Assumes nothing.
 use Prim.Native.Nat.{ℕ, _-_, _≤_}
 use mathlib.Core.Path.{_≡_, _∙_}
 use lib.ListN.{length, length-set, length-replicate}
@@ -29,7 +29,8 @@ returns : tie.Need-returns Inv-loop μ-loop
 returns c =
     let after-row-size : tie.After-row-size Inv-loop μ-loop = search in
     let at-loop : tie.At-loop Inv-loop μ-loop = search in
-    first-at _ _ _ (omega arith) (at-loop .loop .inv .1) (size-over _ _ _ (after-row-size .row-size .ensures) (omega arith))
+    first-at _ _ _ (omega arith) (at-loop .loop .inv .1)
+    (size-over _ _ _ (after-row-size .row-size .ensures) (omega arith))
 
 -- the row asked about is not over 1,024 either, and its size goes into the table
 loop-again : tie.Need-loop-again Inv-loop μ-loop
@@ -38,9 +39,10 @@ loop-again c =
     let after-row-size : tie.After-row-size Inv-loop μ-loop = search in
     let at-loop : tie.At-loop Inv-loop μ-loop = search in (
       search needs,
-      passed-more _ _ (at-loop .loop .inv .1) (size-within _ _ _ (after-row-size .row-size .ensures) (else1 .if1 .left)),
-      size-stored _ (at-loop .loop .sizes) _ (c .wide .result) _ (at-loop .loop .inv .2) (c .wide .ensures .0) (omega arith)
-          (after-row-size .row-size .ensures),
+      passed-more _ _ (at-loop .loop .inv .1)
+          (size-within _ _ _ (after-row-size .row-size .ensures) (else1 .if1 .left)),
+      size-stored _ (at-loop .loop .sizes) _ (c .wide .result) _ (at-loop .loop .inv .2) (c .wide .ensures .0)
+          (omega arith) (after-row-size .row-size .ensures),
       length-set (at-loop .loop .sizes) (c .wide .result) (after-row-size .row-size .result) ∙ at-loop .loop .inv .3,
     )
 

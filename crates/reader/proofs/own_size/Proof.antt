@@ -1,4 +1,4 @@
--- `reader::own_size` meets its contract: each kind that it names computes, and the others are alike. Assumes nothing.
+-- `reader::own_size` meets its contract: the kinds that it names, and the others, which are alike. Assumes nothing.
 use native.Mathlib.Omega.{arith}
 use Rattle.terms.specs.Table.{own}
 use Rattle.reader.proofs.ByKind.{of-kind, own-other}

@@ -19,7 +19,8 @@ loop-again : tie.Need-loop-again Inv-loop μ-loop
 loop-again c =
     let after-row-repeats : tie.After-row-repeats Inv-loop μ-loop = search in
     let at-loop : tie.At-loop Inv-loop μ-loop = search in
-    (search needs, passed-more _ _ (at-loop .loop .inv .1) (sym (after-row-repeats .row-repeats .ensures) ∙ c .if1 .left))
+    let single = sym (after-row-repeats .row-repeats .ensures) ∙ c .if1 .left in
+    (search needs, passed-more _ _ (at-loop .loop .inv .1) single)
 
 pub repeated-spec : {M : Type 1} → statement M
 repeated-spec =

@@ -1,4 +1,5 @@
--- `reader::row_repeats` meets its contract: an atom repeats nothing; any other row, if its twin is an earlier one. Assumes nothing.
+-- `reader::row_repeats` meets its contract: an atom repeats nothing; any other row does, if its twin is an earlier one.
+-- Assumes nothing.
 use Rattle.reader.proofs.Twins.{repeats-atom, repeats-twin}
 use borrow.Author.Needs.{needs}
 use Rattle.reader.proofs.row_repeats.Statement.{statement}

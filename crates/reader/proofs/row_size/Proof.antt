@@ -1,5 +1,5 @@
--- `reader::row_size` meets its contract: the sizes of the parts are added, one after the other. Each part is an earlier row, of size at
--- most 1,024, and there are at most 9, so that no sum wraps. Assumes nothing.
+-- `reader::row_size` meets its contract: the sizes of the parts are added, one after the other. Each part is an earlier
+-- row, of size at most 1,024, and there are at most 9, so that no sum wraps. Assumes nothing.
 use Prim.Native.Nat.{_+_, _-_, _*_, _≤_, _<_}
 use mathlib.Core.Path.{_≡_}
 use lib.ListN.{getD}

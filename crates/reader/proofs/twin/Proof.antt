@@ -1,5 +1,5 @@
--- `reader::twin` meets its contract: no row passed agrees, and the parts passed are equal; a difference in kind, tag, count or part
--- shows that two rows do not agree. Assumes nothing.
+-- `reader::twin` meets its contract: no row passed agrees, and the parts passed are equal; a difference in kind, tag,
+-- count or part shows that two rows do not agree. Assumes nothing.
 use Prim.Native.Nat.{ℕ, _-_, _≤_, _<_}
 use mathlib.Core.Path.{_≡_, refl, sym, _∙_}
 use mathlib.Core.Logic.{inl, inr}
@@ -54,7 +54,8 @@ module _ (c : in-twin tie.After-row-first2) where
   abbrev other : in-twin tie.At-rows
   other = search
 
-  parts-of-other : Parts (here .args .book .now) (other .rows .k) (c .row-first2 .result) (other-count .row-count2 .result)
+  parts-of-other :
+      Parts (here .args .book .now) (other .rows .k) (c .row-first2 .result) (other-count .row-count2 .result)
   parts-of-other =
       parts-of _ (here .pre .1) _ (omega arith) _ _ (c .row-first2 .ensures .0) (other-count .row-count2 .ensures .0)
 
@@ -83,7 +84,8 @@ rows-again c = (
       (elim (c .if2 .came) [
         | inl (if2, tag2, if3, count2, if4, first2, turn, if5, part, part2, if6) ↦
             agree-part _ _ _ _ _ _ _ (first .row-first .ensures .0) (count .row-count .ensures .0) (count2 .ensures .0)
-            (if4 .taken) (first2 .ensures .0) _ _ _ (turn .inv .0) (if5 .left) (part .ensures) (part2 .ensures) (if6 .taken)
+            (if4 .taken) (first2 .ensures .0) _ _ _ (turn .inv .0) (if5 .left)
+            (part .ensures) (part2 .ensures) (if6 .taken)
         | inr (inl (if2, tag2, if3, count2, if4)) ↦
             agree-count _ _ _ _ _ (count .row-count .ensures .0) (count2 .ensures .0) (if4 .left)
         | inr (inr (inl (if2, tag2, if3))) ↦ agree-tag _ _ _ _ _ (tag .row-tag .ensures) (tag2 .ensures) (if3 .left)

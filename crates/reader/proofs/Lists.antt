@@ -8,7 +8,7 @@ use lib.Dec.{leb}
 use borrow.Author.Tests.{lt-ltb, le-ltb}
 use Rattle.words.specs.First.{any}
 use Rattle.book.specs.Layout.{pool, pooled}
-use Rattle.book.specs.Rules.{listBreaks}
+use Rattle.book.specs.Rules.{outside, differs, listBreaks}
 use Rattle.book.specs.Rules.Laws.{outside-in, differs-same, differs-true, list-exact}
 use Rattle.reader.proofs.Tests.{outside-below, outside-above, one-here, one-on, one-last}
 
@@ -23,22 +23,26 @@ module _ (b : List ℕ) (lo hi n f before bound : ℕ) where
   list-high l h = one-here _ _ (sym (outside-above lo hi n l) ∙ lt-ltb hi n h)
 
   module _ (l : lo ≤ n) (h : n ≤ hi) where
+    many : outside lo hi n ≡ false
+    many = outside-in lo hi n l h
+
     pub list-place : (f ≡ before → ⊥) → true ≡ listBreaks b lo hi n f before bound
     unfolding listBreaks
-    list-place e = one-on _ _ _ (outside-in lo hi n l h) (one-here _ _ (differs-true f before e))
+    list-place e = one-on _ _ _ many (one-here _ _ (differs-true f before e))
 
-    pub list-pool : f ≡ before → (w : ℕ) → w ≡ pool b → w < f + n → true ≡ listBreaks b lo hi n f before bound
-    unfolding listBreaks
-    list-pool e w d k =
-        one-on _ _ _ (outside-in lo hi n l h) (one-on _ _ _ (differs-same f before e)
-        (one-here _ _ (lt-ltb (pool b) (f + n) (omega arith))))
+    module _ (e : f ≡ before) (w : ℕ) (d : w ≡ pool b) where
+      placed : differs f before ≡ false
+      placed = differs-same f before e
 
-    pub list-entries : f ≡ before → (w : ℕ) → w ≡ pool b → f + n ≤ w
-        → (v : Bool) → v ≡ any (λ j. leb bound (pooled b f j)) n → v ≡ listBreaks b lo hi n f before bound
-    unfolding listBreaks
-    list-entries e w d k v z =
-        one-on _ _ _ (outside-in lo hi n l h) (one-on _ _ _ (differs-same f before e)
-        (one-on _ _ _ (le-ltb (pool b) (f + n) (omega arith)) (one-last v _ z)))
+      pub list-pool : w < f + n → true ≡ listBreaks b lo hi n f before bound
+      unfolding listBreaks
+      list-pool k = one-on _ _ _ many (one-on _ _ _ placed (one-here _ _ (lt-ltb (pool b) (f + n) (omega arith))))
+
+      pub list-entries : f + n ≤ w → (v : Bool) → v ≡ any (λ j. leb bound (pooled b f j)) n → v ≡ listBreaks b lo hi n f before bound
+      unfolding listBreaks
+      list-entries k v z =
+          let inside = le-ltb (pool b) (f + n) (omega arith) in
+          one-on _ _ _ many (one-on _ _ _ placed (one-on _ _ _ inside (one-last v _ z)))
 
   -- a list that passed lies in the pool, so that it can be gone through
   pub list-inside : (v : Bool) → v ≡ listBreaks b lo hi n f before bound → v ≡ false → f + n ≤ pool b

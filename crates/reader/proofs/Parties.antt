@@ -8,7 +8,7 @@ use lib.Dec.{leb, eqb}
 use borrow.Author.Tests.{le-leb, lt-leb}
 use Rattle.words.specs.First.{any}
 use Rattle.book.specs.Layout.{rows, kind, name, partyFirst, partyCount, pooled, partiesBefore}
-use Rattle.book.specs.Rules.{listBreaks, partyBreaks}
+use Rattle.book.specs.Rules.{differs, listBreaks, partyBreaks}
 use Rattle.book.specs.Rules.Laws.{differs-same, differs-true}
 use Rattle.reader.proofs.Tests.{one-here, one-on, one-last}
 
@@ -30,9 +30,12 @@ module _ (b : List ℕ) (p who t : ℕ) (dn : who ≡ name b p) (dt : t ≡ rows
     party-no-atom n = one-on _ _ _ named (one-here _ _ (differs-true _ _ (λ e. n (kinded ∙ e))))
 
     module _ (a : k ≡ 0) (v : Bool) (dv : v ≡ any (λ j. eqb (name b j) (name b p)) p) where
+      atomic : differs (kind b (name b p)) 0 ≡ false
+      atomic = differs-same _ _ (sym kinded ∙ a)
+
       pub party-repeats : v ≡ true → true ≡ partyBreaks b p
       unfolding partyBreaks
-      party-repeats e = one-on _ _ _ named (one-on _ _ _ (differs-same _ _ (sym kinded ∙ a)) (one-here _ _ (sym dv ∙ e)))
+      party-repeats e = one-on _ _ _ named (one-on _ _ _ atomic (one-here _ _ (sym dv ∙ e)))
 
       module _ (e : v ≡ false) (n f before u : ℕ)
           (en : n ≡ partyCount b p) (ef : f ≡ partyFirst b p) (eb : before ≡ partiesBefore b p) (eu : u ≡ rows b)
@@ -40,14 +43,14 @@ module _ (b : List ℕ) (p who t : ℕ) (dn : who ≡ name b p) (dt : t ≡ rows
         list : w ≡ listBreaks b 0 256 (partyCount b p) (partyFirst b p) (partiesBefore b p) (rows b)
         list = dw ∙ rw (en, ef, eb, eu)
 
+        alone : any (λ j. eqb (name b j) (name b p)) p ≡ false
+        alone = sym dv ∙ e
+
         pub party-list : w ≡ true → true ≡ partyBreaks b p
         unfolding partyBreaks
-        party-list h =
-            one-on _ _ _ named (one-on _ _ _ (differs-same _ _ (sym kinded ∙ a)) (one-on _ _ _ (sym dv ∙ e)
-            (one-here _ _ (sym list ∙ h))))
+        party-list h = one-on _ _ _ named (one-on _ _ _ atomic (one-on _ _ _ alone (one-here _ _ (sym list ∙ h))))
 
         pub party-falls : w ≡ false → (x : Bool) → x ≡ any (λ j. leb (pooled b f (j + 1)) (pooled b f j)) (n - 1) → x ≡ partyBreaks b p
         unfolding partyBreaks
         party-falls h x dx =
-            one-on _ _ _ named (one-on _ _ _ (differs-same _ _ (sym kinded ∙ a)) (one-on _ _ _ (sym dv ∙ e) (one-on _ _ _ (sym list ∙ h)
-            (one-last x _ (dx ∙ rw (en, ef))))))
+            one-on _ _ _ named (one-on _ _ _ atomic (one-on _ _ _ alone (one-on _ _ _ (sym list ∙ h) (one-last x _ (dx ∙ rw (en, ef))))))

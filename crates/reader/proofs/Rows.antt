@@ -1,9 +1,10 @@
 -- Refusal 4: a row that breaks its rule, and the parts of the rows that keep it. Assumes nothing.
 use Prim.Native.Nat.{ℕ, zero, suc, _+_, _≤_, _<_}
-use mathlib.Core.Bool.{Bool, true}
+use mathlib.Core.Bool.{Bool, true, false}
 use mathlib.Core.List.{List}
 use mathlib.Core.Path.{_≡_, ap, _∙_}
 use native.Mathlib.Omega.{arith}
+use lib.Dec.{ltb}
 use borrow.Author.Tests.{lt-ltb, le-ltb}
 use Rattle.book.specs.Layout.{rows, pool, kind, tag, rowFirst, rowCount, pooled, rowsBefore}
 use Rattle.book.specs.Rules.{listBreaks, fewest, largest, largestTag, rowBreaks}
@@ -17,14 +18,15 @@ module _ (b : List ℕ) (r k : ℕ) (d : k ≡ kind b r) where
   row-kind-breaks h = one-here _ _ (lt-ltb 4 (kind b r) (omega arith))
 
   module _ (l : k ≤ 4) (g t : ℕ) (dg : g ≡ largestTag k) (dt : t ≡ tag b r) where
+    kinded : ltb 4 (kind b r) ≡ false
+    kinded = le-ltb 4 (kind b r) (omega arith)
+
     tags : g ≡ largestTag (kind b r)
     tags = dg ∙ ap largestTag d
 
     pub row-tag-breaks : g < t → true ≡ rowBreaks b r
     unfolding rowBreaks
-    row-tag-breaks h =
-        let e = tags in
-        one-on _ _ _ (le-ltb 4 (kind b r) (omega arith)) (one-here _ _ (lt-ltb (largestTag (kind b r)) (tag b r) (omega arith)))
+    row-tag-breaks h = let e = tags in one-on _ _ _ kinded (one-here _ _ (lt-ltb (largestTag (kind b r)) (tag b r) (omega arith)))
 
     pub row-list-breaks : t ≤ g → (lo hi n f before : ℕ)
         → lo ≡ fewest k → hi ≡ largest k → n ≡ rowCount b r → f ≡ rowFirst b r → before ≡ rowsBefore b r
@@ -32,8 +34,8 @@ module _ (b : List ℕ) (r k : ℕ) (d : k ≡ kind b r) where
     unfolding rowBreaks
     row-list-breaks h lo hi n f before elo ehi en ef eb v z =
         let e = tags in
-        one-on _ _ _ (le-ltb 4 (kind b r) (omega arith)) (one-on _ _ _ (le-ltb (largestTag (kind b r)) (tag b r) (omega arith))
-        (one-last v _ (z ∙ rw (elo, ehi, en, ef, eb, d))))
+        let tagged = le-ltb (largestTag (kind b r)) (tag b r) (omega arith) in
+        one-on _ _ _ kinded (one-on _ _ _ tagged (one-last v _ (z ∙ rw (elo, ehi, en, ef, eb, d))))
 
 -- ---- the parts of a row k that keeps its rule, which begin at f in the pool: at most 9, all in the pool, and all rows before it
 pub record Parts (b : List ℕ) (k f n : ℕ) : Type 0 where

@@ -10,7 +10,6 @@ use lib.Dec.{ltb}
 use borrow.Author.Tests.{eq-eqb, ne-eqb}
 use Rattle.words.specs.Choice.Laws.{pick-true, pick-false}
 use Rattle.words.specs.First.{first, any}
-use Rattle.words.specs.Run.{run}
 use Rattle.words.specs.Run.Laws.{run-length, run-getD}
 use Rattle.book.specs.Layout.{begins, rows, kind, tag, rowFirst, rowCount, pooled, parts}
 use Rattle.book.specs.Rules.{Agree, agrees, repeats}

@@ -2,7 +2,6 @@
 use Prim.Native.Nat.{_-_, _≤_}
 use mathlib.Core.Path.{refl}
 use lib.Dec.{leb}
-use native.Mathlib.Omega.{arith}
 use borrow.Author.Needs.{needs}
 use Rattle.book.specs.Layout.{pooled}
 use Rattle.reader.proofs.Scans.{Passed, passed-none, passed-more, some-breaks, none-breaks}

@@ -15,7 +15,7 @@ use Rattle.reader.proofs.counts.Tie as tie
 abbrev book : tie.Start → List ℕ
 book start = start .args .book .now
 
--- section i breaks its rule, if the call of `outside` for it says so; behind its test the sections up to it have passed
+-- a section breaks its rule where `outside` says so of its count; behind its test the sections up to it have passed
 returns : tie.Need-returns
 returns c =
     let test : tie.After-outside = search in

@@ -1,16 +1,17 @@
 -- `reader::entry_falls` meets its contract: every entry that the loop has passed is below the next. Assumes nothing.
-use Prim.Native.Nat.{_+_, _-_, _≤_}
+use Prim.Native.Nat.{_+_, _-_}
+use mathlib.Core.Path.{refl}
 use lib.Dec.{leb}
 use native.Mathlib.Omega.{arith}
 use borrow.Author.Needs.{needs}
 use Rattle.book.specs.Layout.{pooled}
-use Rattle.reader.proofs.Scans.{Passed, passed-none, passed-more, some-breaks, none-breaks}
+use Rattle.reader.proofs.Scans.{Scanning, scan-begins, scan-goes, some-breaks, none-breaks}
 use Rattle.reader.proofs.Tests.{leb-yes, leb-no}
 use Rattle.reader.proofs.entry_falls.Statement.{statement}
 use Rattle.reader.proofs.entry_falls.Tie as tie
 
 abbrev Inv-loop : tie.InvT-loop
-Inv-loop book first n j₀ j = (j ≤ n) × Passed (λ k. leb (pooled book first (k + 1)) (pooled book first k)) j
+Inv-loop book first n j₀ j = Scanning (λ k. leb (pooled book first (k + 1)) (pooled book first k)) (n - 1) j
 
 abbrev μ-loop : tie.MeasureT-loop
 μ-loop book first n j₀ j = n - j
@@ -29,13 +30,13 @@ loop-again c =
     let after-pooled : tie.After-pooled Inv-loop μ-loop = search in
     let at-loop : tie.At-loop Inv-loop μ-loop = search in
     let below = leb-no _ _ _ _ (after-pooled .pooled .ensures) (after-pooled2 .pooled2 .ensures) (c .if1 .left) in
-    (search needs, passed-more _ _ (at-loop .loop .inv .1) below)
+    scan-goes _ _ _ (at-loop .loop .inv) (omega arith) _ refl below
 
 -- the last entry has no next
 returns-2 : tie.Need-returns-2 Inv-loop μ-loop
 returns-2 c =
     let at-loop : tie.At-loop Inv-loop μ-loop = search in
-    none-breaks _ _ _ (omega arith) (at-loop .loop .inv .1)
+    none-breaks _ _ _ (omega arith) (at-loop .loop .inv)
 
 pub entry-falls-spec : {M : Type 1} → statement M
 entry-falls-spec =
@@ -43,7 +44,7 @@ entry-falls-spec =
     (tie.spec
     Inv-loop
     μ-loop
-    (λ c. (search needs, passed-none _))  -- loop-holds
+    (λ c. scan-begins _ _)  -- loop-holds
     (λ c. search needs)  -- add-loop
     (λ c. search needs)  -- add-pooled
     (λ c κs. search needs)  -- pooled-requires

@@ -8,13 +8,13 @@ use native.Mathlib.Omega.{arith}
 use borrow.Author.Needs.{needs}
 use Rattle.book.specs.Rules.{agrees}
 use Rattle.reader.proofs.Rows.{Parts, parts-of}
-use Rattle.reader.proofs.Scans.{Passed, passed-none}
+use Rattle.reader.proofs.Scans.{Scanning, scan-begins}
 use Rattle.reader.proofs.Twins.{up-to-part}
 use Rattle.reader.proofs.hunt_from.Statement.{statement}
 use Rattle.reader.proofs.hunt_from.Tie as tie
 
 abbrev Inv-loop : tie.InvT-loop
-Inv-loop book row first n from₀ j₀ from j = (j ≤ n) × Passed (agrees book row) from × (from ≤ row)
+Inv-loop book row first n from₀ j₀ from j = (j ≤ n) × Scanning (agrees book row) row from
 
 abbrev μ-loop : tie.MeasureT-loop
 μ-loop book row first n from₀ j₀ from j = n - j
@@ -50,9 +50,12 @@ loop-again c =
     let part : tie.After-pooled Inv-loop μ-loop = search in
     let at-loop : tie.At-loop Inv-loop μ-loop = search in
     let before = earlier part in
+    let hunt = at-loop .loop .inv .1 in
     elim (c .if1 .came) [
-      | inl (taken, behind) ↦ (omega arith, (λ k h. no-twin part k (omega arith)), omega arith)
-      | inr (left, same) ↦ (omega arith, (λ k h. at-loop .loop .inv .1 k (omega arith)), omega arith)
+      | inl (taken, behind) ↦
+          (omega arith, record { within = omega arith; passed = λ k h. no-twin part k (omega arith) })
+      | inr (left, same) ↦
+          (omega arith, record { within = omega arith; passed = λ k h. hunt .passed k (omega arith) })
     ]
 
 pub hunt-from-spec : {M : Type 1} → statement M
@@ -63,7 +66,7 @@ hunt-from-spec =
     μ-loop
     (λ c κs. search needs)  -- row-first-requires
     (λ c κs. search needs)  -- row-count-requires
-    (λ c. (omega arith, passed-none _, omega arith))  -- loop-holds
+    (λ c. (omega arith, scan-begins _ _))  -- loop-holds
     (λ c κs. (search needs, omega (arith, parts (search))))  -- pooled-requires
     (λ c. omega (arith, earlier (search)))  -- add-from
     (λ c. search needs)  -- add-j

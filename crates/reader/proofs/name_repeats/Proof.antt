@@ -1,15 +1,16 @@
 -- `reader::name_repeats` meets its contract: every party that the loop has passed has another name. Assumes nothing.
-use Prim.Native.Nat.{_-_, _≤_}
+use Prim.Native.Nat.{_-_}
+use mathlib.Core.Path.{refl}
 use lib.Dec.{eqb}
 use borrow.Author.Needs.{needs}
 use Rattle.book.specs.Layout.{name}
-use Rattle.reader.proofs.Scans.{Passed, passed-none, passed-more, some-breaks, none-breaks}
+use Rattle.reader.proofs.Scans.{Scanning, scan-begins, scan-goes, some-breaks, none-breaks}
 use Rattle.reader.proofs.Tests.{eqb-yes, eqb-no}
 use Rattle.reader.proofs.name_repeats.Statement.{statement}
 use Rattle.reader.proofs.name_repeats.Tie as tie
 
 abbrev Inv-loop : tie.InvT-loop
-Inv-loop book party own k₀ k = (k ≤ party) × Passed (λ m. eqb (name book m) (name book party)) k
+Inv-loop book party own k₀ k = Scanning (λ m. eqb (name book m) (name book party)) party k
 
 abbrev μ-loop : tie.MeasureT-loop
 μ-loop book party own k₀ k = party - k
@@ -18,11 +19,12 @@ abbrev μ-loop : tie.MeasureT-loop
 loop-again : tie.Need-loop-again Inv-loop μ-loop
 loop-again c =
     let after-party-name2 : tie.After-party-name2 Inv-loop μ-loop = search in
+    let in-loop : tie.In-loop Inv-loop μ-loop = search in
     let at-loop : tie.At-loop Inv-loop μ-loop = search in
     let after-party-name : tie.After-party-name Inv-loop μ-loop = search in
     let other =
     eqb-no _ _ _ _ (after-party-name2 .party-name2 .ensures) (after-party-name .party-name .ensures) (c .if1 .left) in
-    (search needs, passed-more _ _ (at-loop .loop .inv .1) other)
+    scan-goes _ _ _ (at-loop .loop .inv) (in-loop .loop-test .taken) _ refl other
 
 pub name-repeats-spec : {M : Type 1} → statement M
 name-repeats-spec =
@@ -31,7 +33,7 @@ name-repeats-spec =
     Inv-loop
     μ-loop
     (λ c κs. search needs)  -- party-name-requires
-    (λ c. (search needs, passed-none _))  -- loop-holds
+    (λ c. scan-begins _ _)  -- loop-holds
     (λ c κs. search needs)  -- party-name-requires-2
     (λ c. search (some-breaks, eqb-yes, needs))  -- returns
     (λ c. search needs)  -- add-k

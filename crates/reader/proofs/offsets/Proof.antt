@@ -17,7 +17,8 @@ use Rattle.reader.proofs.offsets.Tie as tie
 abbrev book : tie.Start → List ℕ
 book start = start .args .book .now
 
--- what code computed is `offset` by definition; behind a section's test the sections up to it have passed
+-- the sum that a section's word is compared with is its `offset`, by definition; behind its test the sections up to it
+-- have passed
 returns : tie.Need-returns
 unfolding offset
 returns c = first-at _ _ 0 (omega arith) (passed-none _) (begins-wrong _ 0 _ (omega arith) refl (c .if1 .taken))
@@ -50,7 +51,7 @@ passed-4 : (c : tie.Else4) → Passed (offsetBreaks (book (search))) 4
 unfolding offset
 passed-4 c = passed-more _ 3 (passed-3 (search)) (begins-right _ 3 _ (omega arith) refl (c .if4 .left))
 
--- the length, which `wide` gave as code compares it
+-- the book's length is compared with what `wide` gave
 returns-5 : tie.Need-returns-5
 returns-5 c =
     let after-wide : tie.After-wide = search in

@@ -1,20 +1,20 @@
 -- `reader::oversize` meets its contract: the sizes of the rows that the loop has passed stand in the table, and none is
 -- over 1,024. Assumes nothing.
-use Prim.Native.Nat.{ℕ, _-_, _≤_}
-use mathlib.Core.Path.{_≡_, _∙_}
+use Prim.Native.Nat.{ℕ, _-_}
+use mathlib.Core.Path.{_≡_, refl, _∙_}
 use lib.ListN.{length, length-set, length-replicate}
 use native.Mathlib.Omega.{arith}
 use borrow.Author.Needs.{needs}
 use Rattle.words.specs.First.Laws.{first-at}
 use Rattle.book.specs.Rules.{sizeBreaks}
-use Rattle.reader.proofs.Scans.{Passed, passed-none, passed-more, ends-at}
+use Rattle.reader.proofs.Scans.{Scanning, scan-begins, scan-goes, ends-at}
 use Rattle.reader.proofs.Sizes.{Sizes, size-fits, size-over, size-within, size-stored}
 use Rattle.reader.proofs.oversize.Statement.{statement}
 use Rattle.reader.proofs.oversize.Tie as tie
 
 abbrev Inv-loop : tie.InvT-loop
 Inv-loop book n sizes₀ row₀ sizes row =
-    (row ≤ n) × Passed (sizeBreaks book) row × Sizes book sizes row × (length sizes ≡ 1024)
+    Scanning (sizeBreaks book) n row × Sizes book sizes row × (length sizes ≡ 1024)
 
 abbrev μ-loop : tie.MeasureT-loop
 μ-loop book n sizes₀ row₀ sizes row = n - row
@@ -23,13 +23,14 @@ abbrev μ-loop : tie.MeasureT-loop
 row-size-requires : tie.Need-row-size-requires Inv-loop μ-loop
 row-size-requires c κs =
     let at-loop : tie.At-loop Inv-loop μ-loop = search in
-    (search needs, search needs, omega arith, at-loop .loop .inv .2, λ k h. size-fits _ k (at-loop .loop .inv .1 k h))
+    let scanning = at-loop .loop .inv .0 in
+    (search needs, search needs, omega arith, at-loop .loop .inv .1, λ k h. size-fits _ k (scanning .passed k h))
 
 returns : tie.Need-returns Inv-loop μ-loop
 returns c =
     let after-row-size : tie.After-row-size Inv-loop μ-loop = search in
     let at-loop : tie.At-loop Inv-loop μ-loop = search in
-    first-at _ _ _ (omega arith) (at-loop .loop .inv .1)
+    first-at _ _ _ (omega arith) (at-loop .loop .inv .0 .passed)
     (size-over _ _ _ (after-row-size .row-size .ensures) (omega arith))
 
 -- the row asked about is not over 1,024 either, and its size goes into the table
@@ -37,13 +38,13 @@ loop-again : tie.Need-loop-again Inv-loop μ-loop
 loop-again c =
     let else1 : tie.Else1 Inv-loop μ-loop = search in
     let after-row-size : tie.After-row-size Inv-loop μ-loop = search in
+    let in-loop : tie.In-loop Inv-loop μ-loop = search in
     let at-loop : tie.At-loop Inv-loop μ-loop = search in (
-      search needs,
-      passed-more _ _ (at-loop .loop .inv .1)
+      scan-goes _ _ _ (at-loop .loop .inv .0) (in-loop .loop-test .taken) _ refl
           (size-within _ _ _ (after-row-size .row-size .ensures) (else1 .if1 .left)),
-      size-stored _ (at-loop .loop .sizes) _ (c .wide .result) _ (at-loop .loop .inv .2) (c .wide .ensures .0)
+      size-stored _ (at-loop .loop .sizes) _ (c .wide .result) _ (at-loop .loop .inv .1) (c .wide .ensures .0)
           (omega arith) (after-row-size .row-size .ensures),
-      length-set (at-loop .loop .sizes) (c .wide .result) (after-row-size .row-size .result) ∙ at-loop .loop .inv .3,
+      length-set (at-loop .loop .sizes) (c .wide .result) (after-row-size .row-size .result) ∙ at-loop .loop .inv .2,
     )
 
 pub oversize-spec : {M : Type 1} → statement M
@@ -53,7 +54,7 @@ oversize-spec =
     Inv-loop
     μ-loop
     (λ c κs. search needs)  -- rows-requires
-    (λ c. (search needs, passed-none _, (λ k h. absurd (omega arith)), length-replicate {A = ℕ} 1024 0))  -- loop-holds
+    (λ c. (scan-begins _ _, (λ k h. absurd (omega arith)), length-replicate {A = ℕ} 1024 0))  -- loop-holds
     row-size-requires
     returns
     (λ c κs. search needs)  -- wide-requires

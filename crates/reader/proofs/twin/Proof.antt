@@ -10,7 +10,7 @@ use Rattle.words.specs.First.Laws.{first-at, first-end}
 use Rattle.book.specs.Layout.{pooled}
 use Rattle.book.specs.Rules.{agrees}
 use Rattle.reader.proofs.Rows.{Parts, parts-of}
-use Rattle.reader.proofs.Scans.{Passed, passed-more}
+use Rattle.reader.proofs.Scans.{Scanning, scan-goes}
 use Rattle.reader.proofs.Twins.{agree-all, agree-kind, agree-tag, agree-count, agree-part}
 use Rattle.reader.proofs.twin.Statement.{statement}
 use Rattle.reader.proofs.twin.Tie as tie
@@ -23,7 +23,7 @@ abbrev μ-parts : tie.MeasureT-parts
 μ-parts book row kind tag first n k other j₀ j = n - j
 
 abbrev Inv-rows : tie.InvT-rows
-Inv-rows book row kind tag first n k₀ k = (k ≤ row) × Passed (agrees book row) k
+Inv-rows book row kind tag first n k₀ k = Scanning (agrees book row) row k
 
 abbrev μ-rows : tie.MeasureT-rows
 μ-rows book row kind tag first n k₀ k = row - k
@@ -61,43 +61,39 @@ module _ (c : in-twin tie.After-row-first2) where
 
 -- the parts that were read are equal too
 parts-again : in-twin tie.Need-parts-again
-parts-again c = (
-  search needs,
-  let at-parts : in-twin tie.At-parts = search in
-      let after-pooled : in-twin tie.After-pooled = search in
-      let after-pooled2 : in-twin tie.After-pooled2 = search in
-      below-more _ _ (at-parts .parts .inv .1)
-      (sym (after-pooled .pooled .ensures) ∙ c .if6 .left ∙ after-pooled2 .pooled2 .ensures),
-)
+parts-again c =
+    let at-parts : in-twin tie.At-parts = search in
+    let after-pooled : in-twin tie.After-pooled = search in
+    let after-pooled2 : in-twin tie.After-pooled2 = search in
+    let equal = sym (after-pooled .pooled .ensures) ∙ c .if6 .left ∙ after-pooled2 .pooled2 .ensures in
+    (search needs, below-more _ _ (at-parts .parts .inv .1) equal)
 
 -- the other row differs in a part, in its count, in its tag or in its kind
 rows-again : in-twin tie.Need-rows-again
-rows-again c = (
-  search needs,
-  let kind2 : in-twin tie.After-row-kind2 = search in
-      let at-rows : in-twin tie.At-rows = search in
-      let count : in-twin tie.After-row-count = search in
-      let first : in-twin tie.After-row-first = search in
-      let tag : in-twin tie.After-row-tag = search in
-      let kind : in-twin tie.After-row-kind = search in
-      passed-more _ _ (at-rows .rows .inv .1)
-      (elim (c .if2 .came) [
-        | inl (if2, tag2, if3, count2, if4, first2, turn, if5, part, part2, if6) ↦
-            agree-part _ _ _ _ _ _ _ (first .row-first .ensures .0) (count .row-count .ensures .0) (count2 .ensures .0)
-            (if4 .taken) (first2 .ensures .0) _ _ _ (turn .inv .0) (if5 .left)
-            (part .ensures) (part2 .ensures) (if6 .taken)
-        | inr (inl (if2, tag2, if3, count2, if4)) ↦
-            agree-count _ _ _ _ _ (count .row-count .ensures .0) (count2 .ensures .0) (if4 .left)
-        | inr (inr (inl (if2, tag2, if3))) ↦ agree-tag _ _ _ _ _ (tag .row-tag .ensures) (tag2 .ensures) (if3 .left)
-        | inr (inr (inr if2)) ↦ agree-kind _ _ _ _ _ (kind .row-kind .ensures) (kind2 .row-kind2 .ensures) (if2 .left)
-      ]),
-)
+rows-again c =
+    let kind2 : in-twin tie.After-row-kind2 = search in
+    let at-rows : in-twin tie.At-rows = search in
+    let count : in-twin tie.After-row-count = search in
+    let first : in-twin tie.After-row-first = search in
+    let tag : in-twin tie.After-row-tag = search in
+    let kind : in-twin tie.After-row-kind = search in
+    scan-goes _ _ _ (at-rows .rows .inv) (omega arith) _ refl
+    (elim (c .if2 .came) [
+      | inl (if2, tag2, if3, count2, if4, first2, turn, if5, part, part2, if6) ↦
+          agree-part _ _ _ _ _ _ _ (first .row-first .ensures .0) (count .row-count .ensures .0) (count2 .ensures .0)
+          (if4 .taken) (first2 .ensures .0) _ _ _ (turn .inv .0) (if5 .left)
+          (part .ensures) (part2 .ensures) (if6 .taken)
+      | inr (inl (if2, tag2, if3, count2, if4)) ↦
+          agree-count _ _ _ _ _ (count .row-count .ensures .0) (count2 .ensures .0) (if4 .left)
+      | inr (inr (inl (if2, tag2, if3))) ↦ agree-tag _ _ _ _ _ (tag .row-tag .ensures) (tag2 .ensures) (if3 .left)
+      | inr (inr (inr if2)) ↦ agree-kind _ _ _ _ _ (kind .row-kind .ensures) (kind2 .row-kind2 .ensures) (if2 .left)
+    ])
 
 -- no row before the row itself agrees
 returns : in-twin tie.Need-returns
 returns c =
     let at-rows : in-twin tie.At-rows = search in
-    first-end _ _ _ refl (λ m h. at-rows .rows .inv .1 m (omega arith))
+    first-end _ _ _ refl (λ m h. at-rows .rows .inv .passed m (omega arith))
 
 -- the other row agrees in kind, tag, count and every part
 returns-2 : in-twin tie.Need-returns-2
@@ -121,7 +117,7 @@ returns-2 c =
     (kind .row-kind .ensures) (kind2 .row-kind2 .ensures) (then2 .if2 .taken)
     (tag .row-tag .ensures) (tag2 .row-tag2 .ensures) (then3 .if3 .taken)
     (c .if5 .taken) (at-parts .parts .inv .1) in
-    first-at _ _ _ (omega arith) (at-rows .rows .inv .1) same
+    first-at _ _ _ (omega arith) (at-rows .rows .inv .passed) same
 
 pub twin-spec : {M : Type 1} → statement M
 twin-spec =

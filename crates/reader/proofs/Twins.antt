@@ -7,6 +7,7 @@ use native.Mathlib.Omega.{arith}
 use lib.ListN.{length, getD}
 use lib.Seq.{ext-getD}
 use lib.Dec.{ltb}
+use borrow.Author.Count.{below-none, below-more}
 use borrow.Author.Tests.{eq-eqb, ne-eqb}
 use Rattle.words.specs.Choice.Laws.{pick-true, pick-false}
 use Rattle.words.specs.First.{first, any}
@@ -40,7 +41,7 @@ module _ (b : List ℕ) (r k : ℕ) where
       let q = parts-length b r in
       ext-getD 0 _ _ (omega arith) (λ j l. parts-at b k j (omega arith) ∙ h j (omega arith) ∙ sym (parts-at b r j (omega arith)))
 
-  -- ---- agrees: what was read of the row r and of the row k decides
+  -- ---- agrees: what was read of the row r and of the row k differs
   pub agree-kind : (c c' : ℕ) → c ≡ kind b r → c' ≡ kind b k → (c' ≡ c → ⊥) → agrees b r k ≡ false
   agree-kind c c' e a n = not-agrees b r k (λ x. n (a ∙ x .kinds ∙ sym e))
 
@@ -50,22 +51,66 @@ module _ (b : List ℕ) (r k : ℕ) where
   pub agree-count : (n n' : ℕ) → n ≡ rowCount b r → n' ≡ rowCount b k → (n' ≡ n → ⊥) → agrees b r k ≡ false
   agree-count n n' e a m = not-agrees b r k (λ x. m (a ∙ agreed-counts x ∙ sym e))
 
-  module _ (f n g n' : ℕ) (ef : f ≡ rowFirst b r) (en : n ≡ rowCount b r)
-      (a : n' ≡ rowCount b k) (d : n' ≡ n) (y : g ≡ rowFirst b k) (j : ℕ) where
-    pub agree-part : (p q : ℕ) → j ≤ n → (j ≡ n → ⊥) → p ≡ pooled b g j → q ≡ pooled b f j → (p ≡ q → ⊥)
-        → agrees b r k ≡ false
-    agree-part p q l z hp hq m =
-        not-agrees b r k (λ x. m (hp ∙ ap (λ w. pooled b w j) y ∙ agreed-parts x j (omega arith) ∙ ap (λ w. pooled b w j) (sym ef) ∙ sym hq))
+-- ---- Alike: the rows r and k are alike in kind and tag, both have n parts, which begin at f and at g, and the first j are equal
+pub record Alike (b : List ℕ) (r k f g n j : ℕ) : Type 0 where
+  pub kinds : kind b k ≡ kind b r
+  pub tags : tag b k ≡ tag b r
+  pub own-first : f ≡ rowFirst b r
+  pub own-count : n ≡ rowCount b r
+  pub other-first : g ≡ rowFirst b k
+  pub other-count : n ≡ rowCount b k
+  pub within : j ≤ n
+  pub equal : (i : ℕ) → i < j → pooled b g i ≡ pooled b f i
 
-    pub agree-all : (c c' t t' : ℕ) → c ≡ kind b r → c' ≡ kind b k → c' ≡ c → t ≡ tag b r → t' ≡ tag b k → t' ≡ t
-        → j ≡ n → ((i : ℕ) → i < j → pooled b g i ≡ pooled b f i) → agrees b r k ≡ true
-    agree-all c c' t t' ec h h' et u u' z p =
-        agrees-exact b r k .1
-        (record {
-          kinds = sym h ∙ h' ∙ ec;
-          tags = sym u ∙ u' ∙ et;
-          partss = same-parts (sym a ∙ d ∙ en) (λ i l. ap (λ x. pooled b x i) (sym y) ∙ p i (omega arith) ∙ ap (λ x. pooled b x i) ef);
-        })
+-- c and c', t and t', n and n', f and g are what was read of the two rows
+pub alike-begins : (b : List ℕ) (r k c c' t t' f g n n' : ℕ)
+    → c ≡ kind b r → c' ≡ kind b k → c' ≡ c → t ≡ tag b r → t' ≡ tag b k → t' ≡ t
+    → n ≡ rowCount b r → n' ≡ rowCount b k → n' ≡ n → f ≡ rowFirst b r → g ≡ rowFirst b k → Alike b r k f g n 0
+alike-begins b r k c c' t t' f g n n' ec ec' hc et et' ht en en' hn ef eg = record {
+  kinds = omega arith;
+  tags = omega arith;
+  own-first = ef;
+  own-count = en;
+  other-first = eg;
+  other-count = omega arith;
+  within = omega arith;
+  equal = below-none _;
+}
+
+module _ (b : List ℕ) (r k f g n j : ℕ) (a : Alike b r k f g n j) where
+  -- p and q are the parts that were read
+  module _ (z : j ≡ n → ⊥) (p q : ℕ) (dp : p ≡ pooled b g j) (dq : q ≡ pooled b f j) where
+    pub alike-goes : p ≡ q → Alike b r k f g n (j + 1)
+    alike-goes e =
+        let l = a .within in
+        record {
+          kinds = a .kinds;
+          tags = a .tags;
+          own-first = a .own-first;
+          own-count = a .own-count;
+          other-first = a .other-first;
+          other-count = a .other-count;
+          within = omega arith;
+          equal = below-more _ j (a .equal) (sym dp ∙ e ∙ dq);
+        }
+
+    pub alike-differs : (p ≡ q → ⊥) → agrees b r k ≡ false
+    alike-differs m =
+        let l = a .within in
+        let c = a .own-count in
+        not-agrees b r k (λ x. m (dp ∙ ap (λ w. pooled b w j) (a .other-first) ∙ agreed-parts b r k x j (omega arith)
+        ∙ ap (λ w. pooled b w j) (sym (a .own-first)) ∙ sym dq))
+
+  pub alike-agrees : j ≡ n → agrees b r k ≡ true
+  alike-agrees z =
+      let c = a .own-count in
+      agrees-exact b r k .1
+      (record {
+        kinds = a .kinds;
+        tags = a .tags;
+        partss = same-parts b r k (sym (a .other-count) ∙ c) (λ i l. ap (λ w. pooled b w i) (sym (a .other-first))
+            ∙ a .equal i (omega arith) ∙ ap (λ w. pooled b w i) (a .own-first));
+      })
 
 -- a row up to one of the parts of row r has its own parts before it, so that it can't agree with row r
 pub up-to-part : (b : List ℕ) → RowsKeep b → (r : ℕ) → r < rows b → (f n j p : ℕ) → f ≡ rowFirst b r → n ≡ rowCount b r

@@ -1,23 +1,20 @@
--- `reader::twin` meets its contract: no row passed agrees, and the parts passed are equal; a difference in kind, tag,
--- count or part shows that two rows do not agree. Assumes nothing.
-use Prim.Native.Nat.{ℕ, _-_, _≤_, _<_}
-use mathlib.Core.Path.{_≡_, refl, sym, _∙_}
+-- `reader::twin` meets its contract: no row passed agrees, since it differs in kind, tag, count or part; the row that
+-- is returned is alike in all of them. Assumes nothing.
+use Prim.Native.Nat.{_-_}
+use mathlib.Core.Path.{refl}
 use mathlib.Core.Logic.{inl, inr}
-use borrow.Author.Count.{below-none, below-more}
-use borrow.Author.Needs.{needs}
 use native.Mathlib.Omega.{arith}
+use borrow.Author.Needs.{needs}
 use Rattle.words.specs.First.Laws.{first-at, first-end}
-use Rattle.book.specs.Layout.{pooled}
 use Rattle.book.specs.Rules.{agrees}
 use Rattle.reader.proofs.Rows.{Parts, parts-of}
 use Rattle.reader.proofs.Scans.{Scanning, scan-goes}
-use Rattle.reader.proofs.Twins.{agree-all, agree-kind, agree-tag, agree-count, agree-part}
+use Rattle.reader.proofs.Twins.{agree-kind, agree-tag, agree-count, Alike, alike-begins, alike-goes, alike-differs, alike-agrees}
 use Rattle.reader.proofs.twin.Statement.{statement}
 use Rattle.reader.proofs.twin.Tie as tie
 
 abbrev Inv-parts : tie.InvT-parts
-Inv-parts book row kind tag first n k other j₀ j =
-    (j ≤ n) × ((i : ℕ) → i < j → pooled book other i ≡ pooled book first i)
+Inv-parts book row kind tag first n k other j₀ j = Alike book row k first other n j
 
 abbrev μ-parts : tie.MeasureT-parts
 μ-parts book row kind tag first n k other j₀ j = n - j
@@ -32,59 +29,71 @@ abbrev μ-rows : tie.MeasureT-rows
 abbrev in-twin : (tie.InvT-parts → tie.MeasureT-parts → tie.InvT-rows → tie.MeasureT-rows → Type 0) → Type 0
 in-twin P = P Inv-parts μ-parts Inv-rows μ-rows
 
--- the row's parts, as its first and its count say
-module _ (c : in-twin tie.After-row-count) where
+-- the parts of both rows lie in the pool
+module _ (c : in-twin tie.At-parts) where
   abbrev start : in-twin tie.Start
   start = search
 
-  abbrev own-first : in-twin tie.After-row-first
-  own-first = search
+  abbrev at-rows : in-twin tie.At-rows
+  at-rows = search
 
-  parts : Parts (start .args .book .now) (start .args .row) (own-first .row-first .result) (c .row-count .result)
-  parts = search parts-of
+  abbrev own : in-twin tie.After-row-first
+  own = search
 
--- and the other row's
-module _ (c : in-twin tie.After-row-first2) where
-  abbrev here : in-twin tie.Start
-  here = search
-
-  abbrev other-count : in-twin tie.After-row-count2
-  other-count = search
-
-  abbrev other : in-twin tie.At-rows
+  abbrev other : in-twin tie.After-row-first2
   other = search
 
-  parts-of-other :
-      Parts (here .args .book .now) (other .rows .k) (c .row-first2 .result) (other-count .row-count2 .result)
-  parts-of-other =
-      parts-of _ (here .pre .1) _ (omega arith) _ _ (c .row-first2 .ensures .0) (other-count .row-count2 .ensures .0)
+  abbrev count : in-twin tie.After-row-count
+  count = search
+
+  own-parts : Parts (start .args .book .now) (start .args .row) (own .row-first .result) (count .row-count .result)
+  own-parts = parts-of _ (start .pre .1) _ (start .pre .2) _ _ (c .parts .inv .own-first) (c .parts .inv .own-count)
+
+  other-parts : Parts (start .args .book .now) (at-rows .rows .k) (other .row-first2 .result) (count .row-count .result)
+  other-parts = parts-of _ (start .pre .1) _ (omega arith) _ _ (c .parts .inv .other-first) (c .parts .inv .other-count)
+
+-- behind the three tests the rows are alike, but for their parts
+parts-holds : in-twin tie.Need-parts-holds
+parts-holds c =
+    let then4 : in-twin tie.Then4 = search in
+    let count2 : in-twin tie.After-row-count2 = search in
+    let then3 : in-twin tie.Then3 = search in
+    let tag2 : in-twin tie.After-row-tag2 = search in
+    let then2 : in-twin tie.Then2 = search in
+    let kind2 : in-twin tie.After-row-kind2 = search in
+    let count : in-twin tie.After-row-count = search in
+    let first : in-twin tie.After-row-first = search in
+    let tag : in-twin tie.After-row-tag = search in
+    let kind : in-twin tie.After-row-kind = search in
+    alike-begins _ _ _ _ _ _ _ _ _ _ _ (kind .row-kind .ensures) (kind2 .row-kind2 .ensures) (then2 .if2 .taken)
+    (tag .row-tag .ensures) (tag2 .row-tag2 .ensures) (then3 .if3 .taken)
+    (count .row-count .ensures .0) (count2 .row-count2 .ensures .0) (then4 .if4 .taken)
+    (first .row-first .ensures .0) (c .row-first2 .ensures .0)
 
 -- the parts that were read are equal too
 parts-again : in-twin tie.Need-parts-again
 parts-again c =
-    let at-parts : in-twin tie.At-parts = search in
-    let after-pooled : in-twin tie.After-pooled = search in
-    let after-pooled2 : in-twin tie.After-pooled2 = search in
-    let equal = sym (after-pooled .pooled .ensures) ∙ c .if6 .left ∙ after-pooled2 .pooled2 .ensures in
-    (search needs, below-more _ _ (at-parts .parts .inv .1) equal)
+    let part2 : in-twin tie.After-pooled2 = search in
+    let part : in-twin tie.After-pooled = search in
+    let else5 : in-twin tie.Else5 = search in
+    let parts : in-twin tie.At-parts = search in
+    alike-goes _ _ _ _ _ _ _ (parts .parts .inv) (else5 .if5 .left) _ _ (part .pooled .ensures)
+    (part2 .pooled2 .ensures) (c .if6 .left)
 
 -- the other row differs in a part, in its count, in its tag or in its kind
 rows-again : in-twin tie.Need-rows-again
 rows-again c =
     let kind2 : in-twin tie.After-row-kind2 = search in
-    let at-rows : in-twin tie.At-rows = search in
-    let count : in-twin tie.After-row-count = search in
-    let first : in-twin tie.After-row-first = search in
+    let rows : in-twin tie.At-rows = search in
+    let own-count : in-twin tie.After-row-count = search in
     let tag : in-twin tie.After-row-tag = search in
     let kind : in-twin tie.After-row-kind = search in
-    scan-goes _ _ _ (at-rows .rows .inv) (omega arith) _ refl
+    scan-goes _ _ _ (rows .rows .inv) (omega arith) _ refl
     (elim (c .if2 .came) [
-      | inl (if2, tag2, if3, count2, if4, first2, turn, if5, part, part2, if6) ↦
-          agree-part _ _ _ _ _ _ _ (first .row-first .ensures .0) (count .row-count .ensures .0) (count2 .ensures .0)
-          (if4 .taken) (first2 .ensures .0) _ _ _ (turn .inv .0) (if5 .left)
-          (part .ensures) (part2 .ensures) (if6 .taken)
+      | inl (if2, tag2, if3, count2, if4, first2, parts, if5, part, part2, if6) ↦
+          alike-differs _ _ _ _ _ _ _ (parts .inv) (if5 .left) _ _ (part .ensures) (part2 .ensures) (if6 .taken)
       | inr (inl (if2, tag2, if3, count2, if4)) ↦
-          agree-count _ _ _ _ _ (count .row-count .ensures .0) (count2 .ensures .0) (if4 .left)
+          agree-count _ _ _ _ _ (own-count .row-count .ensures .0) (count2 .ensures .0) (if4 .left)
       | inr (inr (inl (if2, tag2, if3))) ↦ agree-tag _ _ _ _ _ (tag .row-tag .ensures) (tag2 .ensures) (if3 .left)
       | inr (inr (inr if2)) ↦ agree-kind _ _ _ _ _ (kind .row-kind .ensures) (kind2 .row-kind2 .ensures) (if2 .left)
     ])
@@ -92,32 +101,16 @@ rows-again c =
 -- no row before the row itself agrees
 returns : in-twin tie.Need-returns
 returns c =
-    let at-rows : in-twin tie.At-rows = search in
-    first-end _ _ _ refl (λ m h. at-rows .rows .inv .passed m (omega arith))
+    let rows : in-twin tie.At-rows = search in
+    first-end _ _ _ refl (λ m h. rows .rows .inv .passed m (omega arith))
 
--- the other row agrees in kind, tag, count and every part
+-- the other row is alike in every part
 returns-2 : in-twin tie.Need-returns-2
 returns-2 c =
-    let at-parts : in-twin tie.At-parts = search in
-    let first2 : in-twin tie.After-row-first2 = search in
-    let then4 : in-twin tie.Then4 = search in
-    let count2 : in-twin tie.After-row-count2 = search in
-    let then3 : in-twin tie.Then3 = search in
-    let tag2 : in-twin tie.After-row-tag2 = search in
-    let then2 : in-twin tie.Then2 = search in
-    let kind2 : in-twin tie.After-row-kind2 = search in
-    let at-rows : in-twin tie.At-rows = search in
-    let count : in-twin tie.After-row-count = search in
-    let first : in-twin tie.After-row-first = search in
-    let tag : in-twin tie.After-row-tag = search in
-    let kind : in-twin tie.After-row-kind = search in
-    let same =
-    agree-all _ _ _ _ _ _ _ (first .row-first .ensures .0) (count .row-count .ensures .0)
-    (count2 .row-count2 .ensures .0) (then4 .if4 .taken) (first2 .row-first2 .ensures .0) _ _ _ _ _
-    (kind .row-kind .ensures) (kind2 .row-kind2 .ensures) (then2 .if2 .taken)
-    (tag .row-tag .ensures) (tag2 .row-tag2 .ensures) (then3 .if3 .taken)
-    (c .if5 .taken) (at-parts .parts .inv .1) in
-    first-at _ _ _ (omega arith) (at-rows .rows .inv .passed) same
+    let parts : in-twin tie.At-parts = search in
+    let rows : in-twin tie.At-rows = search in
+    first-at _ _ _ (omega arith) (rows .rows .inv .passed)
+    (alike-agrees _ _ _ _ _ _ _ (parts .parts .inv) (c .if5 .taken))
 
 pub twin-spec : {M : Type 1} → statement M
 twin-spec =
@@ -137,9 +130,9 @@ twin-spec =
     (λ c κs. search needs)  -- row-tag-requires-2
     (λ c κs. search needs)  -- row-count-requires-2
     (λ c κs. search needs)  -- row-first-requires-2
-    (λ c. (search needs, below-none _))  -- parts-holds
-    (λ c κs. (search, omega (arith, parts-of-other (search))))  -- pooled-requires
-    (λ c κs. (search, omega (arith, parts (search))))  -- pooled-requires-2
+    parts-holds
+    (λ c κs. (search, omega (arith, other-parts (search))))  -- pooled-requires
+    (λ c κs. (search, omega (arith, own-parts (search))))  -- pooled-requires-2
     (λ c. search needs)  -- add-j
     (λ c. search needs)  -- parts-less
     parts-again

@@ -19,16 +19,16 @@ module _ (b : List ℕ) where
   unfolding countBreaks
   count-at i u v e h = sym e ∙ h
 
-  -- ---- offsetBreaks: o is what code computed for the place where section i has to begin
-  pub begins-right : (i o : ℕ) → i < 4 → o ≡ offset b i → begins b i ≡ o → offsetBreaks b i ≡ false
+  -- ---- offsetBreaks: a section begins where it has to, or not
+  pub begins-right : (i : ℕ) → i < 4 → begins b i ≡ offset b i → offsetBreaks b i ≡ false
   unfolding offsetBreaks stated
-  begins-right i o l d e = differs-same _ _ (pick-true _ _ _ (lt-ltb i 4 l) ∙ e ∙ d)
+  begins-right i l e = differs-same _ _ (pick-true _ _ _ (lt-ltb i 4 l) ∙ e)
 
-  pub begins-wrong : (i o : ℕ) → i < 4 → o ≡ offset b i → (begins b i ≡ o → ⊥) → offsetBreaks b i ≡ true
+  pub begins-wrong : (i : ℕ) → i < 4 → (begins b i ≡ offset b i → ⊥) → offsetBreaks b i ≡ true
   unfolding offsetBreaks stated
-  begins-wrong i o l d n = differs-true _ _ (λ e. n (sym (pick-true (ltb i 4) (begins b i) (length b) (lt-ltb i 4 l)) ∙ e ∙ sym d))
+  begins-wrong i l n = differs-true _ _ (λ e. n (sym (pick-true (ltb i 4) (begins b i) (length b) (lt-ltb i 4 l)) ∙ e))
 
-  -- behind the last section the book ends
+  -- behind the last section the book ends: o is what code computed for its length
   pub length-right : (o : ℕ) → o ≡ offset b 4 → length b ≡ o → offsetBreaks b 4 ≡ false
   unfolding offsetBreaks stated pick
   length-right o d e = differs-same _ _ (e ∙ d)

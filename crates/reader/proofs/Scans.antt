@@ -13,8 +13,8 @@ Passed t k = (j : ℕ) → j < k → t j ≡ false
 
 -- a loop over n places has come to place k
 pub record Scanning (t : ℕ → Bool) (n k : ℕ) : Type 0 where
-  pub within : k ≤ n
   pub passed : Passed t k
+  pub within : k ≤ n
 
 module _ (t : ℕ → Bool) where
   -- ---- Passed
@@ -26,10 +26,10 @@ module _ (t : ℕ → Bool) where
 
   -- ---- Scanning: the first turn, and the next; v is what a call says of place k
   pub scan-begins : (n : ℕ) → Scanning t n 0
-  scan-begins n = record { within = omega arith; passed = passed-none }
+  scan-begins n = record { passed = passed-none; within = omega arith }
 
   pub scan-goes : (n k : ℕ) → Scanning t n k → k < n → (v : Bool) → v ≡ t k → v ≡ false → Scanning t n (k + 1)
-  scan-goes n k s l v d h = record { within = omega arith; passed = passed-more k (s .passed) (sym d ∙ h) }
+  scan-goes n k s l v d h = record { passed = passed-more k (s .passed) (sym d ∙ h); within = omega arith }
 
   -- ---- the first place that breaks the rule: the loop stops at place k, or ends; m is the number of places as code has it
   pub stops-at : (n k m : ℕ) → m ≡ n → k < m → Scanning t m k → (v : Bool) → v ≡ t k → v ≡ true → k ≡ first t n

@@ -53,9 +53,9 @@ loop-again c =
     let hunt = at-loop .loop .inv .1 in
     elim (c .if1 .came) [
       | inl (taken, behind) ↦
-          (omega arith, record { within = omega arith; passed = λ k h. no-twin part k (omega arith) })
+          (omega arith, record { passed = λ k h. no-twin part k (omega arith); within = omega arith })
       | inr (left, same) ↦
-          (omega arith, record { within = omega arith; passed = λ k h. hunt .passed k (omega arith) })
+          (omega arith, record { passed = λ k h. hunt .passed k (omega arith); within = omega arith })
     ]
 
 pub hunt-from-spec : {M : Type 1} → statement M

@@ -17,39 +17,43 @@ use Rattle.reader.proofs.offsets.Tie as tie
 abbrev book : tie.Start → List ℕ
 book start = start .args .book .now
 
--- the sum that a section's word is compared with is its `offset`, by definition; behind its test the sections up to it
--- have passed
+-- a section's word is compared with the section's `offset`, which computes; behind its test the sections up to it have
+-- passed
 returns : tie.Need-returns
 unfolding offset
-returns c = first-at _ _ 0 (omega arith) (passed-none _) (begins-wrong _ 0 _ (omega arith) refl (c .if1 .taken))
+returns c =
+    first-at _ _ 0 (omega arith) (passed-none _) (begins-wrong (book (search)) 0 (omega arith) (c .if1 .taken))
 
 passed-1 : (c : tie.Else1) → Passed (offsetBreaks (book (search))) 1
 unfolding offset
-passed-1 c = passed-more _ 0 (passed-none _) (begins-right _ 0 _ (omega arith) refl (c .if1 .left))
+passed-1 c = passed-more _ 0 (passed-none _) (begins-right (book (search)) 0 (omega arith) (c .if1 .left))
 
 returns-2 : tie.Need-returns-2
 unfolding offset
-returns-2 c = first-at _ _ 1 (omega arith) (passed-1 (search)) (begins-wrong _ 1 _ (omega arith) refl (c .if2 .taken))
+returns-2 c =
+    first-at _ _ 1 (omega arith) (passed-1 (search)) (begins-wrong (book (search)) 1 (omega arith) (c .if2 .taken))
 
 passed-2 : (c : tie.Else2) → Passed (offsetBreaks (book (search))) 2
 unfolding offset
-passed-2 c = passed-more _ 1 (passed-1 (search)) (begins-right _ 1 _ (omega arith) refl (c .if2 .left))
+passed-2 c = passed-more _ 1 (passed-1 (search)) (begins-right (book (search)) 1 (omega arith) (c .if2 .left))
 
 returns-3 : tie.Need-returns-3
 unfolding offset
-returns-3 c = first-at _ _ 2 (omega arith) (passed-2 (search)) (begins-wrong _ 2 _ (omega arith) refl (c .if3 .taken))
+returns-3 c =
+    first-at _ _ 2 (omega arith) (passed-2 (search)) (begins-wrong (book (search)) 2 (omega arith) (c .if3 .taken))
 
 passed-3 : (c : tie.Else3) → Passed (offsetBreaks (book (search))) 3
 unfolding offset
-passed-3 c = passed-more _ 2 (passed-2 (search)) (begins-right _ 2 _ (omega arith) refl (c .if3 .left))
+passed-3 c = passed-more _ 2 (passed-2 (search)) (begins-right (book (search)) 2 (omega arith) (c .if3 .left))
 
 returns-4 : tie.Need-returns-4
 unfolding offset
-returns-4 c = first-at _ _ 3 (omega arith) (passed-3 (search)) (begins-wrong _ 3 _ (omega arith) refl (c .if4 .taken))
+returns-4 c =
+    first-at _ _ 3 (omega arith) (passed-3 (search)) (begins-wrong (book (search)) 3 (omega arith) (c .if4 .taken))
 
 passed-4 : (c : tie.Else4) → Passed (offsetBreaks (book (search))) 4
 unfolding offset
-passed-4 c = passed-more _ 3 (passed-3 (search)) (begins-right _ 3 _ (omega arith) refl (c .if4 .left))
+passed-4 c = passed-more _ 3 (passed-3 (search)) (begins-right (book (search)) 3 (omega arith) (c .if4 .left))
 
 -- the book's length is compared with what `wide` gave
 returns-5 : tie.Need-returns-5

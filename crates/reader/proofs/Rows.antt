@@ -57,5 +57,8 @@ parts-of b keep k l f n d e =
     record {
       few = (let h = r .high in omega arith);
       inside = (let i = r .inside in omega arith);
-      earlier = λ j h. (let y : pooled b f j ≡ pooled b (rowFirst b k) j = ap (λ x. pooled b x j) d in let i = r .each j (omega arith) in omega arith);
+      earlier = λ j h.
+          let y : pooled b f j ≡ pooled b (rowFirst b k) j = ap (λ x. pooled b x j) d in
+          let i = r .each j (omega arith) in
+          omega arith;
     }

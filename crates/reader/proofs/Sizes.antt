@@ -40,6 +40,7 @@ size-step b s r f j size w p e d h =
     let y : getD s w 0 ≡ getD s (pooled b f j) 0 = ap (λ x. getD s x 0) (d ∙ h) in
     omega arith
 
+-- the parts are earlier rows, so that s has their sizes: all added are the row's size
 size-all : (b : List ℕ) → RowsKeep b → (r : ℕ) → r < rows b → (s : List ℕ) → Sizes b s r
     → (f : ℕ) → f ≡ rowFirst b r → sizeSoFar b s r f (rowCount b r) ≡ rowSize (table b) r
 unfolding table sizeSoFar

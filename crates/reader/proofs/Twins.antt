@@ -42,74 +42,72 @@ module _ (b : List ℕ) (r k : ℕ) where
       ext-getD 0 _ _ (omega arith) (λ j l. parts-at b k j (omega arith) ∙ h j (omega arith) ∙ sym (parts-at b r j (omega arith)))
 
   -- ---- agrees: what was read of the row r and of the row k differs
-  pub agree-kind : (c c' : ℕ) → c ≡ kind b r → c' ≡ kind b k → (c' ≡ c → ⊥) → agrees b r k ≡ false
-  agree-kind c c' e a n = not-agrees b r k (λ x. n (a ∙ x .kinds ∙ sym e))
+  pub kind-differs : (c c' : ℕ) → c ≡ kind b r → c' ≡ kind b k → (c' ≡ c → ⊥) → agrees b r k ≡ false
+  kind-differs c c' e a n = not-agrees b r k (λ x. n (a ∙ x .kinds ∙ sym e))
 
-  pub agree-tag : (t t' : ℕ) → t ≡ tag b r → t' ≡ tag b k → (t' ≡ t → ⊥) → agrees b r k ≡ false
-  agree-tag t t' e a n = not-agrees b r k (λ x. n (a ∙ x .tags ∙ sym e))
+  pub tag-differs : (t t' : ℕ) → t ≡ tag b r → t' ≡ tag b k → (t' ≡ t → ⊥) → agrees b r k ≡ false
+  tag-differs t t' e a n = not-agrees b r k (λ x. n (a ∙ x .tags ∙ sym e))
 
-  pub agree-count : (n n' : ℕ) → n ≡ rowCount b r → n' ≡ rowCount b k → (n' ≡ n → ⊥) → agrees b r k ≡ false
-  agree-count n n' e a m = not-agrees b r k (λ x. m (a ∙ agreed-counts x ∙ sym e))
+  pub count-differs : (n n' : ℕ) → n ≡ rowCount b r → n' ≡ rowCount b k → (n' ≡ n → ⊥) → agrees b r k ≡ false
+  count-differs n n' e a m = not-agrees b r k (λ x. m (a ∙ agreed-counts x ∙ sym e))
 
--- ---- Alike: the rows r and k are alike in kind and tag, both have n parts, which begin at f and at g, and the first j are equal
-pub record Alike (b : List ℕ) (r k f g n j : ℕ) : Type 0 where
+-- ---- Alike: the rows r and k are alike in kind and tag, and both have n parts, which begin at f and at g in the pool
+pub record Alike (b : List ℕ) (r k f g n : ℕ) : Type 0 where
   pub kinds : kind b k ≡ kind b r
   pub tags : tag b k ≡ tag b r
   pub own-first : f ≡ rowFirst b r
   pub own-count : n ≡ rowCount b r
   pub other-first : g ≡ rowFirst b k
   pub other-count : n ≡ rowCount b k
+
+-- and their first j parts are equal
+pub record AlikeTo (b : List ℕ) (r k f g n j : ℕ) : Type 0 where
+  pub alike : Alike b r k f g n
   pub within : j ≤ n
   pub equal : (i : ℕ) → i < j → pooled b g i ≡ pooled b f i
 
 -- c and c', t and t', n and n', f and g are what was read of the two rows
 pub alike-begins : (b : List ℕ) (r k c c' t t' f g n n' : ℕ)
     → c ≡ kind b r → c' ≡ kind b k → c' ≡ c → t ≡ tag b r → t' ≡ tag b k → t' ≡ t
-    → n ≡ rowCount b r → n' ≡ rowCount b k → n' ≡ n → f ≡ rowFirst b r → g ≡ rowFirst b k → Alike b r k f g n 0
+    → n ≡ rowCount b r → n' ≡ rowCount b k → n' ≡ n → f ≡ rowFirst b r → g ≡ rowFirst b k → AlikeTo b r k f g n 0
 alike-begins b r k c c' t t' f g n n' ec ec' hc et et' ht en en' hn ef eg = record {
-  kinds = omega arith;
-  tags = omega arith;
-  own-first = ef;
-  own-count = en;
-  other-first = eg;
-  other-count = omega arith;
+  alike =
+      record { kinds = omega arith; tags = omega arith; own-first = ef; own-count = en; other-first = eg; other-count = omega arith };
   within = omega arith;
   equal = below-none _;
 }
 
-module _ (b : List ℕ) (r k f g n j : ℕ) (a : Alike b r k f g n j) where
-  -- p and q are the parts that were read
+module _ (b : List ℕ) (r k f g n j : ℕ) (a : AlikeTo b r k f g n j) where
+  -- the parts, where the two lists were read
+  own-part : (i : ℕ) → pooled b f i ≡ pooled b (rowFirst b r) i
+  own-part i = ap (λ w. pooled b w i) (a .alike .own-first)
+
+  other-part : (i : ℕ) → pooled b g i ≡ pooled b (rowFirst b k) i
+  other-part i = ap (λ w. pooled b w i) (a .alike .other-first)
+
+  -- p and q are the parts j that were read
   module _ (z : j ≡ n → ⊥) (p q : ℕ) (dp : p ≡ pooled b g j) (dq : q ≡ pooled b f j) where
-    pub alike-goes : p ≡ q → Alike b r k f g n (j + 1)
+    pub alike-goes : p ≡ q → AlikeTo b r k f g n (j + 1)
     alike-goes e =
         let l = a .within in
-        record {
-          kinds = a .kinds;
-          tags = a .tags;
-          own-first = a .own-first;
-          own-count = a .own-count;
-          other-first = a .other-first;
-          other-count = a .other-count;
-          within = omega arith;
-          equal = below-more _ j (a .equal) (sym dp ∙ e ∙ dq);
-        }
+        record { alike = a .alike; within = omega arith; equal = below-more _ j (a .equal) (sym dp ∙ e ∙ dq) }
 
-    pub alike-differs : (p ≡ q → ⊥) → agrees b r k ≡ false
-    alike-differs m =
+    pub part-differs : (p ≡ q → ⊥) → agrees b r k ≡ false
+    part-differs m =
         let l = a .within in
-        let c = a .own-count in
-        not-agrees b r k (λ x. m (dp ∙ ap (λ w. pooled b w j) (a .other-first) ∙ agreed-parts b r k x j (omega arith)
-        ∙ ap (λ w. pooled b w j) (sym (a .own-first)) ∙ sym dq))
+        let c = a .alike .own-count in
+        not-agrees b r k (λ x. m (dp ∙ other-part j ∙ agreed-parts b r k x j (omega arith) ∙ sym (own-part j) ∙ sym dq))
 
+  -- all parts are equal
   pub alike-agrees : j ≡ n → agrees b r k ≡ true
   alike-agrees z =
-      let c = a .own-count in
+      let c = a .alike .own-count in
+      let d = a .alike .other-count in
       agrees-exact b r k .1
       (record {
-        kinds = a .kinds;
-        tags = a .tags;
-        partss = same-parts b r k (sym (a .other-count) ∙ c) (λ i l. ap (λ w. pooled b w i) (sym (a .other-first))
-            ∙ a .equal i (omega arith) ∙ ap (λ w. pooled b w i) (a .own-first));
+        kinds = a .alike .kinds;
+        tags = a .alike .tags;
+        partss = same-parts b r k (omega arith) (λ i l. sym (other-part i) ∙ a .equal i (omega arith) ∙ own-part i);
       })
 
 -- a row up to one of the parts of row r has its own parts before it, so that it can't agree with row r

@@ -9,12 +9,12 @@ use Rattle.words.specs.First.Laws.{first-at, first-end}
 use Rattle.book.specs.Rules.{agrees}
 use Rattle.reader.proofs.Rows.{Parts, parts-of}
 use Rattle.reader.proofs.Scans.{Scanning, scan-goes}
-use Rattle.reader.proofs.Twins.{agree-kind, agree-tag, agree-count, Alike, alike-begins, alike-goes, alike-differs, alike-agrees}
+use Rattle.reader.proofs.Twins.{AlikeTo, alike-begins, alike-goes, alike-agrees, kind-differs, tag-differs, count-differs, part-differs}
 use Rattle.reader.proofs.twin.Statement.{statement}
 use Rattle.reader.proofs.twin.Tie as tie
 
 abbrev Inv-parts : tie.InvT-parts
-Inv-parts book row kind tag first n k other j₀ j = Alike book row k first other n j
+Inv-parts book row kind tag first n k other j₀ j = AlikeTo book row k first other n j
 
 abbrev μ-parts : tie.MeasureT-parts
 μ-parts book row kind tag first n k other j₀ j = n - j
@@ -47,10 +47,14 @@ module _ (c : in-twin tie.At-parts) where
   count = search
 
   own-parts : Parts (start .args .book .now) (start .args .row) (own .row-first .result) (count .row-count .result)
-  own-parts = parts-of _ (start .pre .1) _ (start .pre .2) _ _ (c .parts .inv .own-first) (c .parts .inv .own-count)
+  own-parts =
+      let alike = c .parts .inv .alike in
+      parts-of _ (start .pre .1) _ (start .pre .2) _ _ (alike .own-first) (alike .own-count)
 
   other-parts : Parts (start .args .book .now) (at-rows .rows .k) (other .row-first2 .result) (count .row-count .result)
-  other-parts = parts-of _ (start .pre .1) _ (omega arith) _ _ (c .parts .inv .other-first) (c .parts .inv .other-count)
+  other-parts =
+      let alike = c .parts .inv .alike in
+      parts-of _ (start .pre .1) _ (omega arith) _ _ (alike .other-first) (alike .other-count)
 
 -- behind the three tests the rows are alike, but for their parts
 parts-holds : in-twin tie.Need-parts-holds
@@ -91,11 +95,11 @@ rows-again c =
     scan-goes _ _ _ (rows .rows .inv) (omega arith) _ refl
     (elim (c .if2 .came) [
       | inl (if2, tag2, if3, count2, if4, first2, parts, if5, part, part2, if6) ↦
-          alike-differs _ _ _ _ _ _ _ (parts .inv) (if5 .left) _ _ (part .ensures) (part2 .ensures) (if6 .taken)
+          part-differs _ _ _ _ _ _ _ (parts .inv) (if5 .left) _ _ (part .ensures) (part2 .ensures) (if6 .taken)
       | inr (inl (if2, tag2, if3, count2, if4)) ↦
-          agree-count _ _ _ _ _ (own-count .row-count .ensures .0) (count2 .ensures .0) (if4 .left)
-      | inr (inr (inl (if2, tag2, if3))) ↦ agree-tag _ _ _ _ _ (tag .row-tag .ensures) (tag2 .ensures) (if3 .left)
-      | inr (inr (inr if2)) ↦ agree-kind _ _ _ _ _ (kind .row-kind .ensures) (kind2 .row-kind2 .ensures) (if2 .left)
+          count-differs _ _ _ _ _ (own-count .row-count .ensures .0) (count2 .ensures .0) (if4 .left)
+      | inr (inr (inl (if2, tag2, if3))) ↦ tag-differs _ _ _ _ _ (tag .row-tag .ensures) (tag2 .ensures) (if3 .left)
+      | inr (inr (inr if2)) ↦ kind-differs _ _ _ _ _ (kind .row-kind .ensures) (kind2 .row-kind2 .ensures) (if2 .left)
     ])
 
 -- no row before the row itself agrees

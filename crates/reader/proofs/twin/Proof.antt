@@ -7,7 +7,7 @@ use native.Mathlib.Omega.{arith}
 use borrow.Author.Needs.{needs}
 use Rattle.words.specs.First.Laws.{first-at, first-end}
 use Rattle.book.specs.Rules.{agrees}
-use Rattle.reader.proofs.Rows.{Parts, parts-of}
+use Rattle.reader.proofs.Rows.{parts-of}
 use Rattle.reader.proofs.Scans.{Scanning, scan-goes}
 use Rattle.reader.proofs.Twins.{AlikeTo, alike-begins, alike-goes, alike-agrees, kind-differs, tag-differs, count-differs, part-differs}
 use Rattle.reader.proofs.twin.Statement.{statement}
@@ -29,33 +29,6 @@ abbrev μ-rows : tie.MeasureT-rows
 abbrev in-twin : (tie.InvT-parts → tie.MeasureT-parts → tie.InvT-rows → tie.MeasureT-rows → Type 0) → Type 0
 in-twin P = P Inv-parts μ-parts Inv-rows μ-rows
 
--- the parts of both rows lie in the pool
-module _ (c : in-twin tie.At-parts) where
-  abbrev start : in-twin tie.Start
-  start = search
-
-  abbrev at-rows : in-twin tie.At-rows
-  at-rows = search
-
-  abbrev own : in-twin tie.After-row-first
-  own = search
-
-  abbrev other : in-twin tie.After-row-first2
-  other = search
-
-  abbrev count : in-twin tie.After-row-count
-  count = search
-
-  own-parts : Parts (start .args .book .now) (start .args .row) (own .row-first .result) (count .row-count .result)
-  own-parts =
-      let alike = c .parts .inv .alike in
-      parts-of _ (start .pre .1) _ (start .pre .2) _ _ (alike .own-first) (alike .own-count)
-
-  other-parts : Parts (start .args .book .now) (at-rows .rows .k) (other .row-first2 .result) (count .row-count .result)
-  other-parts =
-      let alike = c .parts .inv .alike in
-      parts-of _ (start .pre .1) _ (omega arith) _ _ (alike .other-first) (alike .other-count)
-
 -- behind the three tests the rows are alike, but for their parts
 parts-holds : in-twin tie.Need-parts-holds
 parts-holds c =
@@ -74,30 +47,47 @@ parts-holds c =
     (count .row-count .ensures .0) (count2 .row-count2 .ensures .0) (then4 .if4 .taken)
     (first .row-first .ensures .0) (c .row-first2 .ensures .0)
 
+-- both rows keep their rules, so that their parts lie in the pool
+pooled-requires : in-twin tie.Need-pooled-requires
+pooled-requires c κs =
+    let start : in-twin tie.Start = search in
+    let at-parts : in-twin tie.At-parts = search in
+    let alike = at-parts .parts .inv .alike in
+    let other = parts-of _ (start .pre .1) _ (omega arith) _ _ (alike .other-first) (alike .other-count) in
+    (start .pre .0, omega arith)
+
+pooled-requires-2 : in-twin tie.Need-pooled-requires-2
+pooled-requires-2 c κs =
+    let start : in-twin tie.Start = search in
+    let at-parts : in-twin tie.At-parts = search in
+    let alike = at-parts .parts .inv .alike in
+    let own = parts-of _ (start .pre .1) _ (start .pre .2) _ _ (alike .own-first) (alike .own-count) in
+    (start .pre .0, omega arith)
+
 -- the parts that were read are equal too
 parts-again : in-twin tie.Need-parts-again
 parts-again c =
     let part2 : in-twin tie.After-pooled2 = search in
     let part : in-twin tie.After-pooled = search in
     let else5 : in-twin tie.Else5 = search in
-    let parts : in-twin tie.At-parts = search in
-    alike-goes _ _ _ _ _ _ _ (parts .parts .inv) (else5 .if5 .left) _ _ (part .pooled .ensures)
+    let at-parts : in-twin tie.At-parts = search in
+    alike-goes _ _ _ _ _ _ _ (at-parts .parts .inv) (else5 .if5 .left) _ _ (part .pooled .ensures)
     (part2 .pooled2 .ensures) (c .if6 .left)
 
 -- the other row differs in a part, in its count, in its tag or in its kind
 rows-again : in-twin tie.Need-rows-again
 rows-again c =
     let kind2 : in-twin tie.After-row-kind2 = search in
-    let rows : in-twin tie.At-rows = search in
-    let own-count : in-twin tie.After-row-count = search in
+    let at-rows : in-twin tie.At-rows = search in
+    let count : in-twin tie.After-row-count = search in
     let tag : in-twin tie.After-row-tag = search in
     let kind : in-twin tie.After-row-kind = search in
-    scan-goes _ _ _ (rows .rows .inv) (omega arith) _ refl
+    scan-goes _ _ _ (at-rows .rows .inv) (omega arith) _ refl
     (elim (c .if2 .came) [
       | inl (if2, tag2, if3, count2, if4, first2, parts, if5, part, part2, if6) ↦
           part-differs _ _ _ _ _ _ _ (parts .inv) (if5 .left) _ _ (part .ensures) (part2 .ensures) (if6 .taken)
       | inr (inl (if2, tag2, if3, count2, if4)) ↦
-          count-differs _ _ _ _ _ (own-count .row-count .ensures .0) (count2 .ensures .0) (if4 .left)
+          count-differs _ _ _ _ _ (count .row-count .ensures .0) (count2 .ensures .0) (if4 .left)
       | inr (inr (inl (if2, tag2, if3))) ↦ tag-differs _ _ _ _ _ (tag .row-tag .ensures) (tag2 .ensures) (if3 .left)
       | inr (inr (inr if2)) ↦ kind-differs _ _ _ _ _ (kind .row-kind .ensures) (kind2 .row-kind2 .ensures) (if2 .left)
     ])
@@ -105,16 +95,16 @@ rows-again c =
 -- no row before the row itself agrees
 returns : in-twin tie.Need-returns
 returns c =
-    let rows : in-twin tie.At-rows = search in
-    first-end _ _ _ refl (λ m h. rows .rows .inv .passed m (omega arith))
+    let at-rows : in-twin tie.At-rows = search in
+    first-end _ _ _ refl (λ m h. at-rows .rows .inv .passed m (omega arith))
 
 -- the other row is alike in every part
 returns-2 : in-twin tie.Need-returns-2
 returns-2 c =
-    let parts : in-twin tie.At-parts = search in
-    let rows : in-twin tie.At-rows = search in
-    first-at _ _ _ (omega arith) (rows .rows .inv .passed)
-    (alike-agrees _ _ _ _ _ _ _ (parts .parts .inv) (c .if5 .taken))
+    let at-parts : in-twin tie.At-parts = search in
+    let at-rows : in-twin tie.At-rows = search in
+    first-at _ _ _ (omega arith) (at-rows .rows .inv .passed)
+    (alike-agrees _ _ _ _ _ _ _ (at-parts .parts .inv) (c .if5 .taken))
 
 pub twin-spec : {M : Type 1} → statement M
 twin-spec =
@@ -135,8 +125,8 @@ twin-spec =
     (λ c κs. search needs)  -- row-count-requires-2
     (λ c κs. search needs)  -- row-first-requires-2
     parts-holds
-    (λ c κs. (search, omega (arith, other-parts (search))))  -- pooled-requires
-    (λ c κs. (search, omega (arith, own-parts (search))))  -- pooled-requires-2
+    pooled-requires
+    pooled-requires-2
     (λ c. search needs)  -- add-j
     (λ c. search needs)  -- parts-less
     parts-again

@@ -4,9 +4,9 @@ use mathlib.Core.Bool.{true, false}
 use mathlib.Core.List.{List}
 use mathlib.Core.Path.{_≡_, sym, ap, _∙_}
 use native.Mathlib.Omega.{arith}
-use lib.ListN.{length, getD, set}
+use lib.ListN.{length, getD, set, replicate, length-set, length-replicate}
 use lib.Seq.{getD-set-same, getD-set-other}
-use borrow.Author.Count.{below-more}
+use borrow.Author.Count.{below-none, below-more}
 use borrow.Author.Tests.{lt-ltb, le-ltb}
 use Rattle.words.specs.Run.Laws.{all-run}
 use Rattle.words.specs.Sum.{sum}
@@ -76,9 +76,21 @@ pub size-within : (b : List ℕ) (r z : ℕ) → z ≡ rowSize (table b) r → z
 unfolding sizeBreaks
 size-within b r z e h = le-ltb 1024 (rowSize (table b) r) (omega arith)
 
--- ---- Sizes: the table with one entry more, stored at w
-pub size-stored : (b s : List ℕ) (r w z : ℕ) → Sizes b s r → w ≡ r → w < length s → z ≡ rowSize (table b) r
-    → Sizes b (set s w z) (r + 1)
-size-stored b s r w z a d h e =
-    below-more (λ k. getD (set s w z) k 0 ≡ rowSize (table b) k) r (λ k m. getD-set-other s w k z 0 (λ x. omega arith) ∙ a k m)
-    (ap (λ k. getD (set s w z) k 0) (sym d) ∙ getD-set-same s w z 0 h ∙ e)
+-- ---- Filled: the table has 1,024 entries, and holds the sizes of the rows before row r
+pub record Filled (b s : List ℕ) (r : ℕ) : Type 0 where
+  pub sizes : Sizes b s r
+  pub long : length s ≡ 1024
+
+pub filled-none : (b : List ℕ) → Filled b (replicate 1024 0) 0
+filled-none b = record { sizes = below-none _; long = length-replicate {A = ℕ} 1024 0 }
+
+-- the size z of row r is stored at w
+pub filled-more : (b s : List ℕ) (r w z : ℕ) → Filled b s r → w ≡ r → r < 1024 → z ≡ rowSize (table b) r → Filled b (set s w z) (r + 1)
+filled-more b s r w z f d h e =
+    let l = f .long in
+    record {
+      sizes = below-more (λ k. getD (set s w z) k 0 ≡ rowSize (table b) k) r
+          (λ k m. getD-set-other s w k z 0 (λ x. omega arith) ∙ f .sizes k m)
+          (ap (λ k. getD (set s w z) k 0) (sym d) ∙ getD-set-same s w z 0 (omega arith) ∙ e);
+      long = length-set s w z ∙ l;
+    }

@@ -49,8 +49,8 @@ loop-again : tie.Need-loop-again Inv-loop μ-loop
 loop-again c =
     let part : tie.After-pooled Inv-loop μ-loop = search in
     let at-loop : tie.At-loop Inv-loop μ-loop = search in
+    let (within, hunt) = at-loop .loop .inv in
     let before = earlier part in
-    let hunt = at-loop .loop .inv .1 in
     elim (c .if1 .came) [
       | inl (taken, behind) ↦
           (omega arith, record { passed = λ k h. no-twin part k (omega arith); within = omega arith })

@@ -1,20 +1,18 @@
 -- `reader::oversize` meets its contract: the sizes of the rows that the loop has passed stand in the table, and none is
 -- over 1,024. Assumes nothing.
-use Prim.Native.Nat.{ℕ, _-_}
-use mathlib.Core.Path.{_≡_, refl, _∙_}
-use lib.ListN.{length, length-set, length-replicate}
+use Prim.Native.Nat.{_-_}
+use mathlib.Core.Path.{refl}
 use native.Mathlib.Omega.{arith}
 use borrow.Author.Needs.{needs}
 use Rattle.words.specs.First.Laws.{first-at}
 use Rattle.book.specs.Rules.{sizeBreaks}
 use Rattle.reader.proofs.Scans.{Scanning, scan-begins, scan-goes, ends-at}
-use Rattle.reader.proofs.Sizes.{Sizes, size-fits, size-over, size-within, size-stored}
+use Rattle.reader.proofs.Sizes.{size-fits, size-over, size-within, Filled, filled-none, filled-more}
 use Rattle.reader.proofs.oversize.Statement.{statement}
 use Rattle.reader.proofs.oversize.Tie as tie
 
 abbrev Inv-loop : tie.InvT-loop
-Inv-loop book n sizes₀ row₀ sizes row =
-    Scanning (sizeBreaks book) n row × Sizes book sizes row × (length sizes ≡ 1024)
+Inv-loop book n sizes₀ row₀ sizes row = Scanning (sizeBreaks book) n row × Filled book sizes row
 
 abbrev μ-loop : tie.MeasureT-loop
 μ-loop book n sizes₀ row₀ sizes row = n - row
@@ -23,15 +21,15 @@ abbrev μ-loop : tie.MeasureT-loop
 row-size-requires : tie.Need-row-size-requires Inv-loop μ-loop
 row-size-requires c κs =
     let at-loop : tie.At-loop Inv-loop μ-loop = search in
-    let scanning = at-loop .loop .inv .0 in
-    (search needs, search needs, omega arith, at-loop .loop .inv .1, λ k h. size-fits _ k (scanning .passed k h))
+    let (scan, table) = at-loop .loop .inv in
+    (search needs, search needs, omega arith, table .sizes, λ k h. size-fits _ k (scan .passed k h))
 
 returns : tie.Need-returns Inv-loop μ-loop
 returns c =
     let after-row-size : tie.After-row-size Inv-loop μ-loop = search in
     let at-loop : tie.At-loop Inv-loop μ-loop = search in
-    first-at _ _ _ (omega arith) (at-loop .loop .inv .0 .passed)
-    (size-over _ _ _ (after-row-size .row-size .ensures) (omega arith))
+    let (scan, table) = at-loop .loop .inv in
+    first-at _ _ _ (omega arith) (scan .passed) (size-over _ _ _ (after-row-size .row-size .ensures) (omega arith))
 
 -- the row asked about is not over 1,024 either, and its size goes into the table
 loop-again : tie.Need-loop-again Inv-loop μ-loop
@@ -39,12 +37,11 @@ loop-again c =
     let else1 : tie.Else1 Inv-loop μ-loop = search in
     let after-row-size : tie.After-row-size Inv-loop μ-loop = search in
     let in-loop : tie.In-loop Inv-loop μ-loop = search in
-    let at-loop : tie.At-loop Inv-loop μ-loop = search in (
-      scan-goes _ _ _ (at-loop .loop .inv .0) (in-loop .loop-test .taken) _ refl
-          (size-within _ _ _ (after-row-size .row-size .ensures) (else1 .if1 .left)),
-      size-stored _ (at-loop .loop .sizes) _ (c .wide .result) _ (at-loop .loop .inv .1) (c .wide .ensures .0)
-          (omega arith) (after-row-size .row-size .ensures),
-      length-set (at-loop .loop .sizes) (c .wide .result) (after-row-size .row-size .result) ∙ at-loop .loop .inv .2,
+    let at-loop : tie.At-loop Inv-loop μ-loop = search in
+    let (scan, table) = at-loop .loop .inv in
+    let fits = size-within _ _ _ (after-row-size .row-size .ensures) (else1 .if1 .left) in (
+      scan-goes _ _ _ scan (in-loop .loop-test .taken) _ refl fits,
+      filled-more _ _ _ _ _ table (c .wide .ensures .0) (omega arith) (after-row-size .row-size .ensures),
     )
 
 pub oversize-spec : {M : Type 1} → statement M
@@ -54,7 +51,7 @@ oversize-spec =
     Inv-loop
     μ-loop
     (λ c κs. search needs)  -- rows-requires
-    (λ c. (scan-begins _ _, (λ k h. absurd (omega arith)), length-replicate {A = ℕ} 1024 0))  -- loop-holds
+    (λ c. (scan-begins _ _, filled-none _))  -- loop-holds
     row-size-requires
     returns
     (λ c κs. search needs)  -- wide-requires

@@ -11,7 +11,8 @@ entry-falls-requires : tie.Need-entry-falls-requires
 entry-falls-requires c κs =
     let after-list-breaks : tie.After-list-breaks = search in
     let start : tie.Start = search in
-    (start .pre .0, list-inside _ _ _ _ _ _ _ _ (after-list-breaks .list-breaks .ensures) (c .if4 .left))
+    let (headed, inside, counted) = start .pre in
+    (headed, list-inside _ _ _ _ _ _ _ _ (after-list-breaks .list-breaks .ensures) (c .if4 .left))
 
 pub party-breaks-spec : {M : Type 1} → statement M
 party-breaks-spec =

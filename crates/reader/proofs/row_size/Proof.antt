@@ -42,7 +42,8 @@ module _ (c : tie.After-wide Inv-loop μ-loop) where
 
   small : getD (here .args .sizes .now) (c .wide .result) 0 ≤ 1024
   small =
-      size-known _ (here .args .sizes .now) _ _ _ (here .pre .3) (here .pre .4) (c .wide .ensures .0) (earlier (search))
+      let (headed, keep, inside, sizes, fits) = here .pre in
+      size-known _ (here .args .sizes .now) _ _ _ sizes fits (c .wide .ensures .0) (earlier (search))
 
 -- before the first part, what the kind adds
 loop-holds : tie.Need-loop-holds Inv-loop μ-loop

@@ -52,17 +52,19 @@ pooled-requires : in-twin tie.Need-pooled-requires
 pooled-requires c κs =
     let start : in-twin tie.Start = search in
     let at-parts : in-twin tie.At-parts = search in
+    let (headed, keep, inside) = start .pre in
     let alike = at-parts .parts .inv .alike in
-    let other = parts-of _ (start .pre .1) _ (omega arith) _ _ (alike .other-first) (alike .other-count) in
-    (start .pre .0, omega arith)
+    let other = parts-of _ keep _ (omega arith) _ _ (alike .other-first) (alike .other-count) in
+    (headed, omega arith)
 
 pooled-requires-2 : in-twin tie.Need-pooled-requires-2
 pooled-requires-2 c κs =
     let start : in-twin tie.Start = search in
     let at-parts : in-twin tie.At-parts = search in
+    let (headed, keep, inside) = start .pre in
     let alike = at-parts .parts .inv .alike in
-    let own = parts-of _ (start .pre .1) _ (start .pre .2) _ _ (alike .own-first) (alike .own-count) in
-    (start .pre .0, omega arith)
+    let own = parts-of _ keep _ inside _ _ (alike .own-first) (alike .own-count) in
+    (headed, omega arith)
 
 -- the parts that were read are equal too
 parts-again : in-twin tie.Need-parts-again

@@ -3,9 +3,9 @@ use Prim.Native.Nat.{ℕ, _+_, _≤_, _<_}
 use mathlib.Core.Bool.{true, false}
 use mathlib.Core.List.{List}
 use mathlib.Core.Path.{_≡_, sym, ap, _∙_}
-use native.Mathlib.Omega.{arith}
 use lib.ListN.{length, getD, set, replicate, length-set, length-replicate}
 use lib.Seq.{getD-set-same, getD-set-other}
+use native.Mathlib.Omega.{arith}
 use borrow.Author.Count.{below-none, below-more}
 use borrow.Author.Tests.{lt-ltb, le-ltb}
 use Rattle.words.specs.Run.Laws.{all-run}
@@ -31,7 +31,7 @@ pub size-begins : (b s : List ℕ) (r f k o : ℕ) → k ≡ kind b r → o ≡ 
 unfolding sizeSoFar
 size-begins b s r f k o d e = let z = sum-none (λ i. getD s (pooled b f i) 0) in let y = ap own d in omega arith
 
--- w is the part that was read, where the table is asked
+-- w is the part that was read, where s is asked
 pub size-step : (b s : List ℕ) (r f j size w p : ℕ) → size ≡ sizeSoFar b s r f j → w ≡ p → p ≡ pooled b f j
     → size + getD s w 0 ≡ sizeSoFar b s r f (j + 1)
 unfolding sizeSoFar
@@ -59,7 +59,7 @@ size-ends b keep r l s h f n j size d e z i o =
     let y : j ≡ rowCount b r = omega arith in
     z ∙ ap (sizeSoFar b s r f) y ∙ size-all b keep r l s h f d
 
--- an earlier row's size, as the table has it, is at most 1,024
+-- an earlier row's size, as s has it, is at most 1,024
 pub size-known : (b s : List ℕ) (r w p : ℕ) → Sizes b s r → ((k : ℕ) → k < r → rowSize (table b) k ≤ 1024) → w ≡ p → p < r
     → getD s w 0 ≤ 1024
 size-known b s r w p h k d l = let a = h w (omega arith) in let c = k w (omega arith) in omega arith
@@ -76,7 +76,7 @@ pub size-within : (b : List ℕ) (r z : ℕ) → z ≡ rowSize (table b) r → z
 unfolding sizeBreaks
 size-within b r z e h = le-ltb 1024 (rowSize (table b) r) (omega arith)
 
--- ---- Filled: the table has 1,024 entries, and holds the sizes of the rows before row r
+-- ---- Filled: s has 1,024 entries, and holds the sizes of the rows before row r
 pub record Filled (b s : List ℕ) (r : ℕ) : Type 0 where
   pub sizes : Sizes b s r
   pub long : length s ≡ 1024

@@ -1,4 +1,4 @@
--- `reader::oversize` meets its contract: the sizes of the rows that the loop has passed stand in the table, and none is
+-- `reader::oversize` meets its contract: the sizes of the rows that the loop has passed stand in `sizes`, and none is
 -- over 1,024. Assumes nothing.
 use Prim.Native.Nat.{_-_}
 use mathlib.Core.Path.{refl}
@@ -21,27 +21,27 @@ abbrev μ-loop : tie.MeasureT-loop
 row-size-requires : tie.Need-row-size-requires Inv-loop μ-loop
 row-size-requires c κs =
     let at-loop : tie.At-loop Inv-loop μ-loop = search in
-    let (scan, table) = at-loop .loop .inv in
-    (search needs, search needs, omega arith, table .sizes, λ k h. size-fits _ k (scan .passed k h))
+    let (scan, filled) = at-loop .loop .inv in
+    (search needs, search needs, omega arith, filled .sizes, λ k h. size-fits _ k (scan .passed k h))
 
 returns : tie.Need-returns Inv-loop μ-loop
 returns c =
     let after-row-size : tie.After-row-size Inv-loop μ-loop = search in
     let at-loop : tie.At-loop Inv-loop μ-loop = search in
-    let (scan, table) = at-loop .loop .inv in
+    let (scan, filled) = at-loop .loop .inv in
     first-at _ _ _ (omega arith) (scan .passed) (size-over _ _ _ (after-row-size .row-size .ensures) (omega arith))
 
--- the row asked about is not over 1,024 either, and its size goes into the table
+-- the row asked about is not over 1,024 either, and its size goes into `sizes`
 loop-again : tie.Need-loop-again Inv-loop μ-loop
 loop-again c =
     let else1 : tie.Else1 Inv-loop μ-loop = search in
     let after-row-size : tie.After-row-size Inv-loop μ-loop = search in
     let in-loop : tie.In-loop Inv-loop μ-loop = search in
     let at-loop : tie.At-loop Inv-loop μ-loop = search in
-    let (scan, table) = at-loop .loop .inv in
+    let (scan, filled) = at-loop .loop .inv in
     let fits = size-within _ _ _ (after-row-size .row-size .ensures) (else1 .if1 .left) in (
       scan-goes _ _ _ scan (in-loop .loop-test .taken) _ refl fits,
-      filled-more _ _ _ _ _ table (c .wide .ensures .0) (omega arith) (after-row-size .row-size .ensures),
+      filled-more _ _ _ _ _ filled (c .wide .ensures .0) (omega arith) (after-row-size .row-size .ensures),
     )
 
 pub oversize-spec : {M : Type 1} → statement M

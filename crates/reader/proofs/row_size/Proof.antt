@@ -35,7 +35,7 @@ earlier c =
     let e = parts (search) .earlier _ (in-loop .loop-test .taken) in
     omega arith
 
--- so its size stands in the table, and is at most 1,024
+-- so its size stands in `sizes`, and is at most 1,024
 module _ (c : tie.After-wide Inv-loop μ-loop) where
   abbrev here : tie.Start Inv-loop μ-loop
   here = search
@@ -57,9 +57,10 @@ loop-again c =
     let after-wide : tie.After-wide Inv-loop μ-loop = search in
     let after-pooled : tie.After-pooled Inv-loop μ-loop = search in
     let at-loop : tie.At-loop Inv-loop μ-loop = search in
+    let (within, so-far, bounded) = at-loop .loop .inv in
     let s = small after-wide in (
       search needs,
-      size-step _ _ _ _ _ _ _ _ (at-loop .loop .inv .1) (after-wide .wide .ensures .0) (after-pooled .pooled .ensures),
+      size-step _ _ _ _ _ _ _ _ so-far (after-wide .wide .ensures .0) (after-pooled .pooled .ensures),
       omega arith,
     )
 

@@ -1,8 +1,8 @@
 -- `reader::scan_steps` meets its contract: a walk over the steps. A step passed keeps its rule, so that the counts so
 -- far lie in the pool and their sum doesn't wrap. Assumes nothing.
+use Prim.Native.Nat.{_-_}
 use native.Mathlib.Omega.{arith}
 use borrow.Author.Needs.{needs}
-use Prim.Native.Nat.{_-_}
 use Rattle.book.specs.Layout.{stepsBefore}
 use Rattle.book.specs.Rules.{stepBreaks}
 use Rattle.reader.proofs.Walks.{Walk, walk-stops, walk-ends, steps-begin, step-passed}

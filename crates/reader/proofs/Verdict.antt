@@ -26,7 +26,8 @@ abbrev from : List ℕ → ℕ → Said
 from b i = firstOf (drop i (readingTable b)) accepted
 
 -- a scan that found nothing has come to the end: what is summed before its place is summed before the end
-counted-all : (breaks : ℕ → Bool) (before : ℕ → ℕ) (m p q s : ℕ) → p ≡ first breaks m → q ≡ m → q ≤ p → s ≡ before p → s ≡ before m
+counted-all : (breaks : ℕ → Bool) (before : ℕ → ℕ) (m p q s : ℕ) → p ≡ first breaks m → q ≡ m → q ≤ p → s ≡ before p
+    → s ≡ before m
 counted-all breaks before m p q s dp dq l e =
     let k = first-le breaks m in
     let y : p ≡ m = omega arith in

@@ -19,43 +19,47 @@ book start = start .args .book .now
 returns : tie.Need-returns
 returns c =
     let test : tie.After-outside = search in
-    first-at _ _ 0 (omega arith) (passed-none _) (count-at _ 0 _ _ (test .outside .ensures) (c .if1 .taken))
+    first-at _ _ 0 (omega arith) (passed-none _)
+    (count-at (book (search)) 0 _ _ (test .outside .ensures) (c .if1 .taken))
 
 passed-1 : (c : tie.Else1) → Passed (countBreaks (book (search))) 1
 passed-1 c =
     let test : tie.After-outside = search in
-    passed-more _ 0 (passed-none _) (count-at _ 0 _ _ (test .outside .ensures) (c .if1 .left))
+    passed-more _ 0 (passed-none _) (count-at (book (search)) 0 _ _ (test .outside .ensures) (c .if1 .left))
 
 returns-2 : tie.Need-returns-2
 returns-2 c =
     let test : tie.After-outside2 = search in
-    first-at _ _ 1 (omega arith) (passed-1 (search)) (count-at _ 1 _ _ (test .outside2 .ensures) (c .if2 .taken))
+    first-at _ _ 1 (omega arith) (passed-1 (search))
+    (count-at (book (search)) 1 _ _ (test .outside2 .ensures) (c .if2 .taken))
 
 passed-2 : (c : tie.Else2) → Passed (countBreaks (book (search))) 2
 passed-2 c =
     let test : tie.After-outside2 = search in
-    passed-more _ 1 (passed-1 (search)) (count-at _ 1 _ _ (test .outside2 .ensures) (c .if2 .left))
+    passed-more _ 1 (passed-1 (search)) (count-at (book (search)) 1 _ _ (test .outside2 .ensures) (c .if2 .left))
 
 returns-3 : tie.Need-returns-3
 returns-3 c =
     let test : tie.After-outside3 = search in
-    first-at _ _ 2 (omega arith) (passed-2 (search)) (count-at _ 2 _ _ (test .outside3 .ensures) (c .if3 .taken))
+    first-at _ _ 2 (omega arith) (passed-2 (search))
+    (count-at (book (search)) 2 _ _ (test .outside3 .ensures) (c .if3 .taken))
 
 passed-3 : (c : tie.Else3) → Passed (countBreaks (book (search))) 3
 passed-3 c =
     let test : tie.After-outside3 = search in
-    passed-more _ 2 (passed-2 (search)) (count-at _ 2 _ _ (test .outside3 .ensures) (c .if3 .left))
+    passed-more _ 2 (passed-2 (search)) (count-at (book (search)) 2 _ _ (test .outside3 .ensures) (c .if3 .left))
 
 returns-4 : tie.Need-returns-4
 returns-4 c =
     let test : tie.After-outside4 = search in
-    first-at _ _ 3 (omega arith) (passed-3 (search)) (count-at _ 3 _ _ (test .outside4 .ensures) (c .if4 .taken))
+    first-at _ _ 3 (omega arith) (passed-3 (search))
+    (count-at (book (search)) 3 _ _ (test .outside4 .ensures) (c .if4 .taken))
 
 returns-5 : tie.Need-returns-5
 returns-5 c =
     let test : tie.After-outside4 = search in
     first-end _ _ 4 refl
-    (passed-more _ 3 (passed-3 (search)) (count-at _ 3 _ _ (test .outside4 .ensures) (c .if4 .left)))
+    (passed-more _ 3 (passed-3 (search)) (count-at (book (search)) 3 _ _ (test .outside4 .ensures) (c .if4 .left)))
 
 pub counts-spec : {M : Type 1} → statement M
 counts-spec =

@@ -101,8 +101,8 @@ alike-exact b r k = (
   λ a. ap not (of-none _ (differs-same _ _ (a .kinds), (differs-same _ _ (a .tags), (ap not (same-exact _ _ .1 (a .partss)), tt)))),
 )
 
-pub not-agrees : (b : List ℕ) (r k : ℕ) → (Alike b r k → ⊥) → alike b r k ≡ false
-not-agrees b r k h = go (alike b r k) refl
+pub not-alike : (b : List ℕ) (r k : ℕ) → (Alike b r k → ⊥) → alike b r k ≡ false
+not-alike b r k h = go (alike b r k) refl
   where
     go : (v : Bool) → alike b r k ≡ v → alike b r k ≡ false
     go true e = absurd (h (alike-exact b r k .0 e))
@@ -118,7 +118,7 @@ single-exact b r = (λ e. to e, λ h. from (eqb (kind b r) 0) refl h)
 
     from : (v : Bool) → eqb (kind b r) 0 ≡ v → SingleRule b r → pick (eqb (kind b r) 0) false (any (alike b r) r) ≡ false
     from true e h = pick-true _ _ _ e
-    from false e h = pick-false _ _ _ e ∙ any-none (alike b r) r (λ k l. not-agrees b r k (h (eqb-false _ _ e) k l))
+    from false e h = pick-false _ _ _ e ∙ any-none (alike b r) r (λ k l. not-alike b r k (h (eqb-false _ _ e) k l))
 
 -- ---- a party
 pub party-exact : (b : List ℕ) (p : ℕ) → (partyBreaks b p ≡ false) ↔ PartyRule b p

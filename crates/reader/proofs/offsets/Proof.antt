@@ -1,63 +1,73 @@
--- `reader::offsets` meets its contract: the four offsets and the length, one after the other; no sum wraps, as the counts are bounded. Assumes nothing.
+-- `reader::offsets` meets its contract: the four offsets and the length are tested one after the other; no sum wraps,
+-- as the counts are bounded. Assumes nothing.
+use Prim.Native.Nat.{ℕ}
+use mathlib.Core.List.{List}
 use mathlib.Core.Path.{refl}
-use Rattle.reader.proofs.Laws.{stops-0, stops-1, stops-2, stops-3, stops-4, ends-5, begins-right, begins-wrong, length-right, length-wrong, offset-0, offset-1, offset-2, offset-3, offset-4}
 use native.Mathlib.Omega.{arith}
 use borrow.Author.Needs.{needs}
+use Rattle.words.specs.First.Laws.{first-at, first-end}
+use Rattle.book.specs.Layout.{offset}
+use Rattle.book.specs.Rules.{offsetBreaks}
+use Rattle.reader.proofs.Header.{begins-right, begins-wrong, length-right, length-wrong, offset-last}
+use Rattle.reader.proofs.Scans.{Passed, passed-none, passed-more}
 use Rattle.reader.proofs.offsets.Statement.{statement}
 use Rattle.reader.proofs.offsets.Tie as tie
 
+-- the words that are read
+abbrev book : tie.Start → List ℕ
+book start = start .args .book .now
+
+-- a section's word is compared with the section's `offset`, which computes; behind its test the sections up to it have
+-- passed
 returns : tie.Need-returns
-returns c = stops-0 _ _ (omega arith) (begins-wrong _ 0 _ (omega arith) (offset-0 _) (c .if1 .taken))
+unfolding offset
+returns c =
+    first-at _ _ 0 (omega arith) (passed-none _) (begins-wrong (book (search)) 0 (omega arith) (c .if1 .taken))
+
+passed-1 : (c : tie.Else1) → Passed (offsetBreaks (book (search))) 1
+unfolding offset
+passed-1 c = passed-more _ 0 (passed-none _) (begins-right (book (search)) 0 (omega arith) (c .if1 .left))
 
 returns-2 : tie.Need-returns-2
+unfolding offset
 returns-2 c =
-    let else1 : tie.Else1 = search in
-    stops-1 _ _ (begins-right _ 0 _ (omega arith) (offset-0 _) (else1 .if1 .left)) (omega arith)
-    (begins-wrong _ 1 _ (omega arith) (offset-1 _) (c .if2 .taken))
+    first-at _ _ 1 (omega arith) (passed-1 (search)) (begins-wrong (book (search)) 1 (omega arith) (c .if2 .taken))
+
+passed-2 : (c : tie.Else2) → Passed (offsetBreaks (book (search))) 2
+unfolding offset
+passed-2 c = passed-more _ 1 (passed-1 (search)) (begins-right (book (search)) 1 (omega arith) (c .if2 .left))
 
 returns-3 : tie.Need-returns-3
+unfolding offset
 returns-3 c =
-    let else2 : tie.Else2 = search in
-    let else1 : tie.Else1 = search in
-    stops-2 _ _ (begins-right _ 0 _ (omega arith) (offset-0 _) (else1 .if1 .left))
-    (begins-right _ 1 _ (omega arith) (offset-1 _) (else2 .if2 .left)) (omega arith)
-    (begins-wrong _ 2 _ (omega arith) (offset-2 _) (c .if3 .taken))
+    first-at _ _ 2 (omega arith) (passed-2 (search)) (begins-wrong (book (search)) 2 (omega arith) (c .if3 .taken))
+
+passed-3 : (c : tie.Else3) → Passed (offsetBreaks (book (search))) 3
+unfolding offset
+passed-3 c = passed-more _ 2 (passed-2 (search)) (begins-right (book (search)) 2 (omega arith) (c .if3 .left))
 
 returns-4 : tie.Need-returns-4
+unfolding offset
 returns-4 c =
-    let else3 : tie.Else3 = search in
-    let else2 : tie.Else2 = search in
-    let else1 : tie.Else1 = search in
-    stops-3 _ _ (begins-right _ 0 _ (omega arith) (offset-0 _) (else1 .if1 .left))
-    (begins-right _ 1 _ (omega arith) (offset-1 _) (else2 .if2 .left))
-    (begins-right _ 2 _ (omega arith) (offset-2 _) (else3 .if3 .left)) (omega arith)
-    (begins-wrong _ 3 _ (omega arith) (offset-3 _) (c .if4 .taken))
+    first-at _ _ 3 (omega arith) (passed-3 (search)) (begins-wrong (book (search)) 3 (omega arith) (c .if4 .taken))
 
+passed-4 : (c : tie.Else4) → Passed (offsetBreaks (book (search))) 4
+unfolding offset
+passed-4 c = passed-more _ 3 (passed-3 (search)) (begins-right (book (search)) 3 (omega arith) (c .if4 .left))
+
+-- the book's length is compared with what `wide` gave
 returns-5 : tie.Need-returns-5
 returns-5 c =
     let after-wide : tie.After-wide = search in
-    let else4 : tie.Else4 = search in
-    let else3 : tie.Else3 = search in
-    let else2 : tie.Else2 = search in
-    let else1 : tie.Else1 = search in
-    stops-4 _ _ (begins-right _ 0 _ (omega arith) (offset-0 _) (else1 .if1 .left))
-    (begins-right _ 1 _ (omega arith) (offset-1 _) (else2 .if2 .left))
-    (begins-right _ 2 _ (omega arith) (offset-2 _) (else3 .if3 .left))
-    (begins-right _ 3 _ (omega arith) (offset-3 _) (else4 .if4 .left)) (omega arith)
-    (length-wrong _ _ (offset-4 _ _ (after-wide .wide .ensures .0)) (c .if5 .taken))
+    first-at _ _ 4 (omega arith) (passed-4 (search))
+    (length-wrong _ _ (offset-last _ _ (after-wide .wide .ensures .0)) (c .if5 .taken))
 
 returns-6 : tie.Need-returns-6
 returns-6 c =
     let after-wide : tie.After-wide = search in
-    let else4 : tie.Else4 = search in
-    let else3 : tie.Else3 = search in
-    let else2 : tie.Else2 = search in
-    let else1 : tie.Else1 = search in
-    ends-5 _ _ (begins-right _ 0 _ (omega arith) (offset-0 _) (else1 .if1 .left))
-    (begins-right _ 1 _ (omega arith) (offset-1 _) (else2 .if2 .left))
-    (begins-right _ 2 _ (omega arith) (offset-2 _) (else3 .if3 .left))
-    (begins-right _ 3 _ (omega arith) (offset-3 _) (else4 .if4 .left))
-    (length-right _ _ (offset-4 _ _ (after-wide .wide .ensures .0)) (c .if5 .left)) refl
+    first-end _ _ 5 refl
+    (passed-more _ 4 (passed-4 (search))
+    (length-right _ _ (offset-last _ _ (after-wide .wide .ensures .0)) (c .if5 .left)))
 
 pub offsets-spec : {M : Type 1} → statement M
 offsets-spec =

@@ -1,5 +1,5 @@
 -- `reader::outside` meets its contract: the two tests, one after the other. Assumes nothing.
-use Rattle.reader.proofs.Laws.{outside-below, outside-above}
+use Rattle.reader.proofs.Tests.{outside-below, outside-above}
 use Rattle.reader.proofs.outside.Statement.{statement}
 use Rattle.reader.proofs.outside.Tie as tie
 

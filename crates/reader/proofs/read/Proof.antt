@@ -1,6 +1,6 @@
 -- `reader::read` meets its contract: the lines 1 to 3 of the table, and then the rest. Assumes nothing.
-use Rattle.reader.proofs.Laws.{says-short, says-count, counts-kept, says-offset, header-kept, says-body}
 use borrow.Author.Needs.{needs}
+use Rattle.reader.proofs.Verdict.{says-short, says-count, counts-kept, says-offset, header-kept, says-body}
 use Rattle.reader.proofs.read.Statement.{statement}
 use Rattle.reader.proofs.read.Tie as tie
 

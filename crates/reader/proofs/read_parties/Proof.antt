@@ -1,6 +1,6 @@
 -- `reader::read_parties` meets its contract: the lines 7 to 9 of the table, one after the other. Assumes nothing.
-use Rattle.reader.proofs.Laws.{says-party, says-step, says-sum, says-accepted, parties-counted}
 use borrow.Author.Needs.{needs}
+use Rattle.reader.proofs.Verdict.{says-party, says-step, says-sum, says-accepted, parties-counted}
 use Rattle.reader.proofs.read_parties.Statement.{statement}
 use Rattle.reader.proofs.read_parties.Tie as tie
 

@@ -1,6 +1,6 @@
 -- `reader::row_breaks` meets its contract: the tests of a row's rule, one after the other. Assumes nothing.
-use Rattle.reader.proofs.Laws.{row-kind-breaks, row-tag-breaks, row-list-breaks}
 use borrow.Author.Needs.{needs}
+use Rattle.reader.proofs.Rows.{row-kind-breaks, row-tag-breaks, row-list-breaks}
 use Rattle.reader.proofs.row_breaks.Statement.{statement}
 use Rattle.reader.proofs.row_breaks.Tie as tie
 

@@ -1,6 +1,7 @@
--- `reader::row_repeats` meets its contract: an atom repeats nothing; any other row, if its twin is an earlier one. Assumes nothing.
-use Rattle.reader.proofs.Laws.{repeats-atom, repeats-twin}
+-- `reader::row_repeats` meets its contract: an atom repeats nothing; any other row does, if its twin is an earlier one.
+-- Assumes nothing.
 use borrow.Author.Needs.{needs}
+use Rattle.reader.proofs.Twins.{repeats-atom, repeats-twin}
 use Rattle.reader.proofs.row_repeats.Statement.{statement}
 use Rattle.reader.proofs.row_repeats.Tie as tie
 

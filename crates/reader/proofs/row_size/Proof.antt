@@ -1,109 +1,68 @@
--- `reader::row_size` meets its contract: the sizes of the parts passed are added; each part is an earlier row, of size at most 1,024. Assumes nothing.
-use Rattle.book.specs.Layout.{kind, pooled, rowCount}
-use Rattle.terms.specs.Table.{ownSize}
-use Rattle.words.specs.Sum.Laws.{sum-none}
-use Rattle.words.specs.Sum.{sum}
+-- `reader::row_size` meets its contract: the sizes of the parts are added, one after the other. Each part is an earlier
+-- row, of size at most 1,024, and there are at most 9, so that no sum wraps. Assumes nothing.
+use Prim.Native.Nat.{_+_, _-_, _*_, _≤_, _<_}
+use mathlib.Core.Path.{_≡_}
 use lib.ListN.{getD}
-use mathlib.Core.Path.{_≡_, ap, _∙_}
-use Prim.Native.Nat.{_+_, _-_, _*_, _≤_}
-use Rattle.reader.proofs.Laws.{part-inside, part-before, part-few, size-sum, size-step, size-known}
-use borrow.Author.Needs.{needs}
 use native.Mathlib.Omega.{arith}
+use borrow.Author.Needs.{needs}
+use Rattle.reader.proofs.Rows.{Parts, parts-of}
+use Rattle.reader.proofs.Sizes.{sizeSoFar, size-begins, size-step, size-ends, size-known}
 use Rattle.reader.proofs.row_size.Statement.{statement}
 use Rattle.reader.proofs.row_size.Tie as tie
 
 abbrev Inv-loop : tie.InvT-loop
-Inv-loop book sizes row first n size₀ j₀ size j = (j ≤ n) × (size ≡ ownSize (kind book row) + sum (λ i. getD sizes (pooled book first i) 0) j) × (size ≤ 3 + 1024 * j)
+Inv-loop book sizes row first n size₀ j₀ size j =
+    (j ≤ n) × (size ≡ sizeSoFar book sizes row first j) × (size ≤ 3 + 1024 * j)
 
 abbrev μ-loop : tie.MeasureT-loop
 μ-loop book sizes row first n size₀ j₀ size j = n - j
 
+-- the row's parts, as its first and its count say
+module _ (c : tie.After-row-count Inv-loop μ-loop) where
+  abbrev start : tie.Start Inv-loop μ-loop
+  start = search
+
+  abbrev first : tie.After-row-first Inv-loop μ-loop
+  first = search
+
+  parts : Parts (start .args .book .now) (start .args .row) (first .row-first .result) (c .row-count .result)
+  parts = search parts-of
+
+-- the part that was read is an earlier row
+earlier : (c : tie.After-pooled Inv-loop μ-loop) → c .pooled .result < start (search) .args .row
+earlier c =
+    let in-loop : tie.In-loop Inv-loop μ-loop = search in
+    let e = parts (search) .earlier _ (in-loop .loop-test .taken) in
+    omega arith
+
+-- so its size stands in `sizes`, and is at most 1,024
+module _ (c : tie.After-wide Inv-loop μ-loop) where
+  abbrev here : tie.Start Inv-loop μ-loop
+  here = search
+
+  small : getD (here .args .sizes .now) (c .wide .result) 0 ≤ 1024
+  small =
+      let (headed, keep, inside, sizes, fits) = here .pre in
+      size-known _ (here .args .sizes .now) _ _ _ sizes fits (c .wide .ensures .0) (earlier (search))
+
+-- before the first part, what the kind adds
 loop-holds : tie.Need-loop-holds Inv-loop μ-loop
 loop-holds c =
-    let after-row-kind : tie.After-row-kind Inv-loop μ-loop = search in
-    let after-row-first : tie.After-row-first Inv-loop μ-loop = search in
-    let start : tie.Start Inv-loop μ-loop = search in
-    let z = sum-none (λ i. getD (start .args .sizes .now) (pooled (start .args .book .now)
-    (after-row-first .row-first .result) i) 0) in
-    let y = c .own-size .ensures .0 in
-    let x = ap ownSize (after-row-kind .row-kind .ensures) in
-    (search needs, omega arith, omega arith)
+    let kind : tie.After-row-kind Inv-loop μ-loop = search in
+    (search needs, size-begins _ _ _ _ _ _ (kind .row-kind .ensures) (c .own-size .ensures .0), omega arith)
 
-pooled-requires : tie.Need-pooled-requires Inv-loop μ-loop
-pooled-requires c κs =
-    let after-row-count : tie.After-row-count Inv-loop μ-loop = search in
-    let after-row-first : tie.After-row-first Inv-loop μ-loop = search in
-    let start : tie.Start Inv-loop μ-loop = search in (
-      start .pre .0,
-      part-inside _ (start .pre .1) _ (start .pre .2) _ _ (after-row-first .row-first .ensures .0)
-          (after-row-count .row-count .ensures .0) _ (omega arith),
-    )
-
-mul-size : tie.Need-mul-size Inv-loop μ-loop
-mul-size c =
-    let after-pooled : tie.After-pooled Inv-loop μ-loop = search in
-    let after-row-count : tie.After-row-count Inv-loop μ-loop = search in
-    let after-row-first : tie.After-row-first Inv-loop μ-loop = search in
-    let start : tie.Start Inv-loop μ-loop = search in
-    let h = part-before _ (start .pre .1) _ (start .pre .2) _ _ (after-row-first .row-first .ensures .0)
-    (after-row-count .row-count .ensures .0) _ _ (omega arith) (after-pooled .pooled .ensures) in
-    omega arith
-
-element-copy-out-size : tie.Need-element-copy-out-size Inv-loop μ-loop
-element-copy-out-size c =
-    let after-pooled : tie.After-pooled Inv-loop μ-loop = search in
-    let after-row-count : tie.After-row-count Inv-loop μ-loop = search in
-    let after-row-first : tie.After-row-first Inv-loop μ-loop = search in
-    let start : tie.Start Inv-loop μ-loop = search in
-    let h = part-before _ (start .pre .1) _ (start .pre .2) _ _ (after-row-first .row-first .ensures .0)
-    (after-row-count .row-count .ensures .0) _ _ (omega arith) (after-pooled .pooled .ensures) in
-    omega arith
-
-add-size : tie.Need-add-size Inv-loop μ-loop
-add-size c =
-    let after-wide : tie.After-wide Inv-loop μ-loop = search in
-    let after-pooled : tie.After-pooled Inv-loop μ-loop = search in
-    let after-row-count : tie.After-row-count Inv-loop μ-loop = search in
-    let after-row-first : tie.After-row-first Inv-loop μ-loop = search in
-    let start : tie.Start Inv-loop μ-loop = search in
-    let h : getD (start .args .sizes .now) (after-wide .wide .result) 0 ≤ 1024 = size-known (start .args .book .now)
-    (start .args .sizes .now) _ _ _ (start .pre .3) (start .pre .4) (after-wide .wide .ensures .0)
-    (part-before _ (start .pre .1) _ (start .pre .2) _ _ (after-row-first .row-first .ensures .0)
-    (after-row-count .row-count .ensures .0) _ _ (omega arith) (after-pooled .pooled .ensures)) in
-    let k : after-row-count .row-count .result ≤ 9 = part-few _ (start .pre .1) _ (start .pre .2) _ _
-    (after-row-first .row-first .ensures .0) (after-row-count .row-count .ensures .0) in
-    omega arith
-
+-- one part more
 loop-again : tie.Need-loop-again Inv-loop μ-loop
 loop-again c =
     let after-wide : tie.After-wide Inv-loop μ-loop = search in
     let after-pooled : tie.After-pooled Inv-loop μ-loop = search in
     let at-loop : tie.At-loop Inv-loop μ-loop = search in
-    let after-row-count : tie.After-row-count Inv-loop μ-loop = search in
-    let after-row-first : tie.After-row-first Inv-loop μ-loop = search in
-    let start : tie.Start Inv-loop μ-loop = search in
-    let h : getD (start .args .sizes .now) (after-wide .wide .result) 0 ≤ 1024 = size-known (start .args .book .now)
-    (start .args .sizes .now) _ _ _ (start .pre .3) (start .pre .4) (after-wide .wide .ensures .0)
-    (part-before _ (start .pre .1) _ (start .pre .2) _ _ (after-row-first .row-first .ensures .0)
-    (after-row-count .row-count .ensures .0) _ _ (omega arith) (after-pooled .pooled .ensures)) in (
+    let (within, so-far, bounded) = at-loop .loop .inv in
+    let s = small after-wide in (
       search needs,
-      size-step (start .args .book .now) (start .args .sizes .now) (after-row-first .row-first .result)
-          (at-loop .loop .j) _ _ _ _ (at-loop .loop .inv .1) (after-wide .wide .ensures .0)
-          (after-pooled .pooled .ensures),
+      size-step _ _ _ _ _ _ _ _ so-far (after-wide .wide .ensures .0) (after-pooled .pooled .ensures),
       omega arith,
     )
-
-returns : tie.Need-returns Inv-loop μ-loop
-returns c =
-    let at-loop : tie.At-loop Inv-loop μ-loop = search in
-    let after-row-count : tie.After-row-count Inv-loop μ-loop = search in
-    let after-row-first : tie.After-row-first Inv-loop μ-loop = search in
-    let start : tie.Start Inv-loop μ-loop = search in
-    at-loop .loop .inv .1 ∙ ap (λ m. ownSize (kind (start .args .book .now) (start .args .row)) + sum (λ i. getD
-    (start .args .sizes .now) (pooled (start .args .book .now) (after-row-first .row-first .result) i) 0) m)
-    (let z : at-loop .loop .j ≡ rowCount (start .args .book .now) (start .args .row)
-    = (let y = after-row-count .row-count .ensures .0 in omega arith) in z) ∙ size-sum _ (start .pre .1) _
-    (start .pre .2) (start .args .sizes .now) (start .pre .3) _ (after-row-first .row-first .ensures .0)
 
 pub row-size-spec : {M : Type 1} → statement M
 row-size-spec =
@@ -116,12 +75,12 @@ row-size-spec =
     (λ c κs. search needs)  -- row-kind-requires
     (λ c κs. search needs)  -- own-size-requires
     loop-holds
-    pooled-requires
+    (λ c κs. (search needs, omega (arith, parts (search))))  -- pooled-requires
     (λ c κs. search needs)  -- wide-requires
-    mul-size
-    element-copy-out-size
-    add-size
+    (λ c. omega (arith, earlier (search)))  -- mul-size
+    (λ c. omega (arith, earlier (search)))  -- element-copy-out-size
+    (λ c. omega (arith, small (search), parts (search)))  -- add-size
     (λ c. search needs)  -- add-j
     (λ c. search needs)  -- loop-less
     loop-again
-    returns)
+    (λ c. search size-ends))  -- returns

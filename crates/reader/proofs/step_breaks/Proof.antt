@@ -1,6 +1,6 @@
 -- `reader::step_breaks` meets its contract: the tests of a step's rule, one after the other. Assumes nothing.
-use Rattle.reader.proofs.Laws.{step-sender-breaks, step-receiver-breaks, step-one, step-list}
 use borrow.Author.Needs.{needs}
+use Rattle.reader.proofs.Steps.{step-sender-breaks, step-receiver-breaks, step-one, step-list}
 use Rattle.reader.proofs.step_breaks.Statement.{statement}
 use Rattle.reader.proofs.step_breaks.Tie as tie
 

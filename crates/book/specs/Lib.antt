@@ -1,4 +1,5 @@
 pub mod Layout
+pub mod Kinds
 pub mod Headed
 pub mod Rules
 pub mod Said

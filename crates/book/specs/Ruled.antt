@@ -1,7 +1,7 @@
 -- What "given exactly when" is said in: a line of the table with the rule that its test stands for, and the cause of a refusal, the
 -- smallest place that breaks the rule. Document 01: "The first that applies, from top to bottom, is given. It carries its number and
 -- a place."
-use Prim.Native.Nat.{ℕ, _<_}
+use Prim.Native.Nat.{ℕ, zero, suc, _<_}
 use mathlib.Core.Bool.{false}
 use mathlib.Core.List.{List, [], _∷_}
 use mathlib.Core.Logic.{_↔_}
@@ -38,3 +38,25 @@ pub record Cause (x : Ruled) (vs : List ℕ) : Type 0 where
 abbrev pub Apart : ℕ → List Ruled → Type 0
 Apart n [] = Unit {0}
 Apart n (x ∷ xs) = (x .line .number ≡ n → ⊥) × Apart n xs
+
+-- ---- a table by its lines' places
+-- the lines above place i, the line there (or d where there is none), and those below
+abbrev pub above : ℕ → List Ruled → List Ruled
+above i [] = []
+above zero (x ∷ xs) = []
+above (suc i) (x ∷ xs) = x ∷ above i xs
+
+abbrev pub lineAt : ℕ → List Ruled → Ruled → Ruled
+lineAt i [] d = d
+lineAt zero (x ∷ xs) d = x
+lineAt (suc i) (x ∷ xs) d = lineAt i xs d
+
+abbrev pub below : ℕ → List Ruled → List Ruled
+below i [] = []
+below zero (x ∷ xs) = xs
+below (suc i) (x ∷ xs) = below i xs
+
+-- the lines have the numbers n, n + 1, ..
+abbrev pub Numbered : ℕ → List Ruled → Type 0
+Numbered n [] = Unit {0}
+Numbered n (x ∷ xs) = (x .line .number ≡ n) × Numbered (suc n) xs

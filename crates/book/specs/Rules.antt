@@ -9,6 +9,7 @@ use lib.Dec.{ltb, leb, eqb}
 use Rattle.words.specs.Choice.{pick}
 use Rattle.words.specs.First.{any}
 use Rattle.words.specs.Run.{sameWords}
+use Rattle.terms.specs.Kind.{ofKind, lastKind}
 use Rattle.terms.specs.Table.{rowSize}
 use Rattle.book.specs.Layout.{least, most, counted, begins, offset, rows, parties, steps, pool, kind, tag, rowFirst, rowCount, name, partyFirst, partyCount, sender, receiver, stepFirst, stepCount, pooled, parts, rowsBefore, partiesBefore, stepsBefore, table}
 pub mod Laws
@@ -60,33 +61,16 @@ listBreaks b lo hi n first before bound =
     oneOf (outside lo hi n ∷ differs first before ∷ ltb (pool b) (first + n) ∷ any (λ j. leb bound (pooled b first j)) n ∷ [])
 
 -- ---- a row
--- by kind: how many parts, and the largest tag
-unfoldable pub fewest : ℕ → ℕ
-fewest zero = 0
-fewest (suc zero) = 0
-fewest (suc (suc k)) = 1
-
-unfoldable pub largest : ℕ → ℕ
-largest zero = 0
-largest (suc zero) = 8
-largest (suc (suc zero)) = 9
-largest (suc (suc (suc k))) = 1
-
-unfoldable pub largestTag : ℕ → ℕ
-largestTag zero = 0
-largestTag (suc zero) = 65535
-largestTag (suc (suc k)) = 0
-
 pub record RowRule (b : List ℕ) (r : ℕ) : Type 0 where
-  pub kinded : kind b r ≤ 4
-  pub tagged : tag b r ≤ largestTag (kind b r)
+  pub kinded : kind b r ≤ lastKind
+  pub tagged : tag b r ≤ ofKind (kind b r) .tag
   -- "A row's parts are rows before it."
-  pub listed : ListRule b (fewest (kind b r)) (largest (kind b r)) (rowCount b r) (rowFirst b r) (rowsBefore b r) r
+  pub listed : ListRule b (ofKind (kind b r) .fewest) (ofKind (kind b r) .most) (rowCount b r) (rowFirst b r) (rowsBefore b r) r
 
 unfoldable pub rowBreaks : List ℕ → ℕ → Bool
 rowBreaks b r =
-    oneOf (ltb 4 (kind b r) ∷ ltb (largestTag (kind b r)) (tag b r)
-    ∷ listBreaks b (fewest (kind b r)) (largest (kind b r)) (rowCount b r) (rowFirst b r) (rowsBefore b r) r ∷ [])
+    oneOf (ltb lastKind (kind b r) ∷ ltb (ofKind (kind b r) .tag) (tag b r)
+    ∷ listBreaks b (ofKind (kind b r) .fewest) (ofKind (kind b r) .most) (rowCount b r) (rowFirst b r) (rowsBefore b r) r ∷ [])
 
 -- "No size exceeds 1,024."
 abbrev pub SizeRule : List ℕ → ℕ → Type 0

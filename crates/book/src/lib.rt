@@ -2,6 +2,7 @@ use words::wide;
 ghost use mathlib.Core.Path.{_≡_};
 ghost use Prim.Native.Nat.{_+_, _^_, _≤_, _<_};
 ghost use Rattle.book.specs.Headed.{Headed};
+ghost use Rattle.book.specs.Kinds.{OfKind};
 ghost use Rattle.book.specs.Span.{entry as entryAt, Span};
 ghost use Rattle.book.specs.Valid.{Valid};
 ghost use Rattle.book.specs.Layout.{rows as rowsOf, parties as partiesOf, steps as stepsOf, pool as poolOf, field, pooled as pooledAt};
@@ -42,8 +43,15 @@ impl Layout {
     pub const STEP: usize = 4;
 }
 
-// The kinds of rows.
-pub struct Kind {}
+// The kinds of rows, and what each asks of its rows and says of them: what it adds to its parts' sizes, the fewest and the most parts,
+// the largest tag, the word that an image of it begins with.
+pub struct Kind {
+    pub size: u32,
+    pub fewest: usize,
+    pub most: usize,
+    pub tag: u32,
+    pub code: u32,
+}
 
 impl Kind {
     pub const ATOM: u32 = 0;
@@ -55,6 +63,89 @@ impl Kind {
     pub const PUBLIC: u32 = 3;
 
     pub const PRIVATE: u32 = 4;
+
+    // A kind's line. Any other number has the private half's.
+    pub fn of(kind: u32) -> Kind
+        ensures { λ r. ⌜ OfKind kind r ⌝ }
+    {
+        if kind == Kind::ATOM {
+            return Kind {
+                size: 2,
+                fewest: 0,
+                most: 0,
+                tag: 0,
+                code: ImageCode::ITSELF,
+            };
+        }
+        if kind == Kind::OPERATION {
+            return Kind {
+                size: 3,
+                fewest: 0,
+                most: Limit::ARGUMENTS,
+                tag: Limit::TAG,
+                code: ImageCode::OPERATION,
+            };
+        }
+        if kind == Kind::CIPHER {
+            return Kind {
+                size: 2,
+                fewest: 1,
+                most: Limit::PARTS,
+                tag: 0,
+                code: ImageCode::CIPHER,
+            };
+        }
+        if kind == Kind::PUBLIC {
+            return Kind {
+                size: 1,
+                fewest: 1,
+                most: 1,
+                tag: 0,
+                code: ImageCode::PUBLIC,
+            };
+        }
+        Kind {
+            size: 1,
+            fewest: 1,
+            most: 1,
+            tag: 0,
+            code: ImageCode::PRIVATE,
+        }
+    }
+}
+
+// The events' codes.
+pub struct Code {}
+
+impl Code {
+    pub const NEW: u32 = 1;
+
+    pub const SEND: u32 = 2;
+
+    pub const RECEIVE: u32 = 3;
+
+    pub const CHECK: u32 = 4;
+
+    pub const OPEN: u32 = 5;
+
+    pub const END: u32 = 6;
+}
+
+// The images' codes.
+pub struct ImageCode {}
+
+impl ImageCode {
+    pub const ITSELF: u32 = 0;
+
+    pub const PLACEHOLDER: u32 = 1;
+
+    pub const OPERATION: u32 = 2;
+
+    pub const CIPHER: u32 = 3;
+
+    pub const PUBLIC: u32 = 4;
+
+    pub const PRIVATE: u32 = 5;
 }
 
 // The largest counts, sizes and tags.

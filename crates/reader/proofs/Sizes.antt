@@ -11,7 +11,8 @@ use borrow.Author.Tests.{lt-ltb, le-ltb}
 use Rattle.words.specs.Run.Laws.{all-run}
 use Rattle.words.specs.Sum.{sum}
 use Rattle.words.specs.Sum.Laws.{sum-none, sum-same, sum-more}
-use Rattle.terms.specs.Table.{ownSize, rowSize}
+use Rattle.terms.specs.Kind.{ofKind}
+use Rattle.terms.specs.Table.{rowSize}
 use Rattle.terms.specs.Table.Laws.{size-row, total-run}
 use Rattle.book.specs.Layout.{begins, rows, kind, rowFirst, rowCount, pooled, table}
 use Rattle.book.specs.Rules.{sizeBreaks}
@@ -24,12 +25,12 @@ Sizes b s r = (k : ℕ) → k < r → getD s k 0 ≡ rowSize (table b) k
 
 -- the size of row r so far: what its kind adds, and the sizes of its first j parts, as s has them
 unfoldable pub sizeSoFar : List ℕ → List ℕ → ℕ → ℕ → ℕ → ℕ
-sizeSoFar b s r f j = ownSize (kind b r) + sum (λ i. getD s (pooled b f i) 0) j
+sizeSoFar b s r f j = ofKind (kind b r) .size + sum (λ i. getD s (pooled b f i) 0) j
 
 -- ---- rowSize, part after part
-pub size-begins : (b s : List ℕ) (r f k o : ℕ) → k ≡ kind b r → o ≡ ownSize k → o ≡ sizeSoFar b s r f 0
+pub size-begins : (b s : List ℕ) (r f k o : ℕ) → k ≡ kind b r → o ≡ ofKind k .size → o ≡ sizeSoFar b s r f 0
 unfolding sizeSoFar
-size-begins b s r f k o d e = let z = sum-none (λ i. getD s (pooled b f i) 0) in let y = ap ownSize d in omega arith
+size-begins b s r f k o d e = let z = sum-none (λ i. getD s (pooled b f i) 0) in let y = ap (λ c. ofKind c .size) d in omega arith
 
 -- w is the part that was read, where s is asked
 pub size-step : (b s : List ℕ) (r f j size w p : ℕ) → size ≡ sizeSoFar b s r f j → w ≡ p → p ≡ pooled b f j
@@ -46,7 +47,7 @@ size-all : (b : List ℕ) → RowsKeep b → (r : ℕ) → r < rows b → (s : L
 unfolding table sizeSoFar
 size-all b keep r l s h f d =
     sym (size-row (table b) (rows b) (λ q m. all-run (λ p. p < q) b (begins b 3 + rowFirst b q) (rowCount b q) (keep q m .listed .each)) r l
-    ∙ ap (λ x. ownSize (kind b r) + x)
+    ∙ ap (λ x. ofKind (kind b r) .size + x)
     (total-run (rowSize (table b)) b (begins b 3 + rowFirst b r) (rowCount b r)
     ∙ sum-same _ _ (rowCount b r)
     (λ j m. sym (h (pooled b (rowFirst b r) j) (keep r l .listed .each j m)) ∙ ap (λ x. getD s (pooled b x j) 0) (sym d))))

@@ -26,11 +26,11 @@ ghost use Prim.Native.Nat.{ℕ, _+_, _-_, _*_, _^_, _≤_, _<_, min};
 ghost use lib.Dec.{leb, eqb};
 ghost use lib.ListN.{length, getD, drop};
 ghost use Rattle.words.specs.First.{first, any};
-ghost use Rattle.terms.specs.Table.{ownSize, rowSize};
+ghost use Rattle.terms.specs.Table.{rowSize};
 ghost use Rattle.book.specs.Headed.{Headed};
 ghost use Rattle.book.specs.Layout.{rows as rowsOf, parties as partiesOf, steps as stepsOf, pool as poolOf, pooled as pooledAt};
 ghost use Rattle.book.specs.Layout.{name, rowsBefore, partiesBefore, stepsBefore, table};
-ghost use Rattle.book.specs.Rules.{outside as outsideOf, countBreaks, offsetBreaks, listBreaks, fewest as fewestOf, largest as largestOf, largestTag};
+ghost use Rattle.book.specs.Rules.{outside as outsideOf, countBreaks, offsetBreaks, listBreaks};
 ghost use Rattle.book.specs.Rules.{rowBreaks, sizeBreaks, alike, repeats, partyBreaks, stepBreaks};
 ghost use Rattle.book.specs.Said.{readingSays, accepted};
 ghost use Rattle.book.specs.Refusals.{firstOf, readingTable, verdict};
@@ -135,38 +135,6 @@ fn list_breaks(
     entry_breaks(book, first, n, bound)
 }
 
-// By kind: the fewest and the most parts, and the largest tag.
-fn fewest(kind: u32) -> usize
-    ensures { λ r. ⌜ r ≡ fewestOf kind ⌝ }
-{
-    match kind {
-        Kind::ATOM => 0,
-        Kind::OPERATION => 0,
-        _ => 1,
-    }
-}
-
-fn largest(kind: u32) -> usize
-    ensures { λ r. ⌜ r ≡ largestOf kind ⌝ }
-{
-    match kind {
-        Kind::ATOM => 0,
-        Kind::OPERATION => Limit::ARGUMENTS,
-        Kind::CIPHER => Limit::PARTS,
-        _ => 1,
-    }
-}
-
-fn largest_tag(kind: u32) -> u32
-    ensures { λ r. ⌜ r ≡ largestTag kind ⌝ }
-{
-    match kind {
-        Kind::ATOM => 0,
-        Kind::OPERATION => Limit::TAG,
-        _ => 0,
-    }
-}
-
 // The row breaks its rule.
 fn row_breaks(book: &[u32], row: u32, before: usize) -> bool
     requires { ⌜ Headed (now book) × (row < rowsOf (now book)) × (before ≡ rowsBefore (now book) row) ⌝ }
@@ -176,13 +144,14 @@ fn row_breaks(book: &[u32], row: u32, before: usize) -> bool
     if Kind::PRIVATE < kind {
         return true;
     }
-    if largest_tag(kind) < row_tag(book, row) {
+    let asked = Kind::of(kind);
+    if asked.tag < row_tag(book, row) {
         return true;
     }
     list_breaks(
         book,
-        fewest(kind),
-        largest(kind),
+        asked.fewest,
+        asked.most,
         row_count(book, row),
         row_first(book, row),
         before,
@@ -220,18 +189,6 @@ fn scan_rows(book: &[u32]) -> Scan
     }
 }
 
-// What a kind adds to its parts' sizes.
-fn own_size(kind: u32) -> u32
-    ensures { λ r. ⌜ (r ≡ ownSize kind) × (r ≤ 3) ⌝ }
-{
-    match kind {
-        Kind::ATOM => 2,
-        Kind::OPERATION => 3,
-        Kind::CIPHER => 2,
-        _ => 1,
-    }
-}
-
 // The size of a row, from those of the rows before it.
 fn row_size(book: &[u32], sizes: &[u32; 1024], row: u32) -> u32
     requires { ⌜ Headed (now book) × RowsKeep (now book) × (row < rowsOf (now book)) × ((k : ℕ) → k < row → getD (now sizes) k 0 ≡ rowSize (table (now book)) k) × ((k : ℕ) → k < row → rowSize (table (now book)) k ≤ 1024) ⌝ }
@@ -239,7 +196,8 @@ fn row_size(book: &[u32], sizes: &[u32; 1024], row: u32) -> u32
 {
     let first = row_first(book, row);
     let n = row_count(book, row);
-    let mut size = own_size(row_kind(book, row));
+    let kind = Kind::of(row_kind(book, row));
+    let mut size = kind.size;
     let mut j = 0;
     while j < n {
         size += sizes[wide(pooled(book, first, j))];

@@ -1,3 +1,4 @@
+use book::Code;
 use book::Kind;
 use book::entry;
 use book::first_part;
@@ -8,7 +9,6 @@ use holding::buildable;
 use holding::can_open;
 use holding::write_image;
 use holding::write_partner;
-use translation::Code;
 use words::narrow;
 use words::put2;
 use words::wide;

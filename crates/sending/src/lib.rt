@@ -1,3 +1,4 @@
+use book::Code;
 use book::Kind;
 use book::entry;
 use book::row_count;
@@ -5,7 +6,6 @@ use book::row_first;
 use book::row_kind;
 use book::rows;
 use holding::write_images;
-use translation::Code;
 use words::narrow;
 use words::put2;
 use words::put3;

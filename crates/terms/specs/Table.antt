@@ -8,6 +8,7 @@ use lib.ListN.{length}
 use Rattle.words.specs.First.{first}
 use Rattle.words.specs.Choice.{choose}
 use Rattle.words.specs.Run.{All}
+use Rattle.terms.specs.Kind.{Form, ofKind, lastKind, Shape, Tagged}
 use Rattle.terms.specs.Term.{Term, Terms, atom, operation, cipher, public, private, nil, cons, same, gathered}
 pub mod Laws
 
@@ -29,18 +30,22 @@ level f tab (suc n) r = f r (map (level f tab n) (tab r .parts))
 unfoldable pub unfold-by : {X : Type 0} → (ℕ → List X → X) → Table → ℕ → X
 unfold-by f tab r = level f tab (suc r) r
 
--- the row r, of a kind and with a tag, over its parts' terms. A row without the parts that its kind asks for, or of no kind,
--- stands for no term: it breaks its rule (refusal 4), and is given the atom of its number here
+-- the row r of a form, with a tag, over its parts' terms. A row without the part that its form asks for stands for no term: it breaks
+-- its rule (refusal 4), and is given the atom of its number here
+unfoldable pub formed : Form → ℕ → ℕ → Terms → Term
+formed Form.atom r g ts = atom r
+formed Form.operation r g ts = operation g ts
+formed Form.cipher r g nil = atom r
+formed Form.cipher r g (cons k ts) = cipher k ts
+formed Form.public r g nil = atom r
+formed Form.public r g (cons t ts) = public t
+formed Form.private r g nil = atom r
+formed Form.private r g (cons t ts) = private t
+
+-- the row r, of a kind and with a tag, over its parts' terms
 unfoldable pub form : ℕ → ℕ → ℕ → Terms → Term
-form r zero g ts = atom r
-form r (suc zero) g ts = operation g ts
-form r (suc (suc zero)) g nil = atom r
-form r (suc (suc zero)) g (cons k ts) = cipher k ts
-form r (suc (suc (suc zero))) g nil = atom r
-form r (suc (suc (suc zero))) g (cons t ts) = public t
-form r (suc (suc (suc (suc zero)))) g nil = atom r
-form r (suc (suc (suc (suc zero)))) g (cons t ts) = private t
-form r (suc (suc (suc (suc (suc k))))) g ts = atom r
+unfolding formed
+form r k g ts = formed (ofKind k .form) r g ts
 
 -- the term that a row stands for
 unfoldable pub term : Table → ℕ → Term
@@ -50,41 +55,21 @@ term tab r = unfold-by (λ q us. form q (tab q .kind) (tab q .tag) (gathered us)
 unfoldable pub terms : Table → List ℕ → Terms
 terms tab rs = gathered (map (term tab) rs)
 
--- what a kind adds to its parts' sizes
-unfoldable pub ownSize : ℕ → ℕ
-ownSize zero = 2
-ownSize (suc zero) = 3
-ownSize (suc (suc zero)) = 2
-ownSize (suc (suc (suc k))) = 1
-
 unfoldable pub total : List ℕ → ℕ
 total [] = 0
 total (z ∷ zs) = z + total zs
 
--- "A row's size": its kind's own, plus its parts' sizes
+-- "A row's size": what its kind adds, and its parts' sizes
 unfoldable pub rowSize : Table → ℕ → ℕ
-rowSize tab r = unfold-by (λ q zs. ownSize (tab q .kind) + total zs) tab r
+rowSize tab r = unfold-by (λ q zs. ofKind (tab q .kind) .size + total zs) tab r
 
 -- the row of a term among the first n rows, or n where it is no row's
 unfoldable pub number : Table → ℕ → Term → ℕ
 number tab n t = first (λ r. choose (same (term tab r) t) true false) n
 
 -- ---- a table whose rows keep their rule
--- how many parts a row of a kind has
-abbrev pub Shape : ℕ → ℕ → Type 0
-Shape zero n = n ≡ 0
-Shape (suc zero) n = Unit {0}
-Shape (suc (suc zero)) n = 1 ≤ n
-Shape (suc (suc (suc k))) n = n ≡ 1
-
--- only an operation has a tag
-abbrev pub Tagged : ℕ → ℕ → Type 0
-Tagged zero g = g ≡ 0
-Tagged (suc zero) g = Unit {0}
-Tagged (suc (suc k)) g = g ≡ 0
-
 pub record Formed (n : ℕ) (tab : Table) : Type 0 where
-  pub kinds : (r : ℕ) → r < n → tab r .kind ≤ 4
+  pub kinds : (r : ℕ) → r < n → tab r .kind ≤ lastKind
   pub tags : (r : ℕ) → r < n → Tagged (tab r .kind) (tab r .tag)
   pub shapes : (r : ℕ) → r < n → Shape (tab r .kind) (length (tab r .parts))
   pub before : (r : ℕ) → r < n → All (λ p. p < r) (tab r .parts)

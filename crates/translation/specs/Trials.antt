@@ -11,9 +11,9 @@ use Rattle.words.specs.Run.{run, values, sameWords}
 use Rattle.words.specs.Sum.{sum}
 use Rattle.terms.specs.Term.{same, count, listed, gathered, partner, size, occurs}
 use Rattle.terms.specs.Image.{words, countImages}
-use Rattle.terms.specs.Table.{level, unfold-by, form, term, terms, ownSize, total, rowSize, number}
+use Rattle.terms.specs.Table.{level, unfold-by, form, term, terms, total, rowSize, number}
 use Rattle.book.specs.Layout.{offset, table}
-use Rattle.book.specs.Rules.{oneOf, outside, differs, countBreaks, stated, offsetBreaks, listBreaks, fewest, largest, largestTag, rowBreaks, sizeBreaks, alike, repeats, partyBreaks, stepBreaks, totalBreaks}
+use Rattle.book.specs.Rules.{oneOf, outside, differs, countBreaks, stated, offsetBreaks, listBreaks, rowBreaks, sizeBreaks, alike, repeats, partyBreaks, stepBreaks, totalBreaks}
 use Rattle.book.specs.Said.{said}
 use Rattle.book.specs.Refusals.{applies, gives, firstOf, readingTable}
 use Rattle.translation.specs.Dictionary.{enter, start, buildable, imageOr, image}
@@ -79,7 +79,7 @@ trials =
 
 -- what the definitions say of each
 unfoldable pub computed : List Trial → List Outcome
-unfolding ℕ-discrete pick choose first firstFrom any run values sameWords sum same count listed gathered partner size occurs words countImages level unfold-by form term terms ownSize total rowSize number offset table oneOf outside differs countBreaks stated offsetBreaks listBreaks fewest largest largestTag rowBreaks sizeBreaks alike repeats partyBreaks stepBreaks totalBreaks applies gives firstOf readingTable enter start buildable imageOr image builtOr build canOpen rule byRule receive actsOf act walk walked program stepAt narration knownTo programOf joined allMessages claimed occursInOne taken stepOf holdsBefore madeAt takenAt unplayable firstTaken pairWords eventWords programWords heads bodies framed partWords listing takenLine roomLine translationSays outcome
+unfolding ℕ-discrete pick choose first firstFrom any run values sameWords sum same count listed gathered partner size occurs words countImages level unfold-by form term terms total rowSize number offset table oneOf outside differs countBreaks stated offsetBreaks listBreaks rowBreaks sizeBreaks alike repeats partyBreaks stepBreaks totalBreaks applies gives firstOf readingTable enter start buildable imageOr image builtOr build canOpen rule byRule receive actsOf act walk walked program stepAt narration knownTo programOf joined allMessages claimed occursInOne taken stepOf holdsBefore madeAt takenAt unplayable firstTaken pairWords eventWords programWords heads bodies framed partWords listing takenLine roomLine translationSays outcome
 computed [] = []
 computed (t ∷ ts) = outcome (t .book) (t .lent) ∷ computed ts
 

@@ -1,3 +1,4 @@
+use book::Code;
 use book::rows;
 use book::step_count;
 use book::step_first;
@@ -9,7 +10,6 @@ use receiving::Dictionary;
 use receiving::Received;
 use receiving::receive_messages;
 use sending::send;
-use translation::Code;
 use words::narrow;
 use words::put_all;
 use words::put2;

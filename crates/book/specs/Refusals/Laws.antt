@@ -1,14 +1,16 @@
 -- "Given exactly when", once over any line of an ordered table. Assumes nothing.
-use Prim.Native.Nat.{ℕ, _≤_, _<_}
+use Prim.Native.Nat.{ℕ, zero, suc, _+_, _≤_, _<_}
 use mathlib.Core.Bool.{Bool, true, false}
 use mathlib.Core.List.{List, [], _∷_, _++_}
 use mathlib.Core.Logic.{_↔_}
+use native.Mathlib.Omega.{arith}
+use lib.ListN.{length}
 use mathlib.Core.Path.{_≡_, refl, sym, ap, _∙_}
 use Rattle.words.specs.First.{first}
 use Rattle.words.specs.First.Laws.{clash, first-at, first-fails, first-holds, any-at, any-none, none-any, any-first, any-yes, any-no}
 use Rattle.book.specs.Said.{Said, said}
 use Rattle.book.specs.Refusals.{Line, line, applies, gives, firstOf}
-use Rattle.book.specs.Ruled.{Ruled, Keeps, AllKeep, lines, Cause, Apart}
+use Rattle.book.specs.Ruled.{Ruled, Keeps, AllKeep, lines, Cause, Apart, above, lineAt, below, Numbered}
 
 -- two tables, one behind the other
 pub append-keep : (xs ys : List Ruled) → AllKeep xs → AllKeep ys → AllKeep (xs ++ ys)
@@ -167,3 +169,38 @@ none-given (x ∷ xs) rest a e = go (applies (x .line)) refl (none-given xs rest
     go : (v : Bool) → applies (x .line) ≡ v → (firstOf (lines xs) rest .number ≡ 0 → AllKeep xs) → Keeps x × AllKeep xs
     go true q h = absurd (a .0 (sym (ap (λ (s : Said). s .number) (firstOf-here (x .line) (lines xs) rest q)) ∙ e))
     go false q h = (not-keeps x q, h (sym (ap (λ (s : Said). s .number) (firstOf-on (x .line) (lines xs) rest q)) ∙ e))
+
+-- ---- a table whose lines are numbered from n on
+lines-split : (xs : List Ruled) (d : Ruled) (i : ℕ) → i < length xs → lines xs ≡ lines (above i xs) ++ (lineAt i xs d .line ∷ lines (below i xs))
+lines-split [] d i h = absurd (omega arith)
+lines-split (x ∷ xs) d zero h = refl
+lines-split (x ∷ xs) d (suc i) h = ap (λ (ls : List Line). x .line ∷ ls) (lines-split xs d i (omega arith))
+
+numbered-at : (n : ℕ) (xs : List Ruled) (d : Ruled) → Numbered n xs → (i : ℕ) → i < length xs → lineAt i xs d .line .number ≡ n + i
+numbered-at n [] d a i h = absurd (omega arith)
+numbered-at n (x ∷ xs) d a zero h = let e = a .0 in omega arith
+numbered-at n (x ∷ xs) d a (suc i) h = let e = numbered-at (suc n) xs d (a .1) i (omega arith) in omega arith
+
+numbered-later : (k n : ℕ) (xs : List Ruled) → Numbered n xs → k < n → Apart k xs
+numbered-later k n [] a h = tt
+numbered-later k n (x ∷ xs) a h = (λ e. let z = a .0 in absurd (omega arith), numbered-later k (suc n) xs (a .1) (omega arith))
+
+numbered-apart : (k n : ℕ) (xs : List Ruled) → Numbered n xs → (i : ℕ) → i < length xs → k ≡ n + i → Apart k (above i xs) × Apart k (below i xs)
+numbered-apart k n [] a i h e = absurd (omega arith)
+numbered-apart k n (x ∷ xs) a zero h e = (tt, numbered-later k (suc n) xs (a .1) (omega arith))
+numbered-apart k n (x ∷ xs) a (suc i) h e =
+    let r = numbered-apart k (suc n) xs (a .1) i (omega arith) (omega arith) in
+    ((λ z. let y = a .0 in absurd (omega arith), r .0), r .1)
+
+-- each line is given exactly when the lines above it are kept and it has a cause
+pub exact-line : (n : ℕ) (xs : List Ruled) (d : Ruled) (rest : Said) → Numbered n xs → (i : ℕ) → i < length xs → (rest .number ≡ n + i → ⊥)
+    → (vs : List ℕ) → (firstOf (lines xs) rest ≡ said (n + i) vs) ↔ (AllKeep (above i xs) × Cause (lineAt i xs d) vs)
+exact-line n xs d rest a i h z vs =
+    let x = lineAt i xs d in
+    let m : x .line .number ≡ n + i = numbered-at n xs d a i h in
+    let p = numbered-apart (x .line .number) n xs a i h m in
+    let s = ap (λ (ls : List Line). firstOf ls rest) (lines-split xs d i h) in
+    let t = ap (λ k. said k vs) m in (
+      λ e. caused (above i xs) x (below i xs) rest vs (p .0) (p .1) (λ y. z (y ∙ m)) (sym s ∙ e ∙ sym t),
+      λ c. s ∙ given (above i xs) x (below i xs) rest vs (c .0) (c .1) ∙ t,
+    )

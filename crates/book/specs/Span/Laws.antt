@@ -1,12 +1,12 @@
 -- Laws of spans. Assumes nothing.
-use Prim.Native.Nat.{ℕ, zero, suc, _+_, _-_, _≤_, _<_}
+use Prim.Native.Nat.{ℕ, _+_, _-_, _≤_, _<_}
 use mathlib.Core.List.{List, [], _∷_}
 use mathlib.Core.Path.{_≡_, refl, ap, _∙_}
 use native.Mathlib.Omega.{arith}
 use Rattle.words.specs.Run.{run}
 use Rattle.words.specs.Run.Laws.{run-none, run-more, all-run}
 use Rattle.book.specs.Layout.{at, begins, rows, steps, pool, kind, rowFirst, rowCount, stepFirst, stepCount, listAt, pooled}
-use Rattle.book.specs.Rules.{fewest, largest}
+use Rattle.book.specs.Kinds.Laws.{most-few, some-parts}
 use Rattle.book.specs.Valid.{Valid}
 use Rattle.book.specs.Valid.Laws.{row-before}
 use Rattle.book.specs.Span.{entry, Span}
@@ -20,19 +20,12 @@ list-more b f n h =
     let y : begins b 3 + f + 1 ≡ begins b 3 + (f + 1) = omega arith in
     run-more b (begins b 3 + f) n h ∙ ap (λ k. at b k ∷ run b (begins b 3 + f + 1) (n - 1)) z ∙ ap (λ k. entry b f ∷ run b k (n - 1)) y
 
-few-parts : (k n : ℕ) → n ≤ largest k → n ≤ 9
-unfolding largest
-few-parts zero n h = omega arith
-few-parts (suc zero) n h = omega arith
-few-parts (suc (suc zero)) n h = omega arith
-few-parts (suc (suc (suc k))) n h = omega arith
-
 module _ (b : List ℕ) (v : Valid b) (f n : ℕ) where
   -- a row's parts
   pub span-row : (r : ℕ) → r < rows b → f ≡ rowFirst b r → n ≡ rowCount b r → Span b r f n
   span-row r h p q =
       let o = v .rowsKeep r h .listed in
-      rw (p, q) (record { inside = o .inside; below = row-before b v r h; few = few-parts (kind b r) (rowCount b r) (o .high) })
+      rw (p, q) (record { inside = o .inside; below = row-before b v r h; few = (let h = o .high in let m = most-few (kind b r) in omega arith) })
 
   -- a step's messages
   pub span-step : (s : ℕ) → s < steps b → f ≡ stepFirst b s → n ≡ stepCount b s → Span b (rows b) f n
@@ -56,15 +49,9 @@ module _ (b : List ℕ) (d f n : ℕ) (s : Span b d f n) (h : 0 < n) where
   span-index = let l = s .inside in omega arith
 
 -- ---- a row's first part: a cipher's key, a half's part
-parts-some : (k n : ℕ) → 2 ≤ k → fewest k ≤ n → 0 < n
-unfolding fewest
-parts-some zero n h l = absurd (omega arith)
-parts-some (suc zero) n h l = absurd (omega arith)
-parts-some (suc (suc k)) n h l = l
-
 module _ (b : List ℕ) (v : Valid b) where
   pub some-part : (r : ℕ) → r < rows b → 2 ≤ kind b r → 0 < rowCount b r
-  some-part r h k = parts-some (kind b r) (rowCount b r) k (v .rowsKeep r h .listed .low)
+  some-part r h k = let l = v .rowsKeep r h .listed .low in let s = some-parts (kind b r) k in omega arith
 
   pub part-low : (r : ℕ) → r < rows b → 2 ≤ kind b r → entry b (rowFirst b r) < r
   part-low r h k = span-head b r (rowFirst b r) (rowCount b r) (span-row b v _ _ r h refl refl) (some-part r h k)

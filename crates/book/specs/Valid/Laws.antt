@@ -12,15 +12,16 @@ use borrow.Author.Tests.{ltb-false, le-ltb}
 use Rattle.words.specs.Run.{All}
 use Rattle.words.specs.Run.Laws.{all-run, run-length}
 use Rattle.terms.specs.Term.{Term, gathered}
-use Rattle.terms.specs.Table.{Formed, Shape, Tagged, form, term, terms}
+use Rattle.terms.specs.Kind.{Shape}
+use Rattle.terms.specs.Table.{Formed, form, term, terms}
 use Rattle.terms.specs.Table.Laws.{kindOf, term-row, shape-row, kind-row, atom-row, term-injective}
 use Rattle.book.specs.Layout.{header, begins, rows, parties, steps, kind, tag, rowFirst, rowCount, parts, table}
-use Rattle.book.specs.Rules.{CountRule, countBreaks, OffsetRule, offsetBreaks, fewest, largest, largestTag, RowRule, rowBreaks, SizeRule, sizeBreaks, SingleRule, repeats, PartyRule, partyBreaks, StepRule, stepBreaks, TotalRule, totalBreaks}
+use Rattle.book.specs.Rules.{CountRule, countBreaks, OffsetRule, offsetBreaks, RowRule, rowBreaks, SizeRule, sizeBreaks, SingleRule, repeats, PartyRule, partyBreaks, StepRule, stepBreaks, TotalRule, totalBreaks}
 use Rattle.book.specs.Rules.Laws.{count-exact, offset-exact, row-exact, size-exact, single-exact, party-exact, step-exact, total-exact}
 use Rattle.book.specs.Said.{Said, said, accepted}
 use Rattle.book.specs.Refusals.{Line, line, here, zero-place, firstOf, readingTable, verdict}
-use Rattle.book.specs.Ruled.{Ruled, AllKeep, lines, Cause, Apart}
-use Rattle.book.specs.Refusals.Laws.{given, caused, all-keep, none-given}
+use Rattle.book.specs.Ruled.{Ruled, AllKeep, lines, Cause, above, lineAt}
+use Rattle.book.specs.Refusals.Laws.{exact-line, all-keep, none-given}
 use Rattle.book.specs.Valid.{Valid}
 
 -- ---- the nine lines with their rules
@@ -82,57 +83,42 @@ module _ (b : List ℕ) where
   accepted-valid =
       (λ e. keep-valid (none-given nine accepted (omega arith) (ap (λ (s : Said). s .number) e)), λ v. all-keep nine [] accepted (valid-keep v))
 
-  -- ---- given exactly when: refusal n at its place, with the lines before it kept
-  module _ (xs : List Ruled) (x : Ruled) (ys : List Ruled) (split : readingTable b ≡ lines xs ++ (x .line ∷ lines ys))
-      (apart : Apart (x .line .number) xs × Apart (x .line .number) ys × (0 ≡ x .line .number → ⊥)) where
-    exactly : (vs : List ℕ) → (verdict b ≡ said (x .line .number) vs) ↔ (AllKeep xs × Cause x vs)
-    unfolding verdict
-    exactly vs = (
-      λ e. caused xs x ys accepted vs (apart .0) (apart .1) (apart .2) (ap (λ (ls : List Line). firstOf ls accepted) (sym split) ∙ e),
-      λ c. ap (λ (ls : List Line). firstOf ls accepted) split ∙ given xs x ys accepted vs (c .0) (c .1),
-    )
+  -- ---- given exactly when: refusal i + 1, with the lines above it kept, at the smallest place that breaks its rule
+  pub exactly : (i : ℕ) → i < 9 → (vs : List ℕ) → (verdict b ≡ said (1 + i) vs) ↔ (AllKeep (above i nine) × Cause (lineAt i nine short-line) vs)
+  unfolding verdict
+  exactly i h vs =
+      let r = exact-line 1 nine short-line accepted (omega arith) i h (λ z. absurd (omega arith)) vs in
+      let t = ap (λ (ls : List Line). firstOf ls accepted) reading-lines in
+      (λ e. r .0 (sym t ∙ e), λ c. t ∙ r .1 c)
 
-  pub exactly-1 : (vs : List ℕ) → (verdict b ≡ said 1 vs) ↔ (Unit {0} × Cause short-line vs)
-  exactly-1 = exactly [] short-line (count-line ∷ offset-line ∷ row-line ∷ size-line ∷ repeat-line ∷ party-line ∷ step-line ∷ sum-line ∷ []) reading-lines (omega arith)
+  pub exactly-1 : (vs : List ℕ) → (verdict b ≡ said 1 vs) ↔ (AllKeep [] × Cause short-line vs)
+  exactly-1 = exactly 0 (omega arith)
 
   pub exactly-2 : (vs : List ℕ) → (verdict b ≡ said 2 vs) ↔ (AllKeep (short-line ∷ []) × Cause count-line vs)
-  exactly-2 = exactly (short-line ∷ []) count-line (offset-line ∷ row-line ∷ size-line ∷ repeat-line ∷ party-line ∷ step-line ∷ sum-line ∷ []) reading-lines (omega arith)
+  exactly-2 = exactly 1 (omega arith)
 
   pub exactly-3 : (vs : List ℕ) → (verdict b ≡ said 3 vs) ↔ (AllKeep (short-line ∷ count-line ∷ []) × Cause offset-line vs)
-  exactly-3 = exactly (short-line ∷ count-line ∷ []) offset-line (row-line ∷ size-line ∷ repeat-line ∷ party-line ∷ step-line ∷ sum-line ∷ []) reading-lines (omega arith)
+  exactly-3 = exactly 2 (omega arith)
 
   pub exactly-4 : (vs : List ℕ) → (verdict b ≡ said 4 vs) ↔ (AllKeep (short-line ∷ count-line ∷ offset-line ∷ []) × Cause row-line vs)
-  exactly-4 = exactly (short-line ∷ count-line ∷ offset-line ∷ []) row-line (size-line ∷ repeat-line ∷ party-line ∷ step-line ∷ sum-line ∷ []) reading-lines (omega arith)
+  exactly-4 = exactly 3 (omega arith)
 
   pub exactly-5 : (vs : List ℕ) → (verdict b ≡ said 5 vs) ↔ (AllKeep (short-line ∷ count-line ∷ offset-line ∷ row-line ∷ []) × Cause size-line vs)
-  exactly-5 = exactly (short-line ∷ count-line ∷ offset-line ∷ row-line ∷ []) size-line (repeat-line ∷ party-line ∷ step-line ∷ sum-line ∷ []) reading-lines (omega arith)
+  exactly-5 = exactly 4 (omega arith)
 
   pub exactly-6 : (vs : List ℕ) → (verdict b ≡ said 6 vs) ↔ (AllKeep (short-line ∷ count-line ∷ offset-line ∷ row-line ∷ size-line ∷ []) × Cause repeat-line vs)
-  exactly-6 = exactly (short-line ∷ count-line ∷ offset-line ∷ row-line ∷ size-line ∷ []) repeat-line (party-line ∷ step-line ∷ sum-line ∷ []) reading-lines (omega arith)
+  exactly-6 = exactly 5 (omega arith)
 
   pub exactly-7 : (vs : List ℕ) → (verdict b ≡ said 7 vs) ↔ (AllKeep (short-line ∷ count-line ∷ offset-line ∷ row-line ∷ size-line ∷ repeat-line ∷ []) × Cause party-line vs)
-  exactly-7 = exactly (short-line ∷ count-line ∷ offset-line ∷ row-line ∷ size-line ∷ repeat-line ∷ []) party-line (step-line ∷ sum-line ∷ []) reading-lines (omega arith)
+  exactly-7 = exactly 6 (omega arith)
 
   pub exactly-8 : (vs : List ℕ) → (verdict b ≡ said 8 vs) ↔ (AllKeep (short-line ∷ count-line ∷ offset-line ∷ row-line ∷ size-line ∷ repeat-line ∷ party-line ∷ []) × Cause step-line vs)
-  exactly-8 = exactly (short-line ∷ count-line ∷ offset-line ∷ row-line ∷ size-line ∷ repeat-line ∷ party-line ∷ []) step-line (sum-line ∷ []) reading-lines (omega arith)
+  exactly-8 = exactly 7 (omega arith)
 
   pub exactly-9 : (vs : List ℕ) → (verdict b ≡ said 9 vs) ↔ (AllKeep (short-line ∷ count-line ∷ offset-line ∷ row-line ∷ size-line ∷ repeat-line ∷ party-line ∷ step-line ∷ []) × Cause sum-line vs)
-  exactly-9 = exactly (short-line ∷ count-line ∷ offset-line ∷ row-line ∷ size-line ∷ repeat-line ∷ party-line ∷ step-line ∷ []) sum-line [] reading-lines (omega arith)
+  exactly-9 = exactly 8 (omega arith)
 
 -- ---- a valid book's rows form a table
-shape-of : (k n : ℕ) → k ≤ 4 → fewest k ≤ n → n ≤ largest k → Shape k n
-unfolding fewest largest
-shape-of zero n h l m = omega arith
-shape-of (suc zero) n h l m = tt
-shape-of (suc (suc zero)) n h l m = l
-shape-of (suc (suc (suc k))) n h l m = omega arith
-
-tagged-of : (k g : ℕ) → g ≤ largestTag k → Tagged k g
-unfolding largestTag
-tagged-of zero g h = omega arith
-tagged-of (suc zero) g h = tt
-tagged-of (suc (suc k)) g h = omega arith
-
 module _ (b : List ℕ) (v : Valid b) where
   pub row-before : (r : ℕ) → r < rows b → All (λ p. p < r) (parts b r)
   row-before r l = all-run (λ p. p < r) b (begins b 3 + rowFirst b r) (rowCount b r) (v .rowsKeep r l .listed .each)
@@ -152,8 +138,8 @@ module _ (b : List ℕ) (v : Valid b) where
   formed =
       record {
         kinds = λ r l. v .rowsKeep r l .kinded;
-        tags = λ r l. tagged-of (kind b r) (tag b r) (v .rowsKeep r l .tagged);
-        shapes = λ r l. (let o = v .rowsKeep r l in rw (run-length b (begins b 3 + rowFirst b r) (rowCount b r)) (shape-of (kind b r) (rowCount b r) (o .kinded) (o .listed .low) (o .listed .high)));
+        tags = λ r l. v .rowsKeep r l .tagged;
+        shapes = λ r l. (let o = v .rowsKeep r l in rw (run-length b (begins b 3 + rowFirst b r) (rowCount b r)) (record { low = o .listed .low; high = o .listed .high }));
         before = row-before;
         single = apart-rows;
       }

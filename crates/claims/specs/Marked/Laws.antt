@@ -13,7 +13,8 @@ use Rattle.words.specs.Choice.{pick}
 use Rattle.words.specs.Run.{run, values}
 use Rattle.words.specs.Run.Laws.{values-last, run-append}
 use Rattle.terms.specs.Term.{Term, gathered, occurs, occursIn}
-use Rattle.terms.specs.Table.{form, term, Shape}
+use Rattle.terms.specs.Kind.{Shape}
+use Rattle.terms.specs.Table.{form, term}
 use Rattle.book.specs.Layout.{table, begins, rows, kind, tag, pooled, parts, listAt}
 use Rattle.book.specs.Valid.{Valid}
 use Rattle.book.specs.Valid.Laws.{row-form, row-shape, row-atom}

@@ -11,7 +11,8 @@ use Rattle.words.specs.Choice.{pick}
 use Rattle.words.specs.Run.Laws.{run-length}
 use Rattle.terms.specs.Term.{Term, gathered}
 use Rattle.terms.specs.Image.{Image, words, wordsOf, countImages}
-use Rattle.terms.specs.Table.{form, term, Shape}
+use Rattle.terms.specs.Kind.{Shape}
+use Rattle.terms.specs.Table.{form, term}
 use Rattle.book.specs.Layout.{table, rows, begins, kind, tag, rowFirst, rowCount, parts, listAt}
 use Rattle.book.specs.Valid.{Valid}
 use Rattle.book.specs.Valid.Laws.{row-form, row-shape}

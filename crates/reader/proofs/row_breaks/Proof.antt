@@ -10,11 +10,9 @@ row-breaks-spec =
     (tie.spec
     (λ c κs. search needs)  -- row-kind-requires
     (λ c. search row-kind-breaks)  -- returns
-    (λ c κs. search needs)  -- largest-tag-requires
+    (λ c κs. search needs)  -- of-requires
     (λ c κs. search needs)  -- row-tag-requires
     (λ c. search row-tag-breaks)  -- returns-2
-    (λ c κs. search needs)  -- fewest-requires
-    (λ c κs. search needs)  -- largest-requires
     (λ c κs. search needs)  -- row-count-requires
     (λ c κs. search needs)  -- row-first-requires
     (λ c κs. search needs)  -- list-breaks-requires

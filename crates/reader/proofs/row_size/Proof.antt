@@ -5,6 +5,7 @@ use mathlib.Core.Path.{_≡_}
 use lib.ListN.{getD}
 use native.Mathlib.Omega.{arith}
 use borrow.Author.Needs.{needs}
+use Rattle.book.specs.Kinds.Laws.{size-small}
 use Rattle.reader.proofs.Rows.{Parts, parts-of}
 use Rattle.reader.proofs.Sizes.{sizeSoFar, size-begins, size-step, size-ends, size-known}
 use Rattle.reader.proofs.row_size.Statement.{statement}
@@ -48,8 +49,11 @@ module _ (c : tie.After-wide Inv-loop μ-loop) where
 -- before the first part, what the kind adds
 loop-holds : tie.Need-loop-holds Inv-loop μ-loop
 loop-holds c =
-    let kind : tie.After-row-kind Inv-loop μ-loop = search in
-    (search needs, size-begins _ _ _ _ _ _ (kind .row-kind .ensures) (c .own-size .ensures .0), omega arith)
+    let kind : tie.After-row-kind Inv-loop μ-loop = search in (
+      search needs,
+      size-begins _ _ _ _ _ _ (kind .row-kind .ensures) (c .of .ensures .size),
+      omega (arith, size-small (c .of .ensures)),
+    )
 
 -- one part more
 loop-again : tie.Need-loop-again Inv-loop μ-loop
@@ -73,7 +77,7 @@ row-size-spec =
     (λ c κs. search needs)  -- row-first-requires
     (λ c κs. search needs)  -- row-count-requires
     (λ c κs. search needs)  -- row-kind-requires
-    (λ c κs. search needs)  -- own-size-requires
+    (λ c κs. search needs)  -- of-requires
     loop-holds
     (λ c κs. (search needs, omega (arith, parts (search))))  -- pooled-requires
     (λ c κs. search needs)  -- wide-requires

@@ -15,7 +15,8 @@ use Rattle.words.specs.First.Laws.{clash, first-at, any-at, any-none}
 use Rattle.words.specs.Run.Laws.{run-length}
 use Rattle.terms.specs.Term.{Term, gathered}
 use Rattle.terms.specs.Image.{words}
-use Rattle.terms.specs.Table.{form, term, terms, Shape}
+use Rattle.terms.specs.Kind.{Shape}
+use Rattle.terms.specs.Table.{form, term, terms}
 use Rattle.book.specs.Layout.{table, rows, begins, kind, parts, listAt}
 use Rattle.book.specs.Valid.{Valid}
 use Rattle.book.specs.Valid.Laws.{row-form, row-shape, row-atom}

@@ -15,7 +15,8 @@ use Rattle.words.specs.Sum.Laws.{sum-none, sum-same}
 use Rattle.words.specs.Run.Laws.{map-same, all-imp}
 use Rattle.terms.specs.Term.{Term, Terms, same, gathered, listed, size, sizes, Occurs, OccursIn}
 use Rattle.terms.specs.Term.Laws.{listed-gathered}
-use Rattle.terms.specs.Table.{Table, level, unfold-by, form, term, terms, ownSize, total, rowSize, number, Shape, Tagged, Formed, IsRow, AllRows, PartsRows}
+use Rattle.terms.specs.Kind.{ofKind, Shape, Tagged}
+use Rattle.terms.specs.Table.{Table, level, unfold-by, form, term, terms, total, rowSize, number, Formed, IsRow, AllRows, PartsRows}
 
 -- ---- unfold-by
 module _ {X : Type 0} (f : ℕ → List X → X) (tab : Table) (n : ℕ) (before : (r : ℕ) → r < n → All (λ p. p < r) (tab r .parts)) where
@@ -34,9 +35,9 @@ module _ {X : Type 0} (f : ℕ → List X → X) (tab : Table) (n : ℕ) (before
       ap (f r) (map-same (λ p. p < r) (level f tab r) (unfold-by f tab) (λ p q. level-enough r (suc p) p (omega arith) q (omega arith)) (tab r .parts) (before r l))
 
 -- a row's size from its parts' sizes
-pub size-row : (tab : Table) (n : ℕ) → ((r : ℕ) → r < n → All (λ p. p < r) (tab r .parts)) → (r : ℕ) → r < n → rowSize tab r ≡ ownSize (tab r .kind) + total (map (rowSize tab) (tab r .parts))
+pub size-row : (tab : Table) (n : ℕ) → ((r : ℕ) → r < n → All (λ p. p < r) (tab r .parts)) → (r : ℕ) → r < n → rowSize tab r ≡ ofKind (tab r .kind) .size + total (map (rowSize tab) (tab r .parts))
 unfolding rowSize
-size-row tab n before r l = unfold-row (λ q zs. ownSize (tab q .kind) + total zs) tab n before r l
+size-row tab n before r l = unfold-row (λ q zs. ofKind (tab q .kind) .size + total zs) tab n before r l
 
 -- ---- total: over a run it is a sum
 sum-front : (f : ℕ → ℕ) (n : ℕ) → sum f (suc n) ≡ f 0 + sum (λ j. f (suc j)) n
@@ -95,14 +96,14 @@ form-kind r (suc (suc (suc (suc (suc k))))) g ts h s = absurd (omega arith)
 
 form-tag : (r k g : ℕ) (ts : List Term) → k ≤ 4 → Tagged k g → Shape k (length ts) → tagOf (form r k g (gathered ts)) ≡ g
 unfolding form tagOf gathered
-form-tag r zero g ts h e s = sym e
+form-tag r zero g ts h e s = omega arith
 form-tag r (suc zero) g ts h e s = refl
 form-tag r (suc (suc zero)) g [] h e s = absurd (omega arith)
-form-tag r (suc (suc zero)) g (t ∷ ts) h e s = sym e
+form-tag r (suc (suc zero)) g (t ∷ ts) h e s = omega arith
 form-tag r (suc (suc (suc zero))) g [] h e s = absurd (omega arith)
-form-tag r (suc (suc (suc zero))) g (t ∷ ts) h e s = sym e
+form-tag r (suc (suc (suc zero))) g (t ∷ ts) h e s = omega arith
 form-tag r (suc (suc (suc (suc zero)))) g [] h e s = absurd (omega arith)
-form-tag r (suc (suc (suc (suc zero)))) g (t ∷ ts) h e s = sym e
+form-tag r (suc (suc (suc (suc zero)))) g (t ∷ ts) h e s = omega arith
 form-tag r (suc (suc (suc (suc (suc k))))) g ts h e s = absurd (omega arith)
 
 form-parts : (r k g : ℕ) (ts : List Term) → k ≤ 4 → Shape k (length ts) → partsOf (form r k g (gathered ts)) ≡ ts
@@ -125,8 +126,8 @@ unfolding size gathered total
 sizes-total [] = refl
 sizes-total (t ∷ ts) = ap (λ n. size t + n) (sizes-total ts)
 
-form-size : (r k g : ℕ) (ts : List Term) → k ≤ 4 → Shape k (length ts) → size (form r k g (gathered ts)) ≡ ownSize k + total (map size ts)
-unfolding form size gathered ownSize total
+form-size : (r k g : ℕ) (ts : List Term) → k ≤ 4 → Shape k (length ts) → size (form r k g (gathered ts)) ≡ ofKind k .size + total (map size ts)
+unfolding form size gathered total
 form-size r zero g [] h s = refl
 form-size r zero g (t ∷ ts) h s = absurd (omega arith)
 form-size r (suc zero) g ts h s = ap (λ n. 3 + n) (sizes-total ts)
@@ -200,7 +201,7 @@ module _ (n : ℕ) (tab : Table) (ok : Formed n tab) where
   size-below zero r b l = absurd (omega arith)
   size-below (suc m) r b l =
       let ih : (p : ℕ) → p < r → rowSize tab p ≡ size (term tab p) = λ p q. size-below m p (omega arith) (omega arith) in
-      size-row tab n (ok .before) r l ∙ ap (λ zs. ownSize (tab r .kind) + total zs) (map-same (λ p. p < r) (rowSize tab) (λ p. size (term tab p)) ih (tab r .parts) (ok .before r l) ∙ sym (map-map size (term tab) (tab r .parts)))
+      size-row tab n (ok .before) r l ∙ ap (λ zs. ofKind (tab r .kind) .size + total zs) (map-same (λ p. p < r) (rowSize tab) (λ p. size (term tab p)) ih (tab r .parts) (ok .before r l) ∙ sym (map-map size (term tab) (tab r .parts)))
       ∙ sym (ap size (term-row r l) ∙ form-size r _ _ _ (ok .kinds r l) (shape-row r l))
 
   -- a row's size is its term's

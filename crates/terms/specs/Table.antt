@@ -74,7 +74,8 @@ pub record Formed (n : ℕ) (tab : Table) : Type 0 where
   pub shapes : (r : ℕ) → r < n → Shape (tab r .kind) (length (tab r .parts))
   pub before : (r : ℕ) → r < n → All (λ p. p < r) (tab r .parts)
   -- "Two rows that aren't atoms never agree in kind, tag and parts"
-  pub single : (r s : ℕ) → r < n → s < n → (tab r .kind ≡ 0 → ⊥) → tab r .kind ≡ tab s .kind → tab r .tag ≡ tab s .tag → tab r .parts ≡ tab s .parts → r ≡ s
+  pub single : (r s : ℕ) → r < n → s < n → (tab r .kind ≡ 0 → ⊥) → tab r .kind ≡ tab s .kind → tab r .tag ≡ tab s .tag
+      → tab r .parts ≡ tab s .parts → r ≡ s
 
 -- ---- terms that are rows
 -- t is the term of one of the first n rows

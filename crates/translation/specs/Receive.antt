@@ -75,7 +75,8 @@ opened k ts p δ n = record { dictionary = δ; given = listed ts; events = Event
 unfoldable mutual
   pub receive : Term → ℕ → Dictionary → ℕ → Did
   receive (Term.atom r) p δ n = byRule (rule δ (Term.atom r)) (compared (Term.atom r) p δ) (nothing δ) (kept (Term.atom r) p δ)
-  receive (Term.operation g ts) p δ n = byRule (rule δ (Term.operation g ts)) (compared (Term.operation g ts) p δ) (nothing δ) (kept (Term.operation g ts) p δ)
+  receive (Term.operation g ts) p δ n =
+      byRule (rule δ (Term.operation g ts)) (compared (Term.operation g ts) p δ) (nothing δ) (kept (Term.operation g ts) p δ)
   receive (Term.cipher k ts) p δ n =
       byRule (rule δ (Term.cipher k ts)) (compared (Term.cipher k ts) p δ)
       (followed (opened k ts p δ n) (receiveAll ts n δ (n + count ts))) (kept (Term.cipher k ts) p δ)

@@ -29,7 +29,8 @@ module _ (term : ℕ → Term) where
     readImage (suc f) (suc (suc zero) ∷ g ∷ []) = none
     readImage (suc f) (suc (suc zero) ∷ g ∷ n ∷ w) = then (readImages f n w) (λ p. some (Image.operation g (p .0), p .1))
     readImage (suc f) (suc (suc (suc zero)) ∷ []) = none
-    readImage (suc f) (suc (suc (suc zero)) ∷ n ∷ w) = then (readImage f w) (λ k. then (readImages f n (k .1)) (λ p. some (Image.cipher (k .0) (p .0), p .1)))
+    readImage (suc f) (suc (suc (suc zero)) ∷ n ∷ w) =
+        then (readImage f w) (λ k. then (readImages f n (k .1)) (λ p. some (Image.cipher (k .0) (p .0), p .1)))
     readImage (suc f) (suc (suc (suc (suc zero))) ∷ w) = then (readImage f w) (λ p. some (Image.public (p .0), p .1))
     readImage (suc f) (suc (suc (suc (suc (suc zero)))) ∷ w) = then (readImage f w) (λ p. some (Image.private (p .0), p .1))
     readImage (suc f) (suc (suc (suc (suc (suc (suc c))))) ∷ w) = none

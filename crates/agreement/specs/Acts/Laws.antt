@@ -90,5 +90,6 @@ module _ (N : Narration) where
             (λ d. pick-ind (List·Memᴰ (Act.sends s (stepOf N s .messages))) (eqb (a .receiver) p) _ _ (λ f. List·Memᴰ·tail (r (omega arith)))
             (λ f. r (omega arith)))
 
-    pub own-sends-in : (s : ℕ) → s < length (N .says) → stepOf N s .sender ≡ p → List·Memᴰ (Act.sends s (stepOf N s .messages)) (actsOf p 0 (N .says))
+    pub own-sends-in : (s : ℕ) → s < length (N .says) → stepOf N s .sender ≡ p
+        → List·Memᴰ (Act.sends s (stepOf N s .messages)) (actsOf p 0 (N .says))
     own-sends-in s m c = own-sends-from [] (N .says) s refl (omega arith) m c

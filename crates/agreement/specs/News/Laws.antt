@@ -117,7 +117,8 @@ module _ (N : Narration) (p : ℕ) where
   here-then l MadeHere.idles r = MadeFrom.idles r
 
   made-from : (before later : List Step) → N .says ≡ before ++ later
-      → MadeFrom N p (length before) (news (walk (actsOf p (length before) later) (doneBefore before .dictionary) (length (doneBefore before .given)) .events))
+      → MadeFrom N p (length before)
+      (news (walk (actsOf p (length before) later) (doneBefore before .dictionary) (length (doneBefore before .given)) .events))
   unfolding actsOf walk news
   made-from before [] e = MadeFrom.nothing
   made-from before (a ∷ later) e =

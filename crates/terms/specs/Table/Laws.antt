@@ -26,16 +26,19 @@ module _ {X : Type 0} (f : ℕ → List X → X) (tab : Table) (n : ℕ) (before
   level-enough zero j r l h k = absurd (omega arith)
   level-enough (suc i) zero r l h k = absurd (omega arith)
   level-enough (suc i) (suc j) r l h k =
-      ap (f r) (map-same (λ p. p < r) (level f tab i) (level f tab j) (λ p q. level-enough i j p (omega arith) (omega arith) (omega arith)) (tab r .parts) (before r l))
+      ap (f r) (map-same (λ p. p < r) (level f tab i) (level f tab j) (λ p q. level-enough i j p (omega arith) (omega arith) (omega arith))
+      (tab r .parts) (before r l))
 
   -- a row's value is made of its parts' values
   pub unfold-row : (r : ℕ) → r < n → unfold-by f tab r ≡ f r (map (unfold-by f tab) (tab r .parts))
   unfolding unfold-by level
   unfold-row r l =
-      ap (f r) (map-same (λ p. p < r) (level f tab r) (unfold-by f tab) (λ p q. level-enough r (suc p) p (omega arith) q (omega arith)) (tab r .parts) (before r l))
+      ap (f r) (map-same (λ p. p < r) (level f tab r) (unfold-by f tab) (λ p q. level-enough r (suc p) p (omega arith) q (omega arith)) (tab r .parts)
+      (before r l))
 
 -- a row's size from its parts' sizes
-pub size-row : (tab : Table) (n : ℕ) → ((r : ℕ) → r < n → All (λ p. p < r) (tab r .parts)) → (r : ℕ) → r < n → rowSize tab r ≡ ofKind (tab r .kind) .size + total (map (rowSize tab) (tab r .parts))
+pub size-row : (tab : Table) (n : ℕ) → ((r : ℕ) → r < n → All (λ p. p < r) (tab r .parts)) → (r : ℕ) → r < n → rowSize tab r
+    ≡ ofKind (tab r .kind) .size + total (map (rowSize tab) (tab r .parts))
 unfolding rowSize
 size-row tab n before r l = unfold-row (λ q zs. ofKind (tab q .kind) .size + total zs) tab n before r l
 
@@ -50,7 +53,8 @@ unfolding total run
 total-run f l a zero = sym (sum-none (λ j. f (getD l (a + j) 0)))
 total-run f l a (suc n) =
     let z : a + 0 ≡ a = omega arith in
-    ap₂ _+_ (ap (λ k. f (getD l k 0)) (sym z)) (total-run f l (suc a) n ∙ sum-same _ _ n (λ j h. let y : suc a + j ≡ a + suc j = omega arith in ap (λ k. f (getD l k 0)) y))
+    ap₂ _+_ (ap (λ k. f (getD l k 0)) (sym z)) (total-run f l (suc a) n
+    ∙ sum-same _ _ n (λ j h. let y : suc a + j ≡ a + suc j = omega arith in ap (λ k. f (getD l k 0)) y))
     ∙ sym (sum-front (λ j. f (getD l (a + j) 0)) n)
 
 -- ---- form: its kind, tag and parts read back
@@ -189,7 +193,8 @@ module _ (n : ℕ) (tab : Table) (ok : Formed n tab) where
       go (yes z) f = sym (ap atomOf (atom-row r l z)) ∙ ap atomOf e ∙ ap atomOf (atom-row s k (sym kinds ∙ z))
       go (no z) f =
           ok .single r s l k z kinds (sym (tag-row r l) ∙ ap tagOf e ∙ tag-row s k)
-          (map-injective (term tab) r s _ _ (ok .before r l) (ok .before s k) (λ x y p q. f x y (omega arith) (omega arith) (omega arith)) (sym (parts-row r l) ∙ ap partsOf e ∙ parts-row s k))
+          (map-injective (term tab) r s _ _ (ok .before r l) (ok .before s k) (λ x y p q. f x y (omega arith) (omega arith) (omega arith))
+          (sym (parts-row r l) ∙ ap partsOf e ∙ parts-row s k))
 
   -- "equal terms have equal row numbers"
   pub term-injective : (r s : ℕ) → r < n → s < n → term tab r ≡ term tab s → r ≡ s
@@ -201,7 +206,8 @@ module _ (n : ℕ) (tab : Table) (ok : Formed n tab) where
   size-below zero r b l = absurd (omega arith)
   size-below (suc m) r b l =
       let ih : (p : ℕ) → p < r → rowSize tab p ≡ size (term tab p) = λ p q. size-below m p (omega arith) (omega arith) in
-      size-row tab n (ok .before) r l ∙ ap (λ zs. ofKind (tab r .kind) .size + total zs) (map-same (λ p. p < r) (rowSize tab) (λ p. size (term tab p)) ih (tab r .parts) (ok .before r l) ∙ sym (map-map size (term tab) (tab r .parts)))
+      size-row tab n (ok .before) r l ∙ ap (λ zs. ofKind (tab r .kind) .size + total zs)
+      (map-same (λ p. p < r) (rowSize tab) (λ p. size (term tab p)) ih (tab r .parts) (ok .before r l) ∙ sym (map-map size (term tab) (tab r .parts)))
       ∙ sym (ap size (term-row r l) ∙ form-size r _ _ _ (ok .kinds r l) (shape-row r l))
 
   -- a row's size is its term's
@@ -246,7 +252,8 @@ module _ (n : ℕ) (tab : Table) (ok : Formed n tab) where
   parts-rows t i =
       let l = i .within in
       subst (PartsRows tab n) (sym (term-row (i .row) l) ∙ i .stands)
-      (form-rows (i .row) _ _ _ (rows-listed (tab (i .row) .parts) (all-imp (λ p. p < i .row) (λ p. p < n) (λ p q. omega arith) (tab (i .row) .parts) (ok .before (i .row) l))))
+      (form-rows (i .row) _ _ _ (rows-listed (tab (i .row) .parts)
+      (all-imp (λ p. p < i .row) (λ p. p < n) (λ p q. omega arith) (tab (i .row) .parts) (ok .before (i .row) l))))
 
   -- and so are the atoms that occur in it
   mutual

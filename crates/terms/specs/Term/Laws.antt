@@ -58,13 +58,15 @@ mutual
   pub occurs-path : (q : ℕ) (t : Term) → occurs q t ≡ true → Occurs q t
   occurs-path q (Term.atom r) e = subst (λ z. Occurs q (Term.atom z)) (sym (eqb-true r q e)) Occurs.atom
   occurs-path q (Term.operation g ts) e = Occurs.operation (occursIn-path q ts e)
-  occurs-path q (Term.cipher k ts) e = or-cases (occurs q k) (occursIn q ts) e (λ x. Occurs.key (occurs-path q k x)) (λ x. Occurs.contents (occursIn-path q ts x))
+  occurs-path q (Term.cipher k ts) e =
+      or-cases (occurs q k) (occursIn q ts) e (λ x. Occurs.key (occurs-path q k x)) (λ x. Occurs.contents (occursIn-path q ts x))
   occurs-path q (Term.public t) e = Occurs.public (occurs-path q t e)
   occurs-path q (Term.private t) e = Occurs.private (occurs-path q t e)
 
   pub occursIn-path : (q : ℕ) (ts : Terms) → occursIn q ts ≡ true → OccursIn q ts
   occursIn-path q Terms.nil e = absurd (true≢false (sym e))
-  occursIn-path q (Terms.cons t ts) e = or-cases (occurs q t) (occursIn q ts) e (λ x. OccursIn.here (occurs-path q t x)) (λ x. OccursIn.later (occursIn-path q ts x))
+  occursIn-path q (Terms.cons t ts) e =
+      or-cases (occurs q t) (occursIn q ts) e (λ x. OccursIn.here (occurs-path q t x)) (λ x. OccursIn.later (occursIn-path q ts x))
 
 mutual
   unfolding occurs

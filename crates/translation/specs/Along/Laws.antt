@@ -24,7 +24,8 @@ gains-one : (r : ℕ) (δ : Dictionary) → isHeld (δ (Term.atom r)) ≡ false 
 gains-one r δ e =
     record {
       others = λ u p. enter-ind (λ x. x ≡ δ u) δ (Term.atom r) Held.itself u (λ q. absurd (subst NoAtom (sym q) p)) (λ q. refl);
-      atoms = λ s h. enter-ind (λ x. x ≡ δ (Term.atom s)) δ (Term.atom r) Held.itself (Term.atom s) (λ q. absurd (true≢false (sym h ∙ ap (λ t. isHeld (δ t)) (sym q) ∙ e))) (λ q. refl);
+      atoms = λ s h. enter-ind (λ x. x ≡ δ (Term.atom s)) δ (Term.atom r) Held.itself (Term.atom s)
+          (λ q. absurd (true≢false (sym h ∙ ap (λ t. isHeld (δ t)) (sym q) ∙ e))) (λ q. refl);
     }
 
 or-gains : (t : Term) (δ : Dictionary) (b : Built) → (δ t ≡ Held.free → Gains δ (b .dictionary)) → Gains δ ((builtOr (δ t) t δ b) .dictionary)
@@ -61,7 +62,8 @@ image-or (Held.placeholder x) t i j f = refl
 
 module _ (δ ε : Dictionary) (g : Gains δ ε) where
   -- a term that is no atom is held as before
-  as-before : (t : Term) (x y : Bool) → NoAtom t → (x ≡ true → y ≡ true) → pick (isHeld (δ t)) true x ≡ true → pick (isHeld (ε t)) true y ≡ true
+  as-before : (t : Term) (x y : Bool) → NoAtom t → (x ≡ true → y ≡ true) → pick (isHeld (δ t)) true x ≡ true
+      → pick (isHeld (ε t)) true y ≡ true
   as-before t x y p f h = ap (λ z. pick (isHeld z) true y) (g .others t p) ∙ or-more (isHeld (δ t)) x y f h
 
   as-held : (t : Term) (i j : Image) → NoAtom t → (isHeld (δ t) ≡ false → i ≡ j) → imageOr (ε t) t i ≡ imageOr (δ t) t j
@@ -74,29 +76,35 @@ module _ (δ ε : Dictionary) (g : Gains δ ε) where
     buildable-gains (Term.atom r) h = ap isHeld (g .atoms r h) ∙ h
     buildable-gains (Term.operation f ts) h = as-before (Term.operation f ts) _ _ tt (λ x. allBuildable-gains ts x) h
     buildable-gains (Term.cipher k ts) h =
-        as-before (Term.cipher k ts) _ _ tt (λ x. let z = and-both (buildable δ k) (allBuildable δ ts) x in both-and (buildable ε k) (allBuildable ε ts) (buildable-gains k (z .0)) (allBuildable-gains ts (z .1))) h
+        as-before (Term.cipher k ts) _ _ tt (λ x. let z = and-both (buildable δ k) (allBuildable δ ts) x in
+        both-and (buildable ε k) (allBuildable ε ts) (buildable-gains k (z .0)) (allBuildable-gains ts (z .1))) h
     buildable-gains (Term.public t) h = as-before (Term.public t) _ _ tt (λ x. buildable-gains t x) h
     buildable-gains (Term.private t) h = as-before (Term.private t) _ _ tt (λ x. buildable-gains t x) h
 
     allBuildable-gains : (ts : Terms) → allBuildable δ ts ≡ true → allBuildable ε ts ≡ true
     allBuildable-gains Terms.nil h = refl
-    allBuildable-gains (Terms.cons t ts) h = let z = and-both (buildable δ t) (allBuildable δ ts) h in both-and (buildable ε t) (allBuildable ε ts) (buildable-gains t (z .0)) (allBuildable-gains ts (z .1))
+    allBuildable-gains (Terms.cons t ts) h = let z =
+        and-both (buildable δ t) (allBuildable δ ts) h in both-and (buildable ε t) (allBuildable ε ts) (buildable-gains t (z .0))
+        (allBuildable-gains ts (z .1))
 
   mutual
     unfolding buildable image
 
     pub image-gains : (t : Term) → buildable δ t ≡ true → image ε t ≡ image δ t
     image-gains (Term.atom r) h = ap (λ z. imageOr z (Term.atom r) (Image.itself (Term.atom r))) (g .atoms r h)
-    image-gains (Term.operation f ts) h = as-held (Term.operation f ts) _ _ tt (λ e. ap (Image.operation f) (images-gains ts (or-rest (isHeld (δ (Term.operation f ts))) _ e h)))
+    image-gains (Term.operation f ts) h =
+        as-held (Term.operation f ts) _ _ tt (λ e. ap (Image.operation f) (images-gains ts (or-rest (isHeld (δ (Term.operation f ts))) _ e h)))
     image-gains (Term.cipher k ts) h =
         as-held (Term.cipher k ts) _ _ tt
-        (λ e. let z = and-both (buildable δ k) (allBuildable δ ts) (or-rest (isHeld (δ (Term.cipher k ts))) _ e h) in ap₂ Image.cipher (image-gains k (z .0)) (images-gains ts (z .1)))
+        (λ e. let z = and-both (buildable δ k) (allBuildable δ ts) (or-rest (isHeld (δ (Term.cipher k ts))) _ e h) in
+        ap₂ Image.cipher (image-gains k (z .0)) (images-gains ts (z .1)))
     image-gains (Term.public t) h = as-held (Term.public t) _ _ tt (λ e. ap Image.public (image-gains t (or-rest (isHeld (δ (Term.public t))) _ e h)))
     image-gains (Term.private t) h = as-held (Term.private t) _ _ tt (λ e. ap Image.private (image-gains t (or-rest (isHeld (δ (Term.private t))) _ e h)))
 
     pub images-gains : (ts : Terms) → allBuildable δ ts ≡ true → images ε ts ≡ images δ ts
     images-gains Terms.nil h = refl
-    images-gains (Terms.cons t ts) h = let z = and-both (buildable δ t) (allBuildable δ ts) h in ap₂ Images.cons (image-gains t (z .0)) (images-gains ts (z .1))
+    images-gains (Terms.cons t ts) h = let z =
+        and-both (buildable δ t) (allBuildable δ ts) h in ap₂ Images.cons (image-gains t (z .0)) (images-gains ts (z .1))
 
 -- ---- what was built is buildable
 abbrev Can : Term → Built → Type 0
@@ -106,19 +114,25 @@ mutual
   unfolding build buildable
 
   build-buildable : (t : Term) (δ : Dictionary) → Can t (build t δ)
-  build-buildable (Term.atom r) δ = built-or (Can (Term.atom r)) (δ (Term.atom r)) (Term.atom r) δ _ (λ i h j. h) (λ e. ap isHeld (enter-same δ (Term.atom r) Held.itself))
+  build-buildable (Term.atom r) δ =
+      built-or (Can (Term.atom r)) (δ (Term.atom r)) (Term.atom r) δ _ (λ i h j. h) (λ e. ap isHeld (enter-same δ (Term.atom r) Held.itself))
   build-buildable (Term.operation g ts) δ =
-      built-or (Can (Term.operation g ts)) (δ (Term.operation g ts)) (Term.operation g ts) δ _ (λ i h j. pick-true _ _ _ h) (λ e. or-second _ _ (buildAll-buildable ts δ))
+      built-or (Can (Term.operation g ts)) (δ (Term.operation g ts)) (Term.operation g ts) δ _ (λ i h j. pick-true _ _ _ h)
+      (λ e. or-second _ _ (buildAll-buildable ts δ))
   build-buildable (Term.cipher k ts) δ =
       built-or (Can (Term.cipher k ts)) (δ (Term.cipher k ts)) (Term.cipher k ts) δ _ (λ i h j. pick-true _ _ _ h)
-      (λ e. or-second _ _ (both-and _ _ (buildable-gains _ _ (buildAll-gains ts ((build k δ) .dictionary)) k (build-buildable k δ)) (buildAll-buildable ts ((build k δ) .dictionary))))
-  build-buildable (Term.public t) δ = built-or (Can (Term.public t)) (δ (Term.public t)) (Term.public t) δ _ (λ i h j. pick-true _ _ _ h) (λ e. or-second _ _ (build-buildable t δ))
-  build-buildable (Term.private t) δ = built-or (Can (Term.private t)) (δ (Term.private t)) (Term.private t) δ _ (λ i h j. pick-true _ _ _ h) (λ e. or-second _ _ (build-buildable t δ))
+      (λ e. or-second _ _ (both-and _ _ (buildable-gains _ _ (buildAll-gains ts ((build k δ) .dictionary)) k (build-buildable k δ))
+      (buildAll-buildable ts ((build k δ) .dictionary))))
+  build-buildable (Term.public t) δ =
+      built-or (Can (Term.public t)) (δ (Term.public t)) (Term.public t) δ _ (λ i h j. pick-true _ _ _ h) (λ e. or-second _ _ (build-buildable t δ))
+  build-buildable (Term.private t) δ =
+      built-or (Can (Term.private t)) (δ (Term.private t)) (Term.private t) δ _ (λ i h j. pick-true _ _ _ h) (λ e. or-second _ _ (build-buildable t δ))
 
   pub buildAll-buildable : (ts : Terms) (δ : Dictionary) → allBuildable ((buildAll ts δ) .dictionary) ts ≡ true
   buildAll-buildable Terms.nil δ = refl
   buildAll-buildable (Terms.cons t ts) δ =
-      both-and _ _ (buildable-gains _ _ (buildAll-gains ts ((build t δ) .dictionary)) t (build-buildable t δ)) (buildAll-buildable ts ((build t δ) .dictionary))
+      both-and _ _ (buildable-gains _ _ (buildAll-gains ts ((build t δ) .dictionary)) t (build-buildable t δ))
+      (buildAll-buildable ts ((build t δ) .dictionary))
 
 -- ---- the image on the way is the image afterwards
 free-image : (x : Held) (t : Term) (i j : Image) → x ≡ Held.free → j ≡ i → j ≡ imageOr x t i

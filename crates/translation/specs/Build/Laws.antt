@@ -29,9 +29,18 @@ pub record Building (δ ε : Dictionary) (made : List ℕ) (In : ℕ → Type 0)
 
 making-none : (δ : Dictionary) (In : ℕ → Type 0) → Building δ δ [] In
 making-none δ In =
-    record { grows = λ u h. h; fresh = λ r m h. List·Memᴰ·not-nil m; gained = λ r m. absurd (List·Memᴰ·not-nil m); once = tt; within = λ r m. absurd (List·Memᴰ·not-nil m); back = λ u h. inl h }
+    record {
+      grows = λ u h. h;
+      fresh = λ r m h. List·Memᴰ·not-nil m;
+      gained = λ r m. absurd (List·Memᴰ·not-nil m);
+      once = tt;
+      within =
+          λ r m. absurd (List·Memᴰ·not-nil m);
+      back = λ u h. inl h;
+    }
 
-making-in : {δ ε : Dictionary} {made : List ℕ} {In Out : ℕ → Type 0} → ((r : ℕ) → In r → Out r) → Building δ ε made In → Building δ ε made Out
+making-in : {δ ε : Dictionary} {made : List ℕ} {In Out : ℕ → Type 0} → ((r : ℕ) → In r → Out r) → Building δ ε made In
+    → Building δ ε made Out
 making-in f m = record { grows = m .grows; fresh = m .fresh; gained = m .gained; once = m .once; within = λ r h. f r (m .within r h); back = m .back }
 
 making-then : {δ ε ζ : Dictionary} {a b : List ℕ} {In : ℕ → Type 0} → Building δ ε a In → Building ε ζ b In → Building δ ζ (a ++ b) In
@@ -42,22 +51,28 @@ making-then {a = a} {b = b} p q =
       gained = λ r m. ⊎-elim (λ x. q .grows _ (p .gained r x)) (λ y. q .gained r y) (List·Memᴰ·append-cases a m);
       once = no-repeat-append a _ (p .once) (q .once) (λ r x y. q .fresh r y (p .gained r x));
       within = λ r m. ⊎-elim (p .within r) (q .within r) (List·Memᴰ·append-cases a m);
-      back = λ u h. ⊎-elim (λ x. ⊎-elim (λ y. inl y) (λ y. inr (y .0, y .1, Memᴰ·append-left b (y .2))) (p .back u x)) (λ x. inr (x .0, x .1, Memᴰ·append-right a (x .2))) (q .back u h);
+      back = λ u h. ⊎-elim (λ x. ⊎-elim (λ y. inl y) (λ y. inr (y .0, y .1, Memᴰ·append-left b (y .2))) (p .back u x))
+          (λ x. inr (x .0, x .1, Memᴰ·append-right a (x .2))) (q .back u h);
     }
 
-making-one : (r : ℕ) (δ : Dictionary) → isHeld (δ (Term.atom r)) ≡ false → Building δ (enter δ (Term.atom r) Held.itself) (r ∷ []) (λ q. Occurs q (Term.atom r))
+making-one : (r : ℕ) (δ : Dictionary) → isHeld (δ (Term.atom r)) ≡ false
+    → Building δ (enter δ (Term.atom r) Held.itself) (r ∷ []) (λ q. Occurs q (Term.atom r))
 making-one r δ e =
     record {
       grows = enter-grows δ (Term.atom r) Held.itself refl;
       fresh = λ q m h. true≢false (sym h ∙ ap (λ z. isHeld (δ (Term.atom z))) (List·Memᴰ·eq-of-singleton m) ∙ e);
-      gained = λ q m. subst (λ z. Holds (enter δ (Term.atom r) Held.itself) (Term.atom z)) (sym (List·Memᴰ·eq-of-singleton m)) (ap isHeld (enter-same δ (Term.atom r) Held.itself));
+      gained = λ q m. subst (λ z. Holds (enter δ (Term.atom r) Held.itself) (Term.atom z)) (sym (List·Memᴰ·eq-of-singleton m))
+          (ap isHeld (enter-same δ (Term.atom r) Held.itself));
       once = (λ m. List·Memᴰ·not-nil m, tt);
       within = λ q m. subst (λ z. Occurs z (Term.atom r)) (sym (List·Memᴰ·eq-of-singleton m)) Occurs.atom;
-      back = λ u. enter-ind (λ x. isHeld x ≡ true → Holds δ u ⊎ ((q : ℕ) × (u ≡ Term.atom q) × List·Memᴰ q (r ∷ []))) δ (Term.atom r) Held.itself u (λ p h. inr (r, sym p, List·Memᴰ·head refl)) (λ p h. inl h);
+      back = λ u. enter-ind (λ x. isHeld x ≡ true → Holds δ u ⊎ ((q : ℕ) × (u ≡ Term.atom q) × List·Memᴰ q (r ∷ []))) δ
+          (Term.atom r) Held.itself u (λ p h. inr (r, sym p, List·Memᴰ·head refl)) (λ p h. inl h);
     }
 
 -- a term that is held makes nothing and gives its entry; of one that is not, what is said of the rest
-pub built-or : (P : Built → Type 0) (h : Held) (t : Term) (δ : Dictionary) (b : Built) → ((i : Image) → isHeld h ≡ true → ((j : Image) → imageOr h t j ≡ i) → P (record { dictionary = δ; made = []; image = i })) → (h ≡ Held.free → P b)
+pub built-or : (P : Built → Type 0) (h : Held) (t : Term) (δ : Dictionary) (b : Built)
+    → ((i : Image) → isHeld h ≡ true → ((j : Image) → imageOr h t j ≡ i) → P (record { dictionary = δ; made = []; image = i }))
+    → (h ≡ Held.free → P b)
     → P (builtOr h t δ b)
 unfolding builtOr imageOr
 built-or P Held.free t δ b f g = g refl
@@ -78,13 +93,15 @@ mutual
   build-makes (Term.atom r) δ = or-makes (Term.atom r) δ _ (λ e. making-one r δ e)
   build-makes (Term.operation g ts) δ = or-makes (Term.operation g ts) δ _ (λ e. making-in (λ r h. Occurs.operation h) (buildAll-makes ts δ))
   build-makes (Term.cipher k ts) δ =
-      or-makes (Term.cipher k ts) δ _ (λ e. making-then (making-in (λ r h. Occurs.key h) (build-makes k δ)) (making-in (λ r h. Occurs.contents h) (buildAll-makes ts _)))
+      or-makes (Term.cipher k ts) δ _ (λ e. making-then (making-in (λ r h. Occurs.key h) (build-makes k δ))
+      (making-in (λ r h. Occurs.contents h) (buildAll-makes ts _)))
   build-makes (Term.public t) δ = or-makes (Term.public t) δ _ (λ e. making-in (λ r h. Occurs.public h) (build-makes t δ))
   build-makes (Term.private t) δ = or-makes (Term.private t) δ _ (λ e. making-in (λ r h. Occurs.private h) (build-makes t δ))
 
   pub buildAll-makes : (ts : Terms) (δ : Dictionary) → Building δ ((buildAll ts δ) .dictionary) ((buildAll ts δ) .made) (λ r. OccursIn r ts)
   buildAll-makes Terms.nil δ = making-none δ _
-  buildAll-makes (Terms.cons t ts) δ = making-then (making-in (λ r h. OccursIn.here h) (build-makes t δ)) (making-in (λ r h. OccursIn.later h) (buildAll-makes ts _))
+  buildAll-makes (Terms.cons t ts) δ =
+      making-then (making-in (λ r h. OccursIn.here h) (build-makes t δ)) (making-in (λ r h. OccursIn.later h) (buildAll-makes ts _))
 
 -- ---- only free atoms are made ⇔ there is a derivation
 module _ (free : ℕ → Type 0) where
@@ -117,7 +134,8 @@ module _ (free : ℕ → Type 0) where
     derives-free (Term.operation g ts) δ (Derives.operation h) = or-free (Term.operation g ts) δ _ (λ e. derivesAll-free ts δ h)
     derives-free (Term.cipher k ts) δ (Derives.held h) = or-free (Term.cipher k ts) δ _ (λ e. absurd (true≢false (sym h ∙ e)))
     derives-free (Term.cipher k ts) δ (Derives.cipher x h) =
-        or-free (Term.cipher k ts) δ _ (λ e. free-append ((build k δ) .made) _ (derives-free k δ x) (derivesAll-free ts ((build k δ) .dictionary) (derivesAll-from free (kept k δ) h)))
+        or-free (Term.cipher k ts) δ _ (λ e. free-append ((build k δ) .made) _ (derives-free k δ x)
+        (derivesAll-free ts ((build k δ) .dictionary) (derivesAll-from free (kept k δ) h)))
     derives-free (Term.public t) δ (Derives.held h) = or-free (Term.public t) δ _ (λ e. absurd (true≢false (sym h ∙ e)))
     derives-free (Term.public t) δ (Derives.public h) = or-free (Term.public t) δ _ (λ e. derives-free t δ h)
     derives-free (Term.private t) δ (Derives.held h) = or-free (Term.private t) δ _ (λ e. absurd (true≢false (sym h ∙ e)))
@@ -130,9 +148,11 @@ module _ (free : ℕ → Type 0) where
 
   -- what the dictionary holds afterwards was derivable before
   gave : (t : Term) (δ : Dictionary) → AllFree ((build t δ) .made) → (u : Term) → isHeld ((build t δ) .dictionary u) ≡ true → Derives free δ u
-  gave t δ a u h = ⊎-elim (λ x. Derives.held x) (λ x. subst (λ v. Derives free δ v) (sym (x .1)) (Derives.make (a (x .0) (x .2)))) (build-makes t δ .back u h)
+  gave t δ a u h = ⊎-elim (λ x. Derives.held x) (λ x. subst (λ v. Derives free δ v) (sym (x .1)) (Derives.make (a (x .0) (x .2))))
+      (build-makes t δ .back u h)
 
-  or-derives : (t : Term) (δ : Dictionary) (b : Built) → (AllFree (b .made) → Derives free δ t) → AllFree ((builtOr (δ t) t δ b) .made) → Derives free δ t
+  or-derives : (t : Term) (δ : Dictionary) (b : Built) → (AllFree (b .made) → Derives free δ t) → AllFree ((builtOr (δ t) t δ b) .made)
+      → Derives free δ t
   or-derives t δ b g = built-or (λ c. AllFree (c .made) → Derives free δ t) (δ t) t δ b (λ i h j a. Derives.held h) (λ e. g)
 
   mutual
@@ -145,7 +165,8 @@ module _ (free : ℕ → Type 0) where
         or-derives (Term.cipher k ts) δ _
         (λ a.
         let x = free-left ((build k δ) .made) _ a in
-        Derives.cipher (free-derives k δ x) (derivesAll-from free (gave k δ x) (freeAll-derives ts ((build k δ) .dictionary) (free-right ((build k δ) .made) _ a))))
+        Derives.cipher (free-derives k δ x) (derivesAll-from free (gave k δ x)
+        (freeAll-derives ts ((build k δ) .dictionary) (free-right ((build k δ) .made) _ a))))
     free-derives (Term.public t) δ = or-derives (Term.public t) δ _ (λ a. Derives.public (free-derives t δ a))
     free-derives (Term.private t) δ = or-derives (Term.private t) δ _ (λ a. Derives.private (free-derives t δ a))
 
@@ -153,7 +174,8 @@ module _ (free : ℕ → Type 0) where
     freeAll-derives Terms.nil δ a = DerivesAll.nil
     freeAll-derives (Terms.cons t ts) δ a =
         let x = free-left ((build t δ) .made) _ a in
-        DerivesAll.cons (free-derives t δ x) (derivesAll-from free (gave t δ x) (freeAll-derives ts ((build t δ) .dictionary) (free-right ((build t δ) .made) _ a)))
+        DerivesAll.cons (free-derives t δ x) (derivesAll-from free (gave t δ x)
+        (freeAll-derives ts ((build t δ) .dictionary) (free-right ((build t δ) .made) _ a)))
 
 -- ---- every atom made is in the term, and an atom's size is 2
 made-or : (h : Held) (t : Term) (δ : Dictionary) (b : Built) (z : ℕ) → 2 * length (b .made) ≤ z → 2 * length (builtOr h t δ b .made) ≤ z

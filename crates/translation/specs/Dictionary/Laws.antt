@@ -22,7 +22,8 @@ unfolding enter
 enter-other δ t h u n = choose-no (same t u) h (δ u) n
 
 -- what holds of the entry, and of what was there, holds afterwards
-pub enter-ind : (P : Held → Type 0) (δ : Dictionary) (t : Term) (h : Held) (u : Term) → (t ≡ u → P h) → ((t ≡ u → ⊥) → P (δ u)) → P (enter δ t h u)
+pub enter-ind : (P : Held → Type 0) (δ : Dictionary) (t : Term) (h : Held) (u : Term) → (t ≡ u → P h) → ((t ≡ u → ⊥) → P (δ u))
+    → P (enter δ t h u)
 unfolding enter
 enter-ind P δ t h u f g = choose-ind P (same t u) h (δ u) f g
 
@@ -52,16 +53,20 @@ module _ (δ : Dictionary) where
 
     buildable-derives : (t : Term) → buildable δ t ≡ true → Buildable δ t
     buildable-derives (Term.atom r) e = Derives.held e
-    buildable-derives (Term.operation g ts) e = or-either (isHeld (δ (Term.operation g ts))) (allBuildable δ ts) e (λ h. Derives.held h) (λ h. Derives.operation (allBuildable-derives ts h))
+    buildable-derives (Term.operation g ts) e =
+        or-either (isHeld (δ (Term.operation g ts))) (allBuildable δ ts) e (λ h. Derives.held h) (λ h. Derives.operation (allBuildable-derives ts h))
     buildable-derives (Term.cipher k ts) e =
         or-either (isHeld (δ (Term.cipher k ts))) (pick (buildable δ k) (allBuildable δ ts) false) e (λ h. Derives.held h)
         (λ h. let z = and-both (buildable δ k) (allBuildable δ ts) h in Derives.cipher (buildable-derives k (z .0)) (allBuildable-derives ts (z .1)))
-    buildable-derives (Term.public t) e = or-either (isHeld (δ (Term.public t))) (buildable δ t) e (λ h. Derives.held h) (λ h. Derives.public (buildable-derives t h))
-    buildable-derives (Term.private t) e = or-either (isHeld (δ (Term.private t))) (buildable δ t) e (λ h. Derives.held h) (λ h. Derives.private (buildable-derives t h))
+    buildable-derives (Term.public t) e =
+        or-either (isHeld (δ (Term.public t))) (buildable δ t) e (λ h. Derives.held h) (λ h. Derives.public (buildable-derives t h))
+    buildable-derives (Term.private t) e =
+        or-either (isHeld (δ (Term.private t))) (buildable δ t) e (λ h. Derives.held h) (λ h. Derives.private (buildable-derives t h))
 
     allBuildable-derives : (ts : Terms) → allBuildable δ ts ≡ true → DerivesAll nobody δ ts
     allBuildable-derives Terms.nil e = DerivesAll.nil
-    allBuildable-derives (Terms.cons t ts) e = let z = and-both (buildable δ t) (allBuildable δ ts) e in DerivesAll.cons (buildable-derives t (z .0)) (allBuildable-derives ts (z .1))
+    allBuildable-derives (Terms.cons t ts) e = let z =
+        and-both (buildable δ t) (allBuildable δ ts) e in DerivesAll.cons (buildable-derives t (z .0)) (allBuildable-derives ts (z .1))
 
   held-buildable : (t : Term) → isHeld (δ t) ≡ true → buildable δ t ≡ true
   unfolding buildable

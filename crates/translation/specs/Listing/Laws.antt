@@ -25,7 +25,8 @@ use Rattle.translation.specs.Listing.{pairWords, eventWords, programWord
 pub program-append : (row : Term → ℕ) (es fs : List Event) → programWords row (es ++ fs) ≡ programWords row es ++ programWords row fs
 unfolding programWords
 program-append row [] fs = refl
-program-append row (e ∷ es) fs = ap (λ l. eventWords row e ++ l) (program-append row es fs) ∙ sym (append-assoc (eventWords row e) (programWords row es) (programWords row fs))
+program-append row (e ∷ es) fs =
+    ap (λ l. eventWords row e ++ l) (program-append row es fs) ∙ sym (append-assoc (eventWords row e) (programWords row es) (programWords row fs))
 
 pub pairs-append : (row : Term → ℕ) (ps qs : List (Term × ℕ)) → pairWords row (ps ++ qs) ≡ pairWords row ps ++ pairWords row qs
 unfolding pairWords
@@ -47,7 +48,8 @@ module _ (b c : List ℕ) (v : Valid b) (w : Valid c) (s : SameTable b c) where
       let e = s .each r l in
       let k = s .many in
       term-row (rows b) (table b) (formed b v) r l
-      ∙ ap (λ us. form r (table b r .kind) (table b r .tag) (gathered us)) (map-same (λ p. p < r) (term (table b)) (term (table c)) ih (table b r .parts) (formed b v .before r l))
+      ∙ ap (λ us. form r (table b r .kind) (table b r .tag) (gathered us))
+      (map-same (λ p. p < r) (term (table b)) (term (table c)) ih (table b r .parts) (formed b v .before r l))
       ∙ ap (λ (x : Row). form r (x .kind) (x .tag) (gathered (map (term (table c)) (x .parts)))) e
       ∙ sym (term-row (rows c) (table c) (formed c w) r (omega arith))
 
@@ -58,10 +60,12 @@ module _ (b c : List ℕ) (v : Valid b) (w : Valid c) (s : SameTable b c) where
   pub same-numbers : (t : Term) → number (table b) (rows b) t ≡ number (table c) (rows c) t
   unfolding number
   same-numbers t =
-      first-same (λ r. choose (same (term (table b) r) t) true false) (λ r. choose (same (term (table c) r) t) true false) (rows b) (λ r l. ap (λ u. choose (same u t) true false) (same-terms r l))
+      first-same (λ r. choose (same (term (table b) r) t) true false) (λ r. choose (same (term (table c) r) t) true false) (rows b)
+      (λ r l. ap (λ u. choose (same u t) true false) (same-terms r l))
       ∙ ap (λ n. first (λ r. choose (same (term (table c) r) t) true false) n) (s .many)
 
   -- with equal knowledge and equal own parts, the words of the party's program are equal
-  pub part-own : (p : ℕ) → knownTo (narration b) p ≡ knownTo (narration c) p → actsOf p 0 (narration b .says) ≡ actsOf p 0 (narration c .says) → partWords b p ≡ partWords c p
+  pub part-own : (p : ℕ) → knownTo (narration b) p ≡ knownTo (narration c) p → actsOf p 0 (narration b .says) ≡ actsOf p 0 (narration c .says)
+      → partWords b p ≡ partWords c p
   unfolding partWords programOf
   part-own p k o = ap₂ programWords (mathlib.Core.Path.fun-ext same-numbers) (program-own k o)

@@ -56,10 +56,12 @@ module _ (row : Term → ℕ) where
   unfolding programWords
   small-kept t p δ = let h = size-two t in record { given = omega arith; stored = omega arith; words = omega arith }
 
-  small-rule : (t : Term) (p : ℕ) (δ : Dictionary) (o : Did) → Small row 1 (size t) o → Small row 1 (size t) (byRule (rule δ t) (compared t p δ) o (kept t p δ))
+  small-rule : (t : Term) (p : ℕ) (δ : Dictionary) (o : Did) → Small row 1 (size t) o
+      → Small row 1 (size t) (byRule (rule δ t) (compared t p δ) o (kept t p δ))
   small-rule t p δ o h = by-rule (Small row 1 (size t)) (rule δ t) _ _ _ (small-compared t p δ) h (small-kept t p δ)
 
-  small-opened : (k : Term) (ts : Terms) (p : ℕ) (δ : Dictionary) (n : ℕ) (d : Did) → Small row (count ts) (sizes ts) d → Small row 1 (size (Term.cipher k ts)) (followed (opened k ts p δ n) d)
+  small-opened : (k : Term) (ts : Terms) (p : ℕ) (δ : Dictionary) (n : ℕ) (d : Did) → Small row (count ts) (sizes ts) d
+      → Small row 1 (size (Term.cipher k ts)) (followed (opened k ts p δ n) d)
   unfolding eventWords size
   small-opened k ts p δ n d s =
       let h = size-two k in
@@ -136,7 +138,8 @@ unfolding programWords eventWords
 news-words row [] = refl
 news-words row (r ∷ rs) = let h = news-words row rs in omega arith
 
-pub sent-words : (row : Term → ℕ) (i : ℕ) (ts : Terms) (δ : Dictionary) → length (programWords row (sent i (buildAll ts δ) .events)) ≤ 3 + 2 * sizes ts
+pub sent-words : (row : Term → ℕ) (i : ℕ) (ts : Terms) (δ : Dictionary)
+    → length (programWords row (sent i (buildAll ts δ) .events)) ≤ 3 + 2 * sizes ts
 unfolding eventWords
 sent-words row i ts δ =
     let c = buildAll ts δ in
@@ -148,7 +151,8 @@ sent-words row i ts δ =
     omega arith
 
 -- ---- a step
-sizes-most : (tab : Table) (n : ℕ) → Formed n tab → ((r : ℕ) → r < n → rowSize tab r ≤ 1024) → (rs : List ℕ) → All (λ r. r < n) rs → sizes (terms tab rs) ≤ 1024 * length rs
+sizes-most : (tab : Table) (n : ℕ) → Formed n tab → ((r : ℕ) → r < n → rowSize tab r ≤ 1024) → (rs : List ℕ) → All (λ r. r < n) rs
+    → sizes (terms tab rs) ≤ 1024 * length rs
 unfolding terms gathered size
 sizes-most tab n ok most [] a = omega arith
 sizes-most tab n ok most (r ∷ rs) a =
@@ -163,7 +167,8 @@ module _ (b : List ℕ) (v : Valid b) where
   step-sizes s h =
       let k = v .stepsKeep s h .listed .high in
       let l = run-length b (begins b 3 + stepFirst b s) (stepCount b s) in
-      let z = sizes-most (table b) (rows b) (formed b v) (v .sizesKeep) (messages b s) (all-run (λ r. r < rows b) b (begins b 3 + stepFirst b s) (stepCount b s) (v .stepsKeep s h .listed .each)) in
+      let z = sizes-most (table b) (rows b) (formed b v) (v .sizesKeep) (messages b s)
+      (all-run (λ r. r < rows b) b (begins b 3 + stepFirst b s) (stepCount b s) (v .stepsKeep s h .listed .each)) in
       omega arith
 
   module _ (row : Term → ℕ) where
@@ -174,7 +179,9 @@ module _ (b : List ℕ) (v : Valid b) where
         record { given = omega arith; stored = omega arith; words = omega arith }
 
     within-arrived : (s : ℕ) → s < steps b → (δ : Dictionary) (n : ℕ)
-        → Within row stepSize stepWords (followed (arrived s (terms (table b) (messages b s)) δ n) (receiveAll (terms (table b) (messages b s)) n δ (n + count (terms (table b) (messages b s)))))
+        → Within row stepSize stepWords
+        (followed (arrived s (terms (table b) (messages b s)) δ n)
+        (receiveAll (terms (table b) (messages b s)) n δ (n + count (terms (table b) (messages b s)))))
     unfolding eventWords
     within-arrived s h δ n =
         let ts = terms (table b) (messages b s) in
@@ -242,7 +249,8 @@ ends-length row ps = let h = pairs-length row ps in omega arith
 module _ (b : List ℕ) where
   -- how the words of a program come about
   pub part-length : (p : ℕ) → p < parties b
-      → length (partWords b p) ≡ length (programWords (number (table b) (rows b)) (before b p (steps b) .events)) + (2 + 2 * length (before b p (steps b) .stored))
+      → length (partWords b p)
+      ≡ length (programWords (number (table b) (rows b)) (before b p (steps b) .events)) + (2 + 2 * length (before b p (steps b) .stored))
   unfolding partWords
   part-length p h =
       let row = number (table b) (rows b) in

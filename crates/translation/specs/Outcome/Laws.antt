@@ -45,7 +45,14 @@ module _ (xs : List Ruled) (room need : ℕ) where
         let c = z .1 in
         (z .0, less (c .broken), c .says)),
     λ u. given xs (room-line room need) [] (Said.said 0 (need ∷ [])) vs (u .0)
-        (record { place = 0; within = omega arith; broken = λ h. (let l = u .1 in absurd (omega arith)); smallest = λ k h. absurd (omega arith); says = u .2 }),
+        (record {
+          place = 0;
+          within = omega arith;
+          broken = λ h. (let l = u .1 in absurd (omega arith));
+          smallest =
+              λ k h. absurd (omega arith);
+          says = u .2;
+        }),
   )
     where
       less : (need ≤ room → ⊥) → room < need
@@ -94,7 +101,12 @@ module _ (s : Said.Said) (out ws : List ℕ) where
 -- ---- the lines of a translation with their rules
 module _ (b : List ℕ) where
   abbrev pub taken-line : Ruled
-  taken-line = record { line = line 10 (steps b) (unplayable (narration b)) (λ s. s ∷ firstTaken (narration b) s ∷ []); rule = Playable (narration b); exact = playable-exact (narration b) }
+  taken-line = record {
+    line = line 10 (steps b) (unplayable (narration b)) (λ s. s ∷ firstTaken (narration b) s ∷ []);
+    rule =
+        Playable (narration b);
+    exact = playable-exact (narration b);
+  }
 
   -- refusals 1 to 10
   abbrev pub ten : List Ruled
@@ -121,7 +133,8 @@ module _ (b : List ℕ) where
   reading-first out n = firstOf-stop (readingTable b) (takenLine b ∷ roomLine (length out) (length (listing b)) ∷ []) accepted written refl n
 
   -- ---- refusals 1 to 10 are the book's, whatever lines ls stand behind
-  pub book-first : (ls : List Line) (rest : Said.Said) → (acceptance b .number ≡ 0 → ⊥) → firstOf (readingTable b ++ takenLine b ∷ ls) rest ≡ acceptance b
+  pub book-first : (ls : List Line) (rest : Said.Said) → (acceptance b .number ≡ 0 → ⊥) → firstOf (readingTable b ++ takenLine b ∷ ls) rest
+      ≡ acceptance b
   unfolding acceptance readingTable
   book-first ls rest n = firstOf-stop (readingTable b ++ takenLine b ∷ []) ls accepted rest refl n
 
@@ -181,7 +194,8 @@ module _ (b : List ℕ) where
   )
 
   -- ---- refusal 12
-  pub exactly-12 : (out vs : List ℕ) → (translationSays b out ≡ Said.said 12 vs) ↔ (Plays b × (length out < length (listing b)) × (vs ≡ length (listing b) ∷ []))
+  pub exactly-12 : (out vs : List ℕ) → (translationSays b out ≡ Said.said 12 vs)
+      ↔ (Plays b × (length out < length (listing b)) × (vs ≡ length (listing b) ∷ []))
   exactly-12 out vs =
       let r = room-exact ten (length out) (length (listing b)) (omega arith) vs in
       (λ e. (let z = r .0 (sym (says-lines out) ∙ e) in (keep-plays (z .0), z .1, z .2)), λ u. says-lines out ∙ r .1 (plays-keep (u .0), u .1, u .2))

@@ -20,13 +20,16 @@ module _ (p i : ℕ) (s : Step) (ss : List Step) where
   unfolding actsOf
   acts-sends e = pick-true _ _ _ e
 
-  pub acts-receives : eqb (s .sender) p ≡ false → eqb (s .receiver) p ≡ true → actsOf p i (s ∷ ss) ≡ Act.receives i (s .messages) ∷ actsOf p (suc i) ss
+  pub acts-receives : eqb (s .sender) p ≡ false → eqb (s .receiver) p ≡ true → actsOf p i (s ∷ ss) ≡ Act.receives i (s .messages)
+      ∷ actsOf p (suc i) ss
   unfolding actsOf
-  acts-receives e f = rw (pick-false (eqb (s .sender) p) (Act.sends i (s .messages) ∷ actsOf p (suc i) ss) (pick (eqb (s .receiver) p) (Act.receives i (s .messages) ∷ actsOf p (suc i) ss) (actsOf p (suc i) ss)) e) (pick-true _ _ _ f)
+  acts-receives e f = rw (pick-false (eqb (s .sender) p) (Act.sends i (s .messages) ∷ actsOf p (suc i) ss)
+      (pick (eqb (s .receiver) p) (Act.receives i (s .messages) ∷ actsOf p (suc i) ss) (actsOf p (suc i) ss)) e) (pick-true _ _ _ f)
 
   pub acts-idle : eqb (s .sender) p ≡ false → eqb (s .receiver) p ≡ false → actsOf p i (s ∷ ss) ≡ actsOf p (suc i) ss
   unfolding actsOf
-  acts-idle e f = rw (pick-false (eqb (s .sender) p) (Act.sends i (s .messages) ∷ actsOf p (suc i) ss) (pick (eqb (s .receiver) p) (Act.receives i (s .messages) ∷ actsOf p (suc i) ss) (actsOf p (suc i) ss)) e) (pick-false _ _ _ f)
+  acts-idle e f = rw (pick-false (eqb (s .sender) p) (Act.sends i (s .messages) ∷ actsOf p (suc i) ss)
+      (pick (eqb (s .receiver) p) (Act.receives i (s .messages) ∷ actsOf p (suc i) ss) (actsOf p (suc i) ss)) e) (pick-false _ _ _ f)
 
 -- ---- program: equal knowledge and equal own parts give equal programs
 pub program-own : {k l : List Term} {a c : List Act} → k ≡ l → a ≡ c → program k a ≡ program l c
@@ -41,7 +44,8 @@ unfolding actsOf
 acts-append p i [] b = rw add-zero
 acts-append p i (s ∷ a) b =
     let z : suc i + length a ≡ i + suc (length a) = omega arith in
-    let e : actsOf p (suc i) (a ++ b) ≡ actsOf p (suc i) a ++ actsOf p (i + suc (length a)) b = acts-append p (suc i) a b ∙ ap (λ n. actsOf p (suc i) a ++ actsOf p n b) z in
+    let e : actsOf p (suc i) (a ++ b) ≡ actsOf p (suc i) a ++ actsOf p (i + suc (length a)) b =
+    acts-append p (suc i) a b ∙ ap (λ n. actsOf p (suc i) a ++ actsOf p n b) z in
     rw e (sym (pick-two (λ (l : List Act). l ++ actsOf p (i + suc (length a)) b) (eqb (s .sender) p) (eqb (s .receiver) p)
     (Act.sends i (s .messages) ∷ actsOf p (suc i) a) (Act.receives i (s .messages) ∷ actsOf p (suc i) a) (actsOf p (suc i) a)))
 
@@ -54,7 +58,8 @@ followed-assoc c d e =
       stored = append-assoc (c .stored) (d .stored) (e .stored) i;
     }
 
-pub walk-append : (a b : List Act) (δ : Dictionary) (n : ℕ) → walk (a ++ b) δ n ≡ followed (walk a δ n) (walk b (walk a δ n .dictionary) (n + length (walk a δ n .given)))
+pub walk-append : (a b : List Act) (δ : Dictionary) (n : ℕ) → walk (a ++ b) δ n
+    ≡ followed (walk a δ n) (walk b (walk a δ n .dictionary) (n + length (walk a δ n .given)))
 unfolding walk
 walk-append [] b δ n = ap (walk b δ) (sym (add-zero n))
 walk-append (c ∷ a) b δ n =

@@ -28,7 +28,8 @@ rule-store δ t e f = rw (pick-false (buildable δ t) Rule.compare (pick (canOpe
 
 -- what a rule's answer means, whatever order the rules stand in: a term is compared only if it is buildable, and opened only if
 -- it can be
-pub rule-ind : (P : Rule → Type 0) (δ : Dictionary) (t : Term) → (buildable δ t ≡ true → P Rule.compare) → (canOpen δ t ≡ true → P Rule.unlock) → P Rule.store → P (rule δ t)
+pub rule-ind : (P : Rule → Type 0) (δ : Dictionary) (t : Term) → (buildable δ t ≡ true → P Rule.compare)
+    → (canOpen δ t ≡ true → P Rule.unlock) → P Rule.store → P (rule δ t)
 unfolding rule
 rule-ind P δ t f g h = pick-ind P (buildable δ t) _ _ f (λ e. pick-ind P (canOpen δ t) _ _ g (λ d. h))
 
@@ -48,7 +49,8 @@ opening (Term.cipher k ts) p δ n = followed (opened k ts p δ n) (receiveAll ts
 opening (Term.public t) p δ n = nothing δ
 opening (Term.private t) p δ n = nothing δ
 
-pub receive-rule : (t : Term) (p : ℕ) (δ : Dictionary) (n : ℕ) → receive t p δ n ≡ byRule (rule δ t) (compared t p δ) (opening t p δ n) (kept t p δ)
+pub receive-rule : (t : Term) (p : ℕ) (δ : Dictionary) (n : ℕ) → receive t p δ n
+    ≡ byRule (rule δ t) (compared t p δ) (opening t p δ n) (kept t p δ)
 unfolding receive opening
 receive-rule (Term.atom r) p δ n = refl
 receive-rule (Term.operation g ts) p δ n = refl
@@ -73,7 +75,8 @@ mutual
   receive-quiet : (t : Term) (x : ℕ) (δ : Dictionary) (n : ℕ) → Quiet (receive t x δ n .events)
   receive-quiet (Term.atom r) x δ n = by-rule (λ d. Quiet (d .events)) _ _ _ _ (Quiet.checks Quiet.nil) Quiet.nil Quiet.nil
   receive-quiet (Term.operation g ts) x δ n = by-rule (λ d. Quiet (d .events)) _ _ _ _ (Quiet.checks Quiet.nil) Quiet.nil Quiet.nil
-  receive-quiet (Term.cipher k ts) x δ n = by-rule (λ d. Quiet (d .events)) _ _ _ _ (Quiet.checks Quiet.nil) (Quiet.opens (receiveAll-quiet ts n δ _)) Quiet.nil
+  receive-quiet (Term.cipher k ts) x δ n =
+      by-rule (λ d. Quiet (d .events)) _ _ _ _ (Quiet.checks Quiet.nil) (Quiet.opens (receiveAll-quiet ts n δ _)) Quiet.nil
   receive-quiet (Term.public t) x δ n = by-rule (λ d. Quiet (d .events)) _ _ _ _ (Quiet.checks Quiet.nil) Quiet.nil Quiet.nil
   receive-quiet (Term.private t) x δ n = by-rule (λ d. Quiet (d .events)) _ _ _ _ (Quiet.checks Quiet.nil) Quiet.nil Quiet.nil
 
@@ -85,7 +88,8 @@ mutual
 abbrev Settles : ℕ → Did → Type 0
 Settles c d = length (d .events) + length (d .stored) ≡ c + length (d .given)
 
-settles-rule : (t : Term) (p : ℕ) (δ : Dictionary) (o : Did) → (canOpen δ t ≡ true → Settles 1 o) → Settles 1 (byRule (rule δ t) (compared t p δ) o (kept t p δ))
+settles-rule : (t : Term) (p : ℕ) (δ : Dictionary) (o : Did) → (canOpen δ t ≡ true → Settles 1 o)
+    → Settles 1 (byRule (rule δ t) (compared t p δ) o (kept t p δ))
 unfolding byRule
 settles-rule t p δ o h = rule-ind (λ r. Settles 1 (byRule r (compared t p δ) o (kept t p δ))) δ t (λ e. refl) h refl
 
@@ -96,7 +100,8 @@ settles-then c d e h k =
     let z = length-append (d .given) (e .given) in
     omega arith
 
-settles-opened : (k : Term) (ts : Terms) (p : ℕ) (δ : Dictionary) (n : ℕ) (d : Did) → Settles (count ts) d → Settles 1 (followed (opened k ts p δ n) d)
+settles-opened : (k : Term) (ts : Terms) (p : ℕ) (δ : Dictionary) (n : ℕ) (d : Did) → Settles (count ts) d
+    → Settles 1 (followed (opened k ts p δ n) d)
 settles-opened k ts p δ n d h =
     let c = count-listed ts in
     let z = length-append (listed ts) (d .given) in
@@ -114,7 +119,8 @@ mutual
   receive-settles (Term.public t) p δ n = settles-rule (Term.public t) p δ (nothing δ) (λ e. absurd (false≢true e))
   receive-settles (Term.private t) p δ n = settles-rule (Term.private t) p δ (nothing δ) (λ e. absurd (false≢true e))
 
-  pub receiveAll-settles : (ts : Terms) (p : ℕ) (δ : Dictionary) (n : ℕ) → (let d = receiveAll ts p δ n in length (d .events) + length (d .stored) ≡ count ts + length (d .given))
+  pub receiveAll-settles : (ts : Terms) (p : ℕ) (δ : Dictionary) (n : ℕ)
+      → (let d = receiveAll ts p δ n in length (d .events) + length (d .stored) ≡ count ts + length (d .given))
   receiveAll-settles Terms.nil p δ n = refl
   receiveAll-settles (Terms.cons t ts) p δ n =
       let d = receive t p δ n in

@@ -60,21 +60,27 @@ module _ (tab : Table) (n : ℕ) (ok : Formed n tab) where
 
     pub image-names : (δ : Dictionary) → HeldRows δ → (t : Term) → AtomsRows t → Names (IsRow tab n) (image δ t)
     image-names δ d (Term.atom r) a = names-or _ _ _ (d (Term.atom r)) (Names.itself (a r Occurs.atom))
-    image-names δ d (Term.operation g ts) a = names-or _ _ _ (d (Term.operation g ts)) (Names.operation (images-names δ d ts (λ q o. a q (Occurs.operation o))))
+    image-names δ d (Term.operation g ts) a =
+        names-or _ _ _ (d (Term.operation g ts)) (Names.operation (images-names δ d ts (λ q o. a q (Occurs.operation o))))
     image-names δ d (Term.cipher k ts) a =
-        names-or _ _ _ (d (Term.cipher k ts)) (Names.cipher (image-names δ d k (λ q o. a q (Occurs.key o))) (images-names δ d ts (λ q o. a q (Occurs.contents o))))
+        names-or _ _ _ (d (Term.cipher k ts)) (Names.cipher (image-names δ d k (λ q o. a q (Occurs.key o)))
+        (images-names δ d ts (λ q o. a q (Occurs.contents o))))
     image-names δ d (Term.public t) a = names-or _ _ _ (d (Term.public t)) (Names.public (image-names δ d t (λ q o. a q (Occurs.public o))))
     image-names δ d (Term.private t) a = names-or _ _ _ (d (Term.private t)) (Names.private (image-names δ d t (λ q o. a q (Occurs.private o))))
 
-    pub images-names : (δ : Dictionary) → HeldRows δ → (ts : Terms) → ((q : ℕ) → OccursIn q ts → IsRow tab n (Term.atom q)) → NamesAll (IsRow tab n) (images δ ts)
+    pub images-names : (δ : Dictionary) → HeldRows δ → (ts : Terms) → ((q : ℕ) → OccursIn q ts → IsRow tab n (Term.atom q))
+        → NamesAll (IsRow tab n) (images δ ts)
     images-names δ d Terms.nil a = NamesAll.nil
-    images-names δ d (Terms.cons t ts) a = NamesAll.cons (image-names δ d t (λ q o. a q (OccursIn.here o))) (images-names δ d ts (λ q o. a q (OccursIn.later o)))
+    images-names δ d (Terms.cons t ts) a =
+        NamesAll.cons (image-names δ d t (λ q o. a q (OccursIn.here o))) (images-names δ d ts (λ q o. a q (OccursIn.later o)))
 
   -- ---- build
-  pub buildAll-rows : (ts : Terms) (δ : Dictionary) → HeldRows δ → ((q : ℕ) → OccursIn q ts → IsRow tab n (Term.atom q)) → HeldRows ((buildAll ts δ) .dictionary) × NamesAll (IsRow tab n) ((buildAll ts δ) .images)
+  pub buildAll-rows : (ts : Terms) (δ : Dictionary) → HeldRows δ → ((q : ℕ) → OccursIn q ts → IsRow tab n (Term.atom q))
+      → HeldRows ((buildAll ts δ) .dictionary) × NamesAll (IsRow tab n) ((buildAll ts δ) .images)
   buildAll-rows ts δ d a =
       let m = buildAll-makes ts δ in
-      let h : HeldRows (buildAll ts δ .dictionary) = λ u k. ⊎-elim (λ x. d u x) (λ x. subst (IsRow tab n) (sym (x .1)) (a (x .0) (m .within (x .0) (x .2)))) (m .back u k) in
+      let h : HeldRows (buildAll ts δ .dictionary) =
+      λ u k. ⊎-elim (λ x. d u x) (λ x. subst (IsRow tab n) (sym (x .1)) (a (x .0) (m .within (x .0) (x .2)))) (m .back u k) in
       (h, rw (buildAll-images ts δ) (images-names (buildAll ts δ .dictionary) h ts a))
 
   -- ---- receive
@@ -84,7 +90,13 @@ module _ (tab : Table) (n : ℕ) (ok : Formed n tab) where
     pub stored : StoredAll (IsRow tab n) (d .stored)
 
   followed-rows : (d e : Did) → DidRows d → DidRows e → DidRows (followed d e)
-  followed-rows d e p q = record { holds = q .holds; named = names-append (p .named) (q .named); stored = stored-append (IsRow tab n) (d .stored) (e .stored) (p .stored) (q .stored) }
+  followed-rows d e p q =
+      record {
+        holds = q .holds;
+        named = names-append (p .named) (q .named);
+        stored =
+            stored-append (IsRow tab n) (d .stored) (e .stored) (p .stored) (q .stored);
+      }
 
   nothing-rows : (δ : Dictionary) → HeldRows δ → DidRows (nothing δ)
   nothing-rows δ d = record { holds = d; named = ProgramNames.nil; stored = tt }
@@ -106,7 +118,12 @@ module _ (tab : Table) (n : ℕ) (ok : Formed n tab) where
 
     opened-rows : (k : Term) (ts : Terms) (m : ℕ) → IsRow tab n k → DidRows (opened k ts p δ m)
     opened-rows k ts m i =
-        record { holds = d; named = ProgramNames.cons (image-names δ d (partner k) (λ q o. atoms-rows n tab ok i (partner-occurs k q o))) ProgramNames.nil; stored = tt }
+        record {
+          holds = d;
+          named =
+              ProgramNames.cons (image-names δ d (partner k) (λ q o. atoms-rows n tab ok i (partner-occurs k q o))) ProgramNames.nil;
+          stored = tt;
+        }
 
   mutual
     unfolding receive
@@ -165,7 +182,8 @@ module _ (tab : Table) (n : ℕ) (ok : Formed n tab) where
 
   pub program-names : (known : List Term) (acts : List Act) → KnownRows known → ActsRows acts → ProgramNames (IsRow tab n) (program known acts)
   unfolding program walked
-  program-names known acts k r = let w = walk-rows acts (start known) 0 r (start-rows known k) in names-append (w .named) (ProgramNames.cons (w .stored) ProgramNames.nil)
+  program-names known acts k r = let w =
+      walk-rows acts (start known) 0 r (start-rows known k) in names-append (w .named) (ProgramNames.cons (w .stored) ProgramNames.nil)
 
   abbrev pub StepsRows : List Step → Type 0
   StepsRows [] = Unit {0}
@@ -188,14 +206,16 @@ module _ (b : List ℕ) (v : Valid b) where
   unfolding values stepAt
   steps-rows i zero h = tt
   steps-rows i (suc m) h = (
-    rows-listed (rows b) (table b) (formed b v) (messages b i) (all-run (λ r. r < rows b) b (begins b 3 + stepFirst b i) (stepCount b i) (v .stepsKeep i (omega arith) .listed .each)),
+    rows-listed (rows b) (table b) (formed b v) (messages b i)
+        (all-run (λ r. r < rows b) b (begins b 3 + stepFirst b i) (stepCount b i) (v .stepsKeep i (omega arith) .listed .each)),
     steps-rows (suc i) m (omega arith),
   )
 
   pub party-known : (p : ℕ) → p < parties b → All (λ r. r < rows b) (known b p)
   party-known p h = all-run (λ r. r < rows b) b (begins b 3 + partyFirst b p) (partyCount b p) (v .partiesKeep p h .listed .each)
 
-  knows-rows : (i m p : ℕ) → i + m ≤ parties b → KnownRows (table b) (rows b) (formed b v) (getD (values (λ q. map (term (table b)) (known b q)) i m) p [])
+  knows-rows : (i m p : ℕ) → i + m ≤ parties b
+      → KnownRows (table b) (rows b) (formed b v) (getD (values (λ q. map (term (table b)) (known b q)) i m) p [])
   unfolding values
   knows-rows i zero p h = tt
   knows-rows i (suc m) zero h = known-rows (table b) (rows b) (formed b v) (known b i) (party-known i (omega arith))
@@ -205,4 +225,5 @@ module _ (b : List ℕ) (v : Valid b) where
   pub programs-name-rows : (p : ℕ) → ProgramNames (IsRow (table b) (rows b)) (programOf (narration b) p)
   unfolding programOf narration knownTo
   programs-name-rows p =
-      program-names (table b) (rows b) (formed b v) _ _ (knows-rows 0 (parties b) p (omega arith)) (own-rows (table b) (rows b) (formed b v) p 0 _ (steps-rows 0 (steps b) (omega arith)))
+      program-names (table b) (rows b) (formed b v) _ _ (knows-rows 0 (parties b) p (omega arith))
+      (own-rows (table b) (rows b) (formed b v) p 0 _ (steps-rows 0 (steps b) (omega arith)))

@@ -85,10 +85,12 @@ module _ (term : ℕ → Term) (row : Term → ℕ) where
     image-back (suc f) w l (Names.public h) = rw (image-back f w (omega arith) h)
     image-back (suc f) w l (Names.private h) = rw (image-back f w (omega arith) h)
 
-    images-back : {is : Images} (f : ℕ) (w : List ℕ) → depths is ≤ f → NamesAll Back is → readImages term f (countImages is) (wordsOf row is ++ w) ≡ some (is, w)
+    images-back : {is : Images} (f : ℕ) (w : List ℕ) → depths is ≤ f → NamesAll Back is
+        → readImages term f (countImages is) (wordsOf row is ++ w) ≡ some (is, w)
     images-back {is} zero w l h = let z = depths-one is in absurd (omega arith)
     images-back (suc f) w l NamesAll.nil = refl
-    images-back (suc f) w l (NamesAll.cons {is = is} h k) = rw (append-assoc, image-back f (wordsOf row is ++ w) (omega arith) h, images-back f w (omega arith) k)
+    images-back (suc f) w l (NamesAll.cons {is = is} h k) =
+        rw (append-assoc, image-back f (wordsOf row is ++ w) (omega arith) h, images-back f w (omega arith) k)
 
   -- ---- events
   pairs-back : (ps : List (Term × ℕ)) (w : List ℕ) → StoredAll Back ps → readPairs term (length ps) (pairWords row ps ++ w) ≡ some (ps, w)
@@ -96,7 +98,8 @@ module _ (term : ℕ → Term) (row : Term → ℕ) where
   pairs-back [] w h = refl
   pairs-back (p ∷ ps) w h = rw (pairs-back ps w (h .1), h .0)
 
-  event-back : (e : Event) (f : ℕ) (w : List ℕ) → length (eventWords row e) ≤ f → EventNames Back e → readEvent term f (eventWords row e ++ w) ≡ some (e, w)
+  event-back : (e : Event) (f : ℕ) (w : List ℕ) → length (eventWords row e) ≤ f → EventNames Back e
+      → readEvent term f (eventWords row e ++ w) ≡ some (e, w)
   unfolding readEvent eventWords then
   event-back (Event.new r) f w l h = refl
   event-back (Event.sends s is) f w l h = rw (images-back f w (let z = depths-words row is in omega arith) h)
@@ -107,7 +110,8 @@ module _ (term : ℕ → Term) (row : Term → ℕ) where
 
   -- an event's words begin with a word
   event-step : (e : Event) (f n : ℕ) (w : List ℕ)
-      → readEvents term f (suc n) (eventWords row e ++ w) ≡ then (readEvent term f (eventWords row e ++ w)) (λ p. then (readEvents term f n (p .1)) (λ es. some (p .0 ∷ es)))
+      → readEvents term f (suc n) (eventWords row e ++ w)
+      ≡ then (readEvent term f (eventWords row e ++ w)) (λ p. then (readEvents term f n (p .1)) (λ es. some (p .0 ∷ es)))
   unfolding readEvents eventWords
   event-step (Event.new r) f n w = refl
   event-step (Event.sends s is) f n w = refl
@@ -125,7 +129,8 @@ module _ (term : ℕ → Term) (row : Term → ℕ) where
   event-long (Event.opens x y n i) = omega arith
   event-long (Event.ends ps) = omega arith
 
-  events-back : (es : List Event) (f n : ℕ) → length (programWords row es) < n → length (programWords row es) ≤ f → ProgramNames Back es → readEvents term f n (programWords row es) ≡ some es
+  events-back : (es : List Event) (f n : ℕ) → length (programWords row es) < n → length (programWords row es) ≤ f → ProgramNames Back es
+      → readEvents term f n (programWords row es) ≡ some es
   unfolding programWords then readEvents
   events-back es f zero l m h = absurd (omega arith)
   events-back [] f (suc n) l m h = refl
@@ -181,7 +186,8 @@ startAt o [] p = o
 startAt o (l ∷ ls) zero = o
 startAt o (l ∷ ls) (suc p) = startAt (o + length l) ls p
 
-heads-at : (o : ℕ) (ls : List (List ℕ)) (p : ℕ) → p < length ls → (getD (heads o ls) (2 * p) 0 ≡ startAt o ls p) × (getD (heads o ls) (suc (2 * p)) 0 ≡ length (getD ls p []))
+heads-at : (o : ℕ) (ls : List (List ℕ)) (p : ℕ) → p < length ls → (getD (heads o ls) (2 * p) 0 ≡ startAt o ls p)
+    × (getD (heads o ls) (suc (2 * p)) 0 ≡ length (getD ls p []))
 unfolding heads startAt
 heads-at o [] p h = absurd (omega arith)
 heads-at o (l ∷ ls) zero h = (refl, refl)
@@ -191,7 +197,8 @@ heads-at o (l ∷ ls) (suc p) h =
 
 -- what stands at the start of part p is the part, and then the rest
 bodies-at : (o : ℕ) (pre : List ℕ) (ls : List (List ℕ)) (p : ℕ) → length pre ≡ o → p < length ls
-    → (rest : List ℕ) × (drop (startAt o ls p) (pre ++ bodies ls) ≡ getD ls p [] ++ rest) × (startAt o ls p + length (getD ls p []) ≤ length (pre ++ bodies ls))
+    → (rest : List ℕ) × (drop (startAt o ls p) (pre ++ bodies ls) ≡ getD ls p [] ++ rest)
+    × (startAt o ls p + length (getD ls p []) ≤ length (pre ++ bodies ls))
 unfolding bodies startAt
 bodies-at o pre [] p e h = absurd (omega arith)
 bodies-at o pre (l ∷ ls) zero e h =
@@ -201,8 +208,11 @@ bodies-at o pre (l ∷ ls) zero e h =
     (bodies ls, ap (λ k. drop k (pre ++ (l ++ bodies ls))) z ∙ drop-append-add pre (l ++ bodies ls) 0, omega arith)
 bodies-at o pre (l ∷ ls) (suc p) e h =
     let a = length-append pre l in
-    let r = bodies-at (o + length l) (pre ++ l) ls p (omega arith) (omega arith) in
-    (r .0, ap (drop (startAt (o + length l) ls p)) (sym (append-assoc pre l (bodies ls))) ∙ r .1, subst (λ x. startAt (o + length l) ls p + length (getD ls p []) ≤ length x) (append-assoc pre l (bodies ls)) (r .2))
+    let r = bodies-at (o + length l) (pre ++ l) ls p (omega arith) (omega arith) in (
+      r .0,
+      ap (drop (startAt (o + length l) ls p)) (sym (append-assoc pre l (bodies ls))) ∙ r .1,
+      subst (λ x. startAt (o + length l) ls p + length (getD ls p []) ≤ length x) (append-assoc pre l (bodies ls)) (r .2),
+    )
 
 pub frame-part : (ls : List (List ℕ)) (p : ℕ) → p < length ls → partOf (framed ls) p ≡ getD ls p []
 unfolding partOf framed
@@ -214,13 +224,16 @@ frame-part ls p h =
     let b = bodies-at (1 + 2 * n) (n ∷ hs) ls p (omega arith) h in
     let e1 : 1 + 2 * p ≡ suc (2 * p) = omega arith in
     let e2 : 2 + 2 * p ≡ suc (suc (2 * p)) = omega arith in
-    let w1 : getD (n ∷ (hs ++ bodies ls)) (1 + 2 * p) 0 ≡ startAt (1 + 2 * n) ls p = ap (λ i. getD (n ∷ (hs ++ bodies ls)) i 0) e1 ∙ List·getD-append hs (bodies ls) 0 (2 * p) (omega arith) ∙ at .0 in
-    let w2 : getD (n ∷ (hs ++ bodies ls)) (2 + 2 * p) 0 ≡ length (getD ls p []) = ap (λ i. getD (n ∷ (hs ++ bodies ls)) i 0) e2 ∙ List·getD-append hs (bodies ls) 0 (suc (2 * p)) (omega arith) ∙ at .1 in
+    let w1 : getD (n ∷ (hs ++ bodies ls)) (1 + 2 * p) 0 ≡ startAt (1 + 2 * n) ls p =
+    ap (λ i. getD (n ∷ (hs ++ bodies ls)) i 0) e1 ∙ List·getD-append hs (bodies ls) 0 (2 * p) (omega arith) ∙ at .0 in
+    let w2 : getD (n ∷ (hs ++ bodies ls)) (2 + 2 * p) 0 ≡ length (getD ls p []) =
+    ap (λ i. getD (n ∷ (hs ++ bodies ls)) i 0) e2 ∙ List·getD-append hs (bodies ls) 0 (suc (2 * p)) (omega arith) ∙ at .1 in
     rw (w1, w2) (run-take (n ∷ (hs ++ bodies ls)) (startAt (1 + 2 * n) ls p) (length (getD ls p [])) (b .2)
     ∙ ap (take (length (getD ls p []))) (b .1) ∙ take-append-seam (getD ls p []) (b .0))
 
 -- ---- the words of a valid book's listing spell its programs
-pub listing-spells : (b : List ℕ) → Valid b → (p : ℕ) → p < parties b → readProgram (Table.term (table b)) (partOf (listing b) p) ≡ some (programOf (narration b) p)
+pub listing-spells : (b : List ℕ) → Valid b → (p : ℕ) → p < parties b → readProgram (Table.term (table b)) (partOf (listing b) p)
+    ≡ some (programOf (narration b) p)
 unfolding listing partWords
 listing-spells b v p h =
     let n = values-length (partWords b) 0 (parties b) in

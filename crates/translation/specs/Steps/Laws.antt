@@ -37,7 +37,8 @@ module _ (b : List ℕ) (p i : ℕ) (δ : Dictionary) (n : ℕ) where
       ∙ walk-one (Act.sends i (terms (table b) (messages b i))) δ n
 
   pub step-receives : (sender b i ≡ p → ⊥) → receiver b i ≡ p
-      → stepDid b p i δ n ≡ followed (arrived i (terms (table b) (messages b i)) δ n) (receiveAll (terms (table b) (messages b i)) n δ (n + count (terms (table b) (messages b i))))
+      → stepDid b p i δ n ≡ followed (arrived i (terms (table b) (messages b i)) δ n)
+      (receiveAll (terms (table b) (messages b i)) n δ (n + count (terms (table b) (messages b i))))
   unfolding stepDid stepAt act terms actsOf
   step-receives e f =
       ap (λ l. walk l δ n) (acts-receives p i (stepAt b i) [] (ne-eqb (sender b i) p e) (eq-eqb (receiver b i) p f))
@@ -62,7 +63,8 @@ module _ (b : List ℕ) (p : ℕ) where
       let z : 0 + length past ≡ i = zero-add (length past) ∙ values-length (stepAt b) 0 i in
       ap (λ l. walk (actsOf p 0 l) δ 0) (values-last (stepAt b) 0 i ∙ ap (λ k. past ++ stepAt b k ∷ []) (zero-add i))
       ∙ ap (λ l. walk l δ 0) (acts-append p 0 past (stepAt b i ∷ []) ∙ ap (λ k. actsOf p 0 past ++ actsOf p k (stepAt b i ∷ [])) z)
-      ∙ walk-append (actsOf p 0 past) (actsOf p i (stepAt b i ∷ [])) δ 0 ∙ ap (λ k. followed w (walk (actsOf p i (stepAt b i ∷ [])) (w .dictionary) k)) (zero-add (length (w .given)))
+      ∙ walk-append (actsOf p 0 past) (actsOf p i (stepAt b i ∷ [])) δ 0
+      ∙ ap (λ k. followed w (walk (actsOf p i (stepAt b i ∷ [])) (w .dictionary) k)) (zero-add (length (w .given)))
 
   module _ (h : p < parties b) where
     knows : knownTo (narration b) p ≡ map (term (table b)) (known b p)

@@ -47,12 +47,14 @@ module _ (tab : Table) (n : ℕ) where
   held-grows δ ε g = sum-below _ _ n (λ r l. one-grows _ _ (g (term tab r)))
 
   -- entering a row that was not held
-  held-more : (δ : Dictionary) (t : Term) (x : ℕ) → IsRow tab n t → isHeld (δ t) ≡ false → rowsHeld tab n δ < rowsHeld tab n (enter δ t (Held.placeholder x))
+  held-more : (δ : Dictionary) (t : Term) (x : ℕ) → IsRow tab n t → isHeld (δ t) ≡ false
+      → rowsHeld tab n δ < rowsHeld tab n (enter δ t (Held.placeholder x))
   unfolding rowsHeld
   held-more δ t x i e =
       let ε = enter δ t (Held.placeholder x) in
       let old : one (isHeld (δ (term tab (i .row)))) ≡ 0 = pick-false _ _ _ (ap (λ u. isHeld (δ u)) (i .stands) ∙ e) in
-      let new : one (isHeld (ε (term tab (i .row)))) ≡ 1 = pick-true _ _ _ (ap (λ u. isHeld (ε u)) (i .stands) ∙ ap isHeld (enter-same δ t (Held.placeholder x))) in
+      let new : one (isHeld (ε (term tab (i .row)))) ≡ 1 =
+      pick-true _ _ _ (ap (λ u. isHeld (ε u)) (i .stands) ∙ ap isHeld (enter-same δ t (Held.placeholder x))) in
       sum-less _ _ n (λ r l. one-grows _ _ (enter-grows δ t (Held.placeholder x) refl (term tab r))) (i .row) (i .within) (omega arith)
 
   -- ---- each storing raises it
@@ -66,7 +68,8 @@ module _ (tab : Table) (n : ℕ) where
   raises-then δ d e h k = let l = length-append (d .stored) (e .stored) in omega arith
 
   -- a term that is held is compared, so only one that is not is stored
-  raises-rule : (t : Term) (p : ℕ) (δ : Dictionary) (o : Did) → IsRow tab n t → Raises δ o → Raises δ (byRule (rule δ t) (compared t p δ) o (kept t p δ))
+  raises-rule : (t : Term) (p : ℕ) (δ : Dictionary) (o : Did) → IsRow tab n t → Raises δ o
+      → Raises δ (byRule (rule δ t) (compared t p δ) o (kept t p δ))
   unfolding byRule
   raises-rule t p δ o i h = go (isHeld (δ t)) refl
     where
@@ -81,7 +84,8 @@ module _ (tab : Table) (n : ℕ) where
       receive-raises : (t : Term) (p : ℕ) (δ : Dictionary) (m : ℕ) → IsRow tab n t → Raises δ (receive t p δ m)
       receive-raises (Term.atom r) p δ m i = raises-rule (Term.atom r) p δ _ i (raises-nothing δ)
       receive-raises (Term.operation g ts) p δ m i = raises-rule (Term.operation g ts) p δ _ i (raises-nothing δ)
-      receive-raises (Term.cipher k ts) p δ m i = raises-rule (Term.cipher k ts) p δ _ i (receiveAll-raises ts m δ (m + count ts) (parts-rows n tab ok _ i .1))
+      receive-raises (Term.cipher k ts) p δ m i =
+          raises-rule (Term.cipher k ts) p δ _ i (receiveAll-raises ts m δ (m + count ts) (parts-rows n tab ok _ i .1))
       receive-raises (Term.public t) p δ m i = raises-rule (Term.public t) p δ _ i (raises-nothing δ)
       receive-raises (Term.private t) p δ m i = raises-rule (Term.private t) p δ _ i (raises-nothing δ)
 
@@ -89,7 +93,8 @@ module _ (tab : Table) (n : ℕ) where
       receiveAll-raises Terms.nil p δ m i = raises-nothing δ
       receiveAll-raises (Terms.cons t ts) p δ m i =
           let d = receive t p δ m in
-          raises-then δ d (receiveAll ts (suc p) (d .dictionary) (m + length (d .given))) (receive-raises t p δ m (i .0)) (receiveAll-raises ts (suc p) _ _ (i .1))
+          raises-then δ d (receiveAll ts (suc p) (d .dictionary) (m + length (d .given))) (receive-raises t p δ m (i .0))
+          (receiveAll-raises ts (suc p) _ _ (i .1))
 
     act-raises : (a : Act) (δ : Dictionary) (m : ℕ) → ActRows tab n ok a → Raises δ (act a δ m)
     unfolding act
@@ -107,7 +112,8 @@ module _ (tab : Table) (n : ℕ) where
     walk-few acts δ m r = let h = walk-raises acts δ m r in let k = held-most (walk acts δ m .dictionary) in omega arith
 
 -- ---- for a valid book: a party's first i steps, whatever it knows
-pub walked-few : (b : List ℕ) → Valid b → (known : List Term) (p i : ℕ) → i ≤ steps b → length (walked known (actsOf p 0 (values (stepAt b) 0 i)) .stored) ≤ rows b
+pub walked-few : (b : List ℕ) → Valid b → (known : List Term) (p i : ℕ) → i ≤ steps b
+    → length (walked known (actsOf p 0 (values (stepAt b) 0 i)) .stored) ≤ rows b
 unfolding walked
 walked-few b v known p i h =
     walk-few (table b) (rows b) (formed b v) _ (start known) 0 (own-rows (table b) (rows b) (formed b v) p 0 _ (steps-rows b v 0 i (omega arith)))

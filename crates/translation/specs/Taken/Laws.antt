@@ -37,7 +37,8 @@ unfolding occursInOne
 one-path q [] e = absurd (true≢false (sym e))
 one-path q (t ∷ ts) e =
     let rest = one-path q ts in
-    or-cases (occurs q t) (occursInOne q ts) e (λ h. (t, List·Memᴰ·head refl, occurs-path q t h)) (λ h. let z = rest h in (z .0, List·Memᴰ·tail (z .1), z .2))
+    or-cases (occurs q t) (occursInOne q ts) e (λ h. (t, List·Memᴰ·head refl, occurs-path q t h))
+    (λ h. let z = rest h in (z .0, List·Memᴰ·tail (z .1), z .2))
 
 path-one : {q : ℕ} {t : Term} (ts : List Term) → List·Memᴰ t ts → Occurs q t → occursInOne q ts ≡ true
 unfolding occursInOne
@@ -65,14 +66,16 @@ unfolding allMessages
 in-said [] m = absurd (List·Memᴰ·not-nil m)
 in-said (s ∷ ss) m =
     let rest = in-said ss in
-    ⊎-elim (λ x. (s, List·Memᴰ·head refl, x)) (λ y. let z = rest y in (z .0, List·Memᴰ·tail (z .1), z .2)) (List·Memᴰ·append-cases (listed (s .messages)) m)
+    ⊎-elim (λ x. (s, List·Memᴰ·head refl, x)) (λ y. let z = rest y in (z .0, List·Memᴰ·tail (z .1), z .2))
+    (List·Memᴰ·append-cases (listed (s .messages)) m)
 
 said-in : {t : Term} (a : Step) (ss : List Step) → List·Memᴰ a ss → List·Memᴰ t (listed (a .messages)) → List·Memᴰ t (allMessages ss)
 unfolding allMessages
 said-in a [] m h = absurd (List·Memᴰ·not-nil m)
 said-in {t} a (s ∷ ss) m h =
     let rest = said-in a ss in
-    ⊎-elim (λ e. Memᴰ·append-left (allMessages ss) (subst (λ (z : Step). List·Memᴰ t (listed (z .messages))) e h)) (λ n. Memᴰ·append-right (listed (s .messages)) (rest n h)) (List·Memᴰ·cases-cons m)
+    ⊎-elim (λ e. Memᴰ·append-left (allMessages ss) (subst (λ (z : Step). List·Memᴰ t (listed (z .messages))) e h))
+    (λ n. Memᴰ·append-right (listed (s .messages)) (rest n h)) (List·Memᴰ·cases-cons m)
 
 module _ (N : Narration) (s q : ℕ) where
   to-taken : taken N s q ≡ true → Taken N s q
@@ -80,7 +83,8 @@ module _ (N : Narration) (s q : ℕ) where
   to-taken e =
       let z = one-path q (claimed N s) e in
       ⊎-elim (λ x. Taken.name x (z .2))
-      (λ x. ⊎-elim (λ y. let k = in-joined (N .knows) y in Taken.known (k .1) (k .2) (z .2)) (λ y. let k = in-said (take s (N .says)) y in Taken.earlier (k .1) (k .2) (z .2)) (List·Memᴰ·append-cases (joined (N .knows)) x))
+      (λ x. ⊎-elim (λ y. let k = in-joined (N .knows) y in Taken.known (k .1) (k .2) (z .2))
+      (λ y. let k = in-said (take s (N .says)) y in Taken.earlier (k .1) (k .2) (z .2)) (List·Memᴰ·append-cases (joined (N .knows)) x))
       (List·Memᴰ·append-cases (N .names) (z .1))
 
   of-taken : Taken N s q → taken N s q ≡ true
@@ -165,11 +169,13 @@ module _ (free : ℕ → Type 0) (decide : (r : ℕ) → Dec (free r)) (δ : Dic
   some-message Terms.nil n = absurd (n DerivesAll.nil)
   some-message (Terms.cons t ts) n = go (derives? t) (some-message ts)
     where
-      go : Dec (Derives free δ t) → ((DerivesAll free δ ts → ⊥) → (u : Term) × List·Memᴰ u (listed ts) × (Derives free δ u → ⊥)) → (u : Term) × List·Memᴰ u (t ∷ listed ts) × (Derives free δ u → ⊥)
+      go : Dec (Derives free δ t) → ((DerivesAll free δ ts → ⊥) → (u : Term) × List·Memᴰ u (listed ts) × (Derives free δ u → ⊥))
+          → (u : Term) × List·Memᴰ u (t ∷ listed ts) × (Derives free δ u → ⊥)
       go (yes d) f = let z = f (λ e. n (DerivesAll.cons d e)) in (z .0, List·Memᴰ·tail (z .1), z .2)
       go (no d) f = (t, List·Memᴰ·head refl, d)
 
-pub message-not : {free : ℕ → Type 0} {δ : Dictionary} {t : Term} (ts : Terms) → List·Memᴰ t (listed ts) → DerivesAll free δ ts → Derives free δ t
+pub message-not : {free : ℕ → Type 0} {δ : Dictionary} {t : Term} (ts : Terms) → List·Memᴰ t (listed ts) → DerivesAll free δ ts
+    → Derives free δ t
 unfolding listed
 message-not Terms.nil m d = absurd (List·Memᴰ·not-nil m)
 message-not {free} {δ} (Terms.cons u ts) m (DerivesAll.cons d e) =
@@ -178,7 +184,8 @@ message-not {free} {δ} (Terms.cons u ts) m (DerivesAll.cons d e) =
 
 pub unplayable-exact : (N : Narration) (s : ℕ) → (Playable N s → ⊥) ↔ NoDerivation N s
 unplayable-exact N s = (
-  λ n. let z = some-message (Nobodys N s) decide (holdsBefore N (stepOf N s .sender) s) (stepOf N s .messages) n in record { message = z .0; among = z .1; none = z .2 },
+  λ n. let z = some-message (Nobodys N s) decide (holdsBefore N (stepOf N s .sender) s) (stepOf N s .messages) n in
+      record { message = z .0; among = z .1; none = z .2 },
   λ d p. d .none (message-not (stepOf N s .messages) (d .among) p),
 )
   where

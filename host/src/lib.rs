@@ -8,7 +8,7 @@ pub mod machine;
 pub mod narration;
 pub mod random;
 pub mod rehearse;
+pub mod shelf;
 pub mod show;
 pub mod term;
 pub mod translate;
-pub mod trials;

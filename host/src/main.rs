@@ -1,7 +1,7 @@
 //! The commands of the second implementation.
 
 use host::translate;
-use host::trials::Trials;
+use host::shelf::Shelf;
 use host::{bench, compare, corpus, narration, random, rehearse, show};
 use std::fs::{self, File};
 use std::io::{self, Read, Write};
@@ -16,7 +16,7 @@ host narrate FILE [OUT]                 turn a narration into a book
 host show FILE                          tell what a book says
 host words FILE [OUT]                   turn decimal words (# to the line's end is a remark) into a book
 host books [--check] DIR                write (or only check) the files derived in a folder of books
-host trials [--check] BOOKS CRATE       write (or only check) what the program of the trials reads and prints
+host shelf [--check] BOOKS CRATE        write (or only check) what the program shelf reads and prints
 host random SEED COUNT DIR              write random books
 host compare PROGRAM PATH..             compare a program over books and folders of books
 host compare PROGRAM --random SEED COUNT   compare a program over random books
@@ -94,15 +94,15 @@ fn run(arguments: &[String]) -> Result<bool, String> {
             let books = corpus::write(Path::new(folder))?;
             say(&format!("{books} books in {folder} are written\n"))?;
         }
-        ["trials", "--check", books, folder] => {
-            let trials = Trials::of(Path::new(books))?;
-            trials.check(Path::new(folder))?;
-            say(&format!("{}, current in {folder}\n", trials.told()))?;
+        ["shelf", "--check", books, folder] => {
+            let shelf = Shelf::of(Path::new(books))?;
+            shelf.check(Path::new(folder))?;
+            say(&format!("{}, current in {folder}\n", shelf.told()))?;
         }
-        ["trials", books, folder] if *books != "--check" => {
-            let trials = Trials::of(Path::new(books))?;
-            trials.write(Path::new(folder))?;
-            say(&format!("{}, written to {folder}\n", trials.told()))?;
+        ["shelf", books, folder] if *books != "--check" => {
+            let shelf = Shelf::of(Path::new(books))?;
+            shelf.write(Path::new(folder))?;
+            say(&format!("{}, written to {folder}\n", shelf.told()))?;
         }
         ["random", seed, count, folder] => {
             random::write(number(seed)?, number(count)? as usize, Path::new(folder))?;

@@ -149,7 +149,7 @@ fn help() {
         "show",
         "words",
         "books",
-        "trials",
+        "shelf",
         "random",
         "compare",
     ] {
@@ -175,10 +175,10 @@ fn bad_input() {
     complains(&["rehearse", &words, &missing]);
     complains(&["books", &missing]);
     complains(&["books", "--check", &missing]);
-    complains(&["trials", &missing, &directory]);
-    complains(&["trials", "--check", &missing, &directory]);
-    complains(&["trials", "--check", &directory]);
-    complains(&["trials", &directory]);
+    complains(&["shelf", &missing, &directory]);
+    complains(&["shelf", "--check", &missing, &directory]);
+    complains(&["shelf", "--check", &directory]);
+    complains(&["shelf", &directory]);
     complains(&["random", "x", "1", &missing]);
     complains(&["random", "1", "-1", &missing]);
     complains(&["random", "1", "1", &binary]);
@@ -192,21 +192,21 @@ fn bad_input() {
 }
 
 #[test]
-fn trials() {
-    let folder = Folder::new("trials");
+fn shelf() {
+    let folder = Folder::new("shelf");
     let text = folder.file("1.words", EXAMPLE_1.as_bytes());
     printed(&["words", &text, &folder.path("1.book")]);
     let at = folder.path("");
-    let said = |done: &str| format!("1 books in the trials, {done} {at}\n");
-    assert_eq!(printed(&["trials", &at, &at]), said("written to"));
+    let said = |done: &str| format!("1 books on the shelf, {done} {at}\n");
+    assert_eq!(printed(&["shelf", &at, &at]), said("written to"));
     assert_eq!(
-        printed(&["trials", "--check", &at, &at]),
+        printed(&["shelf", "--check", &at, &at]),
         said("current in")
     );
     let lines = fs::read_to_string(folder.path("stdout")).expect("the lines");
     assert_eq!(lines.lines().nth(1), Some("2 4"));
     folder.file("stdin", b"");
-    assert!(complains(&["trials", "--check", &at, &at]).contains("stale"));
+    assert!(complains(&["shelf", "--check", &at, &at]).contains("stale"));
 }
 
 /// A reader that has gone away is an error like any other.

@@ -1,7 +1,7 @@
 -- What reading the next book promises. Assumes nothing.
 use Prim.Native.Nat.{_≤_}
-use Rattle.trials.specs.declared.Next.{Next}
-use Rattle.trials.specs.declared.Next.the-variants.{Book, Nothing}
+use Rattle.shelf.specs.declared.Next.{Next}
+use Rattle.shelf.specs.declared.Next.the-variants.{Book, Nothing}
 
 -- no more words came than there is room for
 abbrev pub Fits : Next → Type 0

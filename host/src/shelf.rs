@@ -1,4 +1,4 @@
-//! The program `trials`: what it is run on, all books of a folder in one stream, and what it must print:
+//! The program `shelf`: what it is run on, all books of a folder in one stream, and what it must print:
 //! of each book its translation and its rehearsals under six schedules, a line for each.
 
 use crate::book;
@@ -10,7 +10,7 @@ use std::fs;
 use std::path::Path;
 
 /// The two files of the program's crate, and the books that are in them.
-pub struct Trials {
+pub struct Shelf {
     /// Each book's count of words, then its words.
     pub stdin: Vec<u8>,
     pub stdout: Vec<u8>,
@@ -19,10 +19,10 @@ pub struct Trials {
     pub left_out: Vec<String>,
 }
 
-impl Trials {
+impl Shelf {
     /// Of the books of a folder, in the order of their names.
-    pub fn of(folder: &Path) -> Result<Trials, String> {
-        let mut trials = Trials {
+    pub fn of(folder: &Path) -> Result<Shelf, String> {
+        let mut shelf = Shelf {
             stdin: Vec::new(),
             stdout: Vec::new(),
             books: 0,
@@ -31,13 +31,13 @@ impl Trials {
         for file in compare::folder(folder)? {
             let bytes = fs::read(&file).map_err(|error| format!("{}: {error}", file.display()))?;
             if bytes.len() % 4 != 0 {
-                trials.left_out.push(file.display().to_string());
+                shelf.left_out.push(file.display().to_string());
                 continue;
             }
             // One word more than the longest book is read, and no further.
-            trials.add(&bytes[..bytes.len().min(translate::READ_BYTES)]);
+            shelf.add(&bytes[..bytes.len().min(translate::READ_BYTES)]);
         }
-        Ok(trials)
+        Ok(shelf)
     }
 
     fn add(&mut self, book: &[u8]) {
@@ -88,7 +88,7 @@ impl Trials {
 
     /// How many books there are, and which were left out.
     pub fn told(&self) -> String {
-        let mut told = format!("{} books in the trials", self.books);
+        let mut told = format!("{} books on the shelf", self.books);
         if !self.left_out.is_empty() {
             told += &format!(", left out: {}", self.left_out.join(", "));
         }

@@ -1,11 +1,11 @@
--- `trials::main` meets its contract: a turn that goes on leaves fewer books; what came has room in the words. Assumes nothing.
+-- `shelf::main` meets its contract: a turn that goes on leaves fewer books; what came has room in the words. Assumes nothing.
 use Prim.Native.Nat.{_-_, _≤_}
 use mathlib.Core.Path.{_≡_}
 use native.Mathlib.Omega.{arith}
 use lib.ListN.{length, length-take}
 use borrow.Author.Needs.{needs}
-use Rattle.trials.proofs.main.Statement.{statement}
-use Rattle.trials.proofs.main.Tie as tie
+use Rattle.shelf.proofs.main.Statement.{statement}
+use Rattle.shelf.proofs.main.Tie as tie
 
 abbrev Inv-loop : tie.InvT-loop
 Inv-loop words₀ books₀ t4 words books = (books ≤ 65536) × (length words ≡ 12601)
@@ -19,8 +19,8 @@ array-share-prefix-words c =
     let after-read-book : tie.After-read-book Inv-loop μ-loop = search in
     omega (arith, rw (after-n .n .given .1) at (after-read-book .read-book .ensures))
 
-slice-aggregate-trial : tie.Need-slice-aggregate-trial Inv-loop μ-loop
-slice-aggregate-trial c =
+slice-aggregate-seven-lines : tie.Need-slice-aggregate-seven-lines Inv-loop μ-loop
+slice-aggregate-seven-lines c =
     let after-n : tie.After-n Inv-loop μ-loop = search in
     let after-read-book : tie.After-read-book Inv-loop μ-loop = search in
     simp length-take (omega (arith, rw (after-n .n .given .1) at (after-read-book .read-book .ensures)))
@@ -38,8 +38,8 @@ main-spec =
     (λ c. search needs)  -- enum-told
     (λ c. search needs)  -- returns
     array-share-prefix-words
-    slice-aggregate-trial
-    (λ c κs. search needs)  -- trial-requires
+    slice-aggregate-seven-lines
+    (λ c κs. search needs)  -- seven-lines-requires
     (λ c. search needs)  -- add-books
     (λ c. search needs)  -- loop-less
     (λ c. search needs)  -- loop-again

@@ -1,7 +1,7 @@
-//! What the program `trials` is run on, and what it must print.
+//! What the program `shelf` is run on, and what it must print.
 
 use host::random::bytes_of;
-use host::trials::Trials;
+use host::shelf::Shelf;
 use std::fs;
 use std::path::{Path, PathBuf};
 
@@ -34,20 +34,20 @@ fn folder(name: &str, books: &[(&str, &[u8])]) -> PathBuf {
     folder
 }
 
-fn text(trials: &Trials) -> &str {
-    std::str::from_utf8(&trials.stdout).unwrap()
+fn text(shelf: &Shelf) -> &str {
+    std::str::from_utf8(&shelf.stdout).unwrap()
 }
 
 #[test]
 fn the_crate_is_current() {
-    let trials = Trials::of(&top().join("books")).unwrap();
-    assert_eq!(trials.left_out, [""; 0]);
-    assert_eq!(trials.check(&top().join("crates/trials")), Ok(()));
+    let shelf = Shelf::of(&top().join("books")).unwrap();
+    assert_eq!(shelf.left_out, [""; 0]);
+    assert_eq!(shelf.check(&top().join("crates/shelf")), Ok(()));
     // Seven lines a book, and each kind of answer.
-    assert_eq!(text(&trials).lines().count(), 7 * trials.books);
+    assert_eq!(text(&shelf).lines().count(), 7 * shelf.books);
     for number in 1..=12 {
         let refused = format!("refused {number} ");
-        assert!(text(&trials).contains(&refused), "{refused}");
+        assert!(text(&shelf).contains(&refused), "{refused}");
     }
 }
 
@@ -61,18 +61,18 @@ fn a_stream_of_books() {
         ("d.listing", b"1"),
     ];
     let folder = folder("stream", &books);
-    let trials = Trials::of(&folder).unwrap();
-    assert_eq!(trials.books, 2);
+    let shelf = Shelf::of(&folder).unwrap();
+    assert_eq!(shelf.books, 2);
     assert_eq!(
-        trials.stdin,
+        shelf.stdin,
         [&[0; 4], &[53, 0, 0, 0], &example[..]].concat()
     );
     let refused = "refused 1 0\n".repeat(7);
-    assert_eq!(text(&trials), refused + LINES_1);
+    assert_eq!(text(&shelf), refused + LINES_1);
     let left_out = folder.join("c.book").display().to_string();
     assert_eq!(
-        trials.told(),
-        format!("2 books in the trials, left out: {left_out}")
+        shelf.told(),
+        format!("2 books on the shelf, left out: {left_out}")
     );
 }
 
@@ -80,9 +80,9 @@ fn a_stream_of_books() {
 #[test]
 fn a_long_book() {
     let folder = folder("long", &[("a.book", &[1; 4 * 12_602])]);
-    let trials = Trials::of(&folder).unwrap();
-    assert_eq!(trials.stdin.len(), 4 + 4 * 12_601);
-    assert_eq!(trials.stdin[..4], 12_601_u32.to_le_bytes());
+    let shelf = Shelf::of(&folder).unwrap();
+    assert_eq!(shelf.stdin.len(), 4 + 4 * 12_601);
+    assert_eq!(shelf.stdin[..4], 12_601_u32.to_le_bytes());
 }
 
 /// How many parties a round has is what word 2 says, if a book may have so many; else it has one.
@@ -98,8 +98,8 @@ fn the_rounds() {
         "rounds",
         &[("a.book", &bytes_of(&words)), ("b.book", &bytes_of(&other))],
     );
-    let trials = Trials::of(&folder).unwrap();
-    let lines: Vec<&str> = text(&trials).lines().collect();
+    let shelf = Shelf::of(&folder).unwrap();
+    let lines: Vec<&str> = text(&shelf).lines().collect();
     assert_eq!(lines[1..5], ["0 0 0"; 4]);
     assert_eq!(lines[5..7], ["refused 11 3", "refused 11 4096"]);
     assert_eq!(lines[7..], ["refused 2 2"; 7]);
@@ -109,18 +109,18 @@ fn the_rounds() {
 fn stale_and_missing_files_are_named() {
     let books = folder("stale-books", &[("a.book", &bytes_of(&EXAMPLE_1))]);
     let to = folder("stale-crate", &[]);
-    let trials = Trials::of(&books).unwrap();
-    assert_eq!(trials.write(&to), Ok(()));
-    assert_eq!(trials.check(&to), Ok(()));
+    let shelf = Shelf::of(&books).unwrap();
+    assert_eq!(shelf.write(&to), Ok(()));
+    assert_eq!(shelf.check(&to), Ok(()));
     assert_eq!(fs::read_to_string(to.join("stdout")).unwrap(), LINES_1);
     fs::write(to.join("stdout"), "2 4\n").unwrap();
     fs::remove_file(to.join("stdin")).unwrap();
-    let faults = trials.check(&to).unwrap_err();
+    let faults = shelf.check(&to).unwrap_err();
     let faults: Vec<&str> = faults.lines().collect();
     let named = |file: &str| to.join(file).display().to_string();
     assert!(faults[0].starts_with(&named("stdin")), "{faults:?}");
     let stale = named("stdout") + ": stale, not what the books give";
     assert_eq!(faults[1..], [stale]);
-    assert!(Trials::of(&books.join("none")).is_err());
-    assert!(trials.write(&to.join("none")).is_err());
+    assert!(Shelf::of(&books.join("none")).is_err());
+    assert!(shelf.write(&to.join("none")).is_err());
 }

@@ -7,8 +7,8 @@ ghost use mathlib.Core.Path.{_≡_};
 ghost use Prim.Native.Nat.{_*_, _≤_, _<_};
 ghost use lib.ListN.{length};
 ghost use Rattle.words.specs.Run.{values};
-ghost use Rattle.trials.specs.Next.{Fits};
-ghost use Rattle.trials.specs.Turns.{turn, seats};
+ghost use Rattle.shelf.specs.Next.{Fits};
+ghost use Rattle.shelf.specs.Turns.{turn, seats};
 
 // What is read, lent and played at most.
 struct Most {}
@@ -159,7 +159,7 @@ fn translate(book: &[u32]) {
 
 // A book's seven lines. The last two schedules are refused: one has a party too many in its round,
 // and one a move too many.
-fn trial(book: &[u32]) {
+fn seven_lines(book: &[u32]) {
     translate(book);
     let parties = seats_of(book);
     rehearse(book, Most::MOVES, parties, 1, false);
@@ -177,7 +177,7 @@ fn main() {
         let Next::Book(n) = read_book(&mut words) else {
             return;
         };
-        trial(&words[..n]);
+        seven_lines(&words[..n]);
         books += 1;
     }
     io::write_all(STDERR_FILENO, b"no more than 65536 books are tried\n");

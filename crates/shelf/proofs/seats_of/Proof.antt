@@ -1,9 +1,9 @@
--- `trials::seats_of` meets its contract: by what the book says in word 2, and where it has no such word, it says 0. Assumes nothing.
+-- `shelf::seats_of` meets its contract: by what the book says in word 2, and where it has no such word, it says 0. Assumes nothing.
 use native.Mathlib.Omega.{arith}
 use borrow.Author.Needs.{needs}
-use Rattle.trials.specs.Turns.Laws.{no-word, seats-below, seats-above, seats-own}
-use Rattle.trials.proofs.seats_of.Statement.{statement}
-use Rattle.trials.proofs.seats_of.Tie as tie
+use Rattle.shelf.specs.Turns.Laws.{no-word, seats-below, seats-above, seats-own}
+use Rattle.shelf.proofs.seats_of.Statement.{statement}
+use Rattle.shelf.proofs.seats_of.Tie as tie
 
 returns : tie.Need-returns
 returns c =

@@ -15,7 +15,7 @@ use Rattle.words.specs.Run.Laws.{values-length, values-getD}
 use Rattle.book.specs.Layout.{parties}
 use Rattle.book.specs.Rules.{outside, countBreaks}
 use Rattle.book.specs.Rules.Laws.{outside-in}
-use Rattle.trials.specs.Turns.{turn, seats}
+use Rattle.shelf.specs.Turns.{turn, seats}
 
 -- ---- turn, where the code has the number of the parties as w, and who would move from the first on as p
 module _ (q times i : ℕ) (back : Bool) (w p : ℕ) (same : w ≡ q) (e : p ≡ i / times % w) where

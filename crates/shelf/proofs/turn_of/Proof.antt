@@ -1,10 +1,10 @@
--- `trials::turn_of` meets its contract: by the way round, `turn-on` or `turn-back`; the remainder is below the number of parties. Assumes nothing.
+-- `shelf::turn_of` meets its contract: by the way round, `turn-on` or `turn-back`; the remainder is below the number of parties. Assumes nothing.
 use mathlib.Core.Path.{refl}
 use native.Mathlib.Omega.{arith}
 use borrow.Author.Needs.{needs}
-use Rattle.trials.specs.Turns.Laws.{turn-below, turn-on, turn-back}
-use Rattle.trials.proofs.turn_of.Statement.{statement}
-use Rattle.trials.proofs.turn_of.Tie as tie
+use Rattle.shelf.specs.Turns.Laws.{turn-below, turn-on, turn-back}
+use Rattle.shelf.proofs.turn_of.Statement.{statement}
+use Rattle.shelf.proofs.turn_of.Tie as tie
 
 cast-party : tie.Need-cast-party
 cast-party c =

@@ -1,9 +1,9 @@
--- `trials::read_book` meets its contract: the words that are asked for have room in the bytes, and in the words. Assumes nothing.
+-- `shelf::read_book` meets its contract: the words that are asked for have room in the bytes, and in the words. Assumes nothing.
 use native.Mathlib.Omega.{arith}
 use lib.ListN.{length-take}
 use borrow.Author.Needs.{needs}
-use Rattle.trials.proofs.read_book.Statement.{statement}
-use Rattle.trials.proofs.read_book.Tie as tie
+use Rattle.shelf.proofs.read_book.Statement.{statement}
+use Rattle.shelf.proofs.read_book.Tie as tie
 
 pub read-book-spec : {M : Type 1} → statement M
 read-book-spec =

@@ -1,9 +1,9 @@
--- `trials::rehearse` meets its contract: so many moves have room in the schedule. Assumes nothing.
+-- `shelf::rehearse` meets its contract: so many moves have room in the schedule. Assumes nothing.
 use native.Mathlib.Omega.{arith}
 use lib.ListN.{length-take}
 use borrow.Author.Needs.{needs}
-use Rattle.trials.proofs.rehearse.Statement.{statement}
-use Rattle.trials.proofs.rehearse.Tie as tie
+use Rattle.shelf.proofs.rehearse.Statement.{statement}
+use Rattle.shelf.proofs.rehearse.Tie as tie
 
 pub rehearse-spec : {M : Type 1} → statement M
 rehearse-spec =

@@ -1,13 +1,13 @@
--- `trials::fill_turns` meets its contract: the moves that were passed are those of the turns (`filled-more`, `filled-all`). Assumes nothing.
+-- `shelf::fill_turns` meets its contract: the moves that were passed are those of the turns (`filled-more`, `filled-all`). Assumes nothing.
 use Prim.Native.Nat.{ℕ, _-_, _≤_, _<_}
 use mathlib.Core.Path.{_≡_}
 use native.Mathlib.Omega.{arith}
 use lib.ListN.{length, getD}
 use borrow.Author.Needs.{needs}
-use Rattle.trials.specs.Turns.Laws.{filled-more, filled-all}
-use Rattle.trials.specs.Turns.{turn}
-use Rattle.trials.proofs.fill_turns.Statement.{statement}
-use Rattle.trials.proofs.fill_turns.Tie as tie
+use Rattle.shelf.specs.Turns.Laws.{filled-more, filled-all}
+use Rattle.shelf.specs.Turns.{turn}
+use Rattle.shelf.proofs.fill_turns.Statement.{statement}
+use Rattle.shelf.proofs.fill_turns.Tie as tie
 
 abbrev Inv-loop : tie.InvT-loop
 Inv-loop out₀ parties times back i₀ out i = (i ≤ length out₀) × (length out ≡ length out₀) × ((k : ℕ) → k < i → getD out k 0 ≡ turn parties times back k)

@@ -26,12 +26,7 @@ type Answer = Result<usize, Refusal>;
 
 /// Times the functions that a library has on the books of a folder, on random ones and on the worst ones, and
 /// draws the growth where a file for the picture is given.
-pub fn run(
-    library: &Path,
-    books: &Path,
-    picture: Option<&Path>,
-    out: &mut dyn Write,
-) -> Result<(), String> {
+pub fn run(library: &Path, books: &Path, picture: Option<&Path>, out: &mut dyn Write) -> Result<(), String> {
     let library = Library::open(library)?;
     let groups = cases::groups(books)?;
     let mut say = |text: &str| {
@@ -69,10 +64,8 @@ pub fn run(
     if library.has_rehearse() {
         let schedules: Vec<Vec<u32>> = (1..=MOST_PARTIES).map(round_robin).collect();
         let schedule = |case: &Case| &schedules[parties(&case.words) as usize - 1];
-        let side =
-            |case: &Case, out: &mut [u32]| library.rehearse(&case.words, schedule(case), out);
-        let host =
-            |case: &Case, out: &mut [u32]| rehearse::rehearse(&case.words, schedule(case), out);
+        let side = |case: &Case, out: &mut [u32]| library.rehearse(&case.words, schedule(case), out);
+        let host = |case: &Case, out: &mut [u32]| rehearse::rehearse(&case.words, schedule(case), out);
         let lines = lines(&groups, MOST_PARTIES as usize, side, host)?;
         say(&table("rehearse, 4,096 moves in turn", &lines))?;
     } else {
@@ -88,9 +81,7 @@ fn parties(book: &[u32]) -> u32 {
 
 /// As many moves as there may be, by one party after another.
 fn round_robin(parties: u32) -> Vec<u32> {
-    (0..MOST_MOVES as u32)
-        .map(|number| number % parties)
-        .collect()
+    (0..MOST_MOVES as u32).map(|number| number % parties).collect()
 }
 
 /// A line of a table.
@@ -268,9 +259,6 @@ mod tests {
     fn moves_in_turn() {
         assert_eq!(round_robin(3)[..5], [0, 1, 2, 0, 1]);
         assert_eq!(round_robin(1).len(), MOST_MOVES);
-        assert_eq!(
-            [parties(&[]), parties(&[1, 8, 0]), parties(&[1, 8, 99])],
-            [1, 1, 16]
-        );
+        assert_eq!([parties(&[]), parties(&[1, 8, 0]), parties(&[1, 8, 99])], [1, 1, 16]);
     }
 }

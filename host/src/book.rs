@@ -74,9 +74,7 @@ impl fmt::Display for Refusal {
     /// single spaces."
     fn fmt(&self, out: &mut fmt::Formatter<'_>) -> fmt::Result {
         write!(out, "refused {}", self.number)?;
-        self.place
-            .iter()
-            .try_for_each(|word| write!(out, " {word}"))
+        self.place.iter().try_for_each(|word| write!(out, " {word}"))
     }
 }
 
@@ -169,11 +167,7 @@ pub fn read(words: &[u32]) -> Result<Book, Refusal> {
     if pool.read != pool.words.len() {
         return Err(Refusal::new(9, &[0]));
     }
-    Ok(Book {
-        rows,
-        parties,
-        steps,
-    })
+    Ok(Book { rows, parties, steps })
 }
 
 /// The four sections of a book whose header is right.
@@ -282,12 +276,7 @@ fn sizes(rows: &[Row]) -> Result<(), Refusal> {
             OPERATION => 3,
             _ => 1,
         };
-        let size = own
-            + row
-                .parts
-                .iter()
-                .map(|part| sizes[*part as usize])
-                .sum::<u32>();
+        let size = own + row.parts.iter().map(|part| sizes[*part as usize]).sum::<u32>();
         if size > MOST_SIZE {
             return Err(Refusal::new(5, &[number as u32]));
         }

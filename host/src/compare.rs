@@ -41,16 +41,12 @@ pub fn files(program: &str, paths: &[PathBuf], out: &mut dyn Write) -> Result<bo
 pub fn random(program: &str, seed: u64, count: usize, out: &mut dyn Write) -> Result<bool, String> {
     let folder = std::env::temp_dir().join(format!("books-{seed}-{count}-{}", process::id()));
     say(out, &format!("seed {seed}, {count} random books"))?;
-    let same = random::write(seed, count, &folder)
-        .and_then(|()| files(program, std::slice::from_ref(&folder), out));
+    let same = random::write(seed, count, &folder).and_then(|()| files(program, std::slice::from_ref(&folder), out));
     let removed = fs::remove_dir_all(&folder);
     let same = same?;
     removed.map_err(|error| format!("{}: {error}", folder.display()))?;
     if !same {
-        say(
-            out,
-            &format!("host random {seed} {count} DIR writes the same books"),
-        )?;
+        say(out, &format!("host random {seed} {count} DIR writes the same books"))?;
     }
     Ok(same)
 }
@@ -61,10 +57,7 @@ pub fn folder(path: &Path) -> Result<Vec<PathBuf>, String> {
     let mut books = Vec::new();
     for entry in fs::read_dir(path).map_err(told)? {
         let file = entry.map_err(told)?.path();
-        if file
-            .extension()
-            .is_some_and(|extension| extension == "book")
-        {
+        if file.extension().is_some_and(|extension| extension == "book") {
             books.push(file);
         }
     }
@@ -125,10 +118,7 @@ fn report(books: &[PathBuf], answers: &[Answer], out: &mut dyn Write) -> Result<
         if answer.expected != answer.got {
             differences += 1;
             let (expected, got) = (short(&answer.expected), short(&answer.got));
-            let difference = format!(
-                "{}\n  expected {expected}\n  got      {got}",
-                book.display()
-            );
+            let difference = format!("{}\n  expected {expected}\n  got      {got}", book.display());
             say(out, &difference)?;
         }
     }

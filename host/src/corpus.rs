@@ -71,11 +71,7 @@ pub fn check(dir: &Path) -> Result<usize, String> {
             Err(fault) => faults.push(fault),
         }
     }
-    faults.extend(
-        stray
-            .iter()
-            .map(|file| format!("{file}: stray, no source gives it")),
-    );
+    faults.extend(stray.iter().map(|file| format!("{file}: stray, no source gives it")));
     finish(faults, folder.sources.len())
 }
 
@@ -110,9 +106,7 @@ impl Folder {
             others: BTreeSet::new(),
         };
         for file in files {
-            let source = [".narration", ".words"]
-                .iter()
-                .find_map(|end| file.strip_suffix(end));
+            let source = [".narration", ".words"].iter().find_map(|end| file.strip_suffix(end));
             match source.map(String::from) {
                 None => {
                     folder.others.insert(file);

@@ -134,14 +134,7 @@ impl<'p> Machine<'p> {
         let receiver = self.receivers.get(step as usize);
         let next = receiver.and_then(|receiver| self.next(*receiver));
         match (next, self.sent.get(&step)) {
-            (
-                Some(Event::Receive {
-                    step: own,
-                    first,
-                    n,
-                }),
-                Some(messages),
-            ) if *own == step => {
+            (Some(Event::Receive { step: own, first, n }), Some(messages)) if *own == step => {
                 if messages.len() == *n as usize {
                     Outcome::Bound(*first, messages.clone())
                 } else {
@@ -227,9 +220,7 @@ impl Player {
     /// The term of an image; nothing where the party hasn't what the image names, which a
     /// translated program never asks for.
     pub fn term(&self, image: &Image) -> Option<Term> {
-        let all = |images: &[Image]| -> Option<Vec<Term>> {
-            images.iter().map(|image| self.term(image)).collect()
-        };
+        let all = |images: &[Image]| -> Option<Vec<Term>> { images.iter().map(|image| self.term(image)).collect() };
         Some(match image {
             Image::Itself(row) => self.itself.get(row)?.clone(),
             Image::Placeholder(number) => self.bound.get(number)?.clone(),

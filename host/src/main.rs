@@ -1,7 +1,7 @@
 //! The commands of the second implementation.
 
-use host::translate;
 use host::shelf::Shelf;
+use host::translate;
 use host::{bench, compare, corpus, narration, random, rehearse, show};
 use std::fs::{self, File};
 use std::io::{self, Read, Write};
@@ -32,10 +32,7 @@ fn main() -> ExitCode {
         .map(|argument| argument.to_string_lossy().into_owned())
         .collect();
     let worker = thread::Builder::new().stack_size(STACK);
-    let outcome = match worker
-        .spawn(move || run(&arguments))
-        .map(|worker| worker.join())
-    {
+    let outcome = match worker.spawn(move || run(&arguments)).map(|worker| worker.join()) {
         Ok(Ok(outcome)) => outcome,
         Ok(Err(_)) => Err("the command came to grief".to_string()),
         Err(error) => Err(format!("no thread for the command: {error}")),
@@ -122,9 +119,7 @@ fn run(arguments: &[String]) -> Result<bool, String> {
             bench::run(library, books, plot, &mut io::stdout())?;
         }
         [command, ..] => {
-            return Err(format!(
-                "what is asked with `{command}` isn't clear\n\n{USE}"
-            ));
+            return Err(format!("what is asked with `{command}` isn't clear\n\n{USE}"));
         }
     }
     Ok(true)

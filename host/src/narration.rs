@@ -63,11 +63,7 @@ pub fn narrate(text: &str) -> Result<Book, Mistake> {
 }
 
 /// The name's row comes before the rows of what the party knows.
-fn party<'a>(
-    table: &mut Table<'a>,
-    terms: &[Written<'a>],
-    line: &PartyLine<'a>,
-) -> Result<Party, Mistake> {
+fn party<'a>(table: &mut Table<'a>, terms: &[Written<'a>], line: &PartyLine<'a>) -> Result<Party, Mistake> {
     let name = table.atom(line.name, line.spot)?;
     let mut known = Vec::new();
     let mut seen = HashSet::new();
@@ -94,11 +90,7 @@ fn step<'a>(
     let receiver = number(numbers, line.receiver)?;
     if sender == receiver {
         let found = format!("`{}` again", line.receiver.0);
-        return Err(mistake(
-            line.receiver.1,
-            "a receiver other than the sender",
-            &found,
-        ));
+        return Err(mistake(line.receiver.1, "a receiver other than the sender", &found));
     }
     let mut messages = Vec::new();
     for term in &line.messages {

@@ -69,13 +69,7 @@ pub fn well_formed(seed: u64, count: usize, size: usize) -> impl Iterator<Item =
 }
 
 /// Random books that can be played, with so many rows and steps and, where there are names for them, parties.
-pub fn playable(
-    seed: u64,
-    count: usize,
-    rows: usize,
-    parties: usize,
-    steps: usize,
-) -> impl Iterator<Item = Book> {
+pub fn playable(seed: u64, count: usize, rows: usize, parties: usize, steps: usize) -> impl Iterator<Item = Book> {
     (0..count).map(move |number| shape::playable_of(&mut at(seed, number), rows, parties, steps))
 }
 

@@ -23,9 +23,7 @@ pub fn rehearse(words: &[u32], schedule: &[u32], out: &mut [u32]) -> Result<usiz
     for party in schedule {
         machine.move_party(*party);
     }
-    let done: Vec<u32> = (machine.players.iter())
-        .map(|player| player.done as u32)
-        .collect();
+    let done: Vec<u32> = (machine.players.iter()).map(|player| player.done as u32).collect();
     translate::lend(&done, out)
 }
 

@@ -72,10 +72,7 @@ impl Shelf {
             let file = folder.join(name);
             match fs::read(&file) {
                 Ok(found) if found == *content => (),
-                Ok(_) => faults.push(format!(
-                    "{}: stale, not what the books give",
-                    file.display()
-                )),
+                Ok(_) => faults.push(format!("{}: stale, not what the books give", file.display())),
                 Err(error) => faults.push(format!("{}: {error}", file.display())),
             }
         }
@@ -100,9 +97,7 @@ impl Shelf {
 /// with a move too many. A book that can't have so many parties as it says has schedules for one.
 fn schedules(book: &[u8]) -> [Vec<u32>; 6] {
     let said = book.get(8..12).map_or(0, |word| {
-        word.iter()
-            .rev()
-            .fold(0, |n, byte| 256 * n + u32::from(*byte))
+        word.iter().rev().fold(0, |n, byte| 256 * n + u32::from(*byte))
     });
     let parties = match said {
         1..=book::MOST_PARTIES => said,

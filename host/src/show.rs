@@ -77,11 +77,7 @@ fn party_line(party: &Party, texts: &Texts, out: &mut String) {
 
 fn step_line(step: &Step, book: &Book, texts: &Texts, out: &mut String) {
     let name = |party: u32| texts.row(book.parties[party as usize].name);
-    out.push_str(&format!(
-        "{} -> {}:",
-        name(step.sender),
-        name(step.receiver)
-    ));
+    out.push_str(&format!("{} -> {}:", name(step.sender), name(step.receiver)));
     if !step.messages.is_empty() {
         out.push(' ');
         texts.list(&step.messages, out);
@@ -90,14 +86,7 @@ fn step_line(step: &Step, book: &Book, texts: &Texts, out: &mut String) {
 }
 
 /// Refusal 10 stands right under its step.
-fn mark_step(
-    refusal: &Refusal,
-    number: usize,
-    step: &Step,
-    book: &Book,
-    texts: &Texts,
-    out: &mut String,
-) {
+fn mark_step(refusal: &Refusal, number: usize, step: &Step, book: &Book, texts: &Texts, out: &mut String) {
     let &[at, row] = &refusal.place[..] else {
         return;
     };

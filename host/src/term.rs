@@ -114,8 +114,7 @@ impl Shared {
 impl PartialEq for Shared {
     /// Equal digests prove nothing; the forms decide.
     fn eq(&self, other: &Shared) -> bool {
-        Rc::ptr_eq(&self.0, &other.0)
-            || (self.0.digest == other.0.digest && self.0.form == other.0.form)
+        Rc::ptr_eq(&self.0, &other.0) || (self.0.digest == other.0.digest && self.0.form == other.0.form)
     }
 }
 

@@ -66,15 +66,11 @@ impl Dictionary {
         if let Some(entry) = self.images.get(term) {
             return Some(entry.clone());
         }
-        let all = |parts: &[Shared]| -> Option<Vec<Image>> {
-            parts.iter().map(|part| self.image(part)).collect()
-        };
+        let all = |parts: &[Shared]| -> Option<Vec<Image>> { parts.iter().map(|part| self.image(part)).collect() };
         Some(match term.form() {
             Form::Atom(_) => return None,
             Form::Operation(tag, arguments) => Image::Operation(*tag, all(arguments)?),
-            Form::Cipher(key, contents) => {
-                Image::Cipher(Box::new(self.image(key)?), all(contents)?)
-            }
+            Form::Cipher(key, contents) => Image::Cipher(Box::new(self.image(key)?), all(contents)?),
             Form::Public(part) => Image::Public(Box::new(self.image(part)?)),
             Form::Private(part) => Image::Private(Box::new(self.image(part)?)),
         })
@@ -127,9 +123,7 @@ impl Side {
         }
         Ok(match term.form() {
             Form::Atom(row) => self.make(*row, term, taken)?,
-            Form::Operation(tag, arguments) => {
-                Image::Operation(*tag, self.build_all(arguments, taken)?)
-            }
+            Form::Operation(tag, arguments) => Image::Operation(*tag, self.build_all(arguments, taken)?),
             Form::Cipher(key, contents) => {
                 let key = Box::new(self.build(key, taken)?);
                 Image::Cipher(key, self.build_all(contents, taken)?)
@@ -252,12 +246,8 @@ impl Translation {
         let messages: Vec<Shared> = step.messages.iter().map(message).collect();
 
         let sender = &mut self.sides[step.sender as usize];
-        let images = (sender.build_all(&messages, &self.taken))
-            .map_err(|atom| Refusal::new(10, &[number, atom]))?;
-        sender.events.push(Event::Send {
-            step: number,
-            images,
-        });
+        let images = (sender.build_all(&messages, &self.taken)).map_err(|atom| Refusal::new(10, &[number, atom]))?;
+        sender.events.push(Event::Send { step: number, images });
 
         let receiver = &mut self.sides[step.receiver as usize];
         let first = receiver.placeholders(messages.len());
@@ -276,9 +266,7 @@ impl Translation {
     /// storing".
     pub fn end(self) -> Vec<Program> {
         let end = |mut side: Side| {
-            side.events.push(Event::End {
-                stored: side.stored,
-            });
+            side.events.push(Event::End { stored: side.stored });
             side.events
         };
         self.sides.into_iter().map(end).collect()

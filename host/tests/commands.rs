@@ -121,13 +121,7 @@ fn random_books() {
     assert_eq!(printed(&["random", "7", "12", &books]), "");
     let mut names: Vec<String> = fs::read_dir(&books)
         .expect("the folder")
-        .map(|entry| {
-            entry
-                .expect("a file")
-                .file_name()
-                .to_string_lossy()
-                .into_owned()
-        })
+        .map(|entry| entry.expect("a file").file_name().to_string_lossy().into_owned())
         .collect();
     names.sort();
     let expected: Vec<String> = (0..12).map(|number| format!("{number:05}.book")).collect();
@@ -199,10 +193,7 @@ fn shelf() {
     let at = folder.path("");
     let said = |done: &str| format!("1 books on the shelf, {done} {at}\n");
     assert_eq!(printed(&["shelf", &at, &at]), said("written to"));
-    assert_eq!(
-        printed(&["shelf", "--check", &at, &at]),
-        said("current in")
-    );
+    assert_eq!(printed(&["shelf", "--check", &at, &at]), said("current in"));
     let lines = fs::read_to_string(folder.path("stdout")).expect("the lines");
     assert_eq!(lines.lines().nth(1), Some("2 4"));
     folder.file("stdin", b"");
@@ -224,13 +215,8 @@ fn closed_pipe() {
     ] {
         let (reader, writer) = std::io::pipe().expect("a pipe");
         drop(reader);
-        let child = host(arguments)
-            .stdout(writer)
-            .stderr(Stdio::piped())
-            .spawn();
-        let answer = child
-            .and_then(|child| child.wait_with_output())
-            .expect("it ends");
+        let child = host(arguments).stdout(writer).stderr(Stdio::piped()).spawn();
+        let answer = child.and_then(|child| child.wait_with_output()).expect("it ends");
         let message = String::from_utf8_lossy(&answer.stderr).into_owned();
         assert_eq!(answer.status.code(), Some(2), "{message}");
         assert!(message.starts_with("host: standard output"), "{message}");

@@ -21,10 +21,7 @@ fn programs_right_and_wrong() {
     };
     let compare = |arguments: &[&str]| -> Output {
         let mut command = Command::new(host);
-        command
-            .arg("compare")
-            .args(arguments)
-            .env("TMPDIR", &folder);
+        command.arg("compare").args(arguments).env("TMPDIR", &folder);
         command.output().expect("the command runs")
     };
     let last = |output: &Output| -> String {
@@ -58,10 +55,7 @@ fn programs_right_and_wrong() {
         let differs = compare(&[&wrong, &books]);
         assert_eq!(differs.status.code(), Some(1), "{text}");
         let told = String::from_utf8_lossy(&differs.stdout).into_owned();
-        assert!(
-            told.contains("expected") && told.contains("00000.book"),
-            "{told}"
-        );
+        assert!(told.contains("expected") && told.contains("00000.book"), "{told}");
         assert!(!last(&differs).contains(", 0 differences"));
         let differs = compare(&[&wrong, "--random", "5", "20"]);
         assert_eq!(differs.status.code(), Some(1), "{text}");
@@ -73,9 +67,7 @@ fn programs_right_and_wrong() {
     assert_eq!(missing.status.code(), Some(2));
     assert!(missing.stderr.starts_with(b"host: ./no-such-program: "));
     assert_eq!(
-        compare(&["./no-such-program", "--random", "5", "3"])
-            .status
-            .code(),
+        compare(&["./no-such-program", "--random", "5", "3"]).status.code(),
         Some(2)
     );
     let left = fs::read_dir(&folder).expect("the folder").filter(|entry| {

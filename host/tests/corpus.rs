@@ -86,10 +86,7 @@ const TRIALS: &[(&str, &str)] = &[
          1 3 2 0 1 0 3 3 1 0 1 4 0 3 2 0 2 0 3 0 1 6 0",
     ),
     ("unplayable-unopened-nonce", "refused 10 1 3"),
-    (
-        "trial-public-half",
-        "2 5 10 15 8 1 2 2 0 1 4 0 2 6 0 3 0 0 1 6 1 3 0",
-    ),
+    ("trial-public-half", "2 5 10 15 8 1 2 2 0 1 4 0 2 6 0 3 0 0 1 6 1 3 0"),
     (
         "trial-partner-no-row",
         "2 5 15 20 13 3 0 0 1 5 0 1 1 5 0 1 6 1 4 1 1 4 2 0 1 3 1 0 3 0 4 6 0",
@@ -192,20 +189,11 @@ fn stale_and_stray_files_are_named() {
     let faults: Vec<&str> = faults.lines().collect();
     assert_eq!(faults[0], "two.words: a second source of one book");
     assert!(faults[1].starts_with("one.book: "), "{faults:?}");
-    assert_eq!(
-        faults[2],
-        "one.listing: stale, not what one.narration gives"
-    );
+    assert_eq!(faults[2], "one.listing: stale, not what one.narration gives");
     let unknown = "expected a party's name, found `B`, which no party line declares";
-    assert_eq!(
-        faults[3],
-        format!("three.narration: line 2, column 6: {unknown}")
-    );
+    assert_eq!(faults[3], format!("three.narration: line 2, column 6: {unknown}"));
     assert_eq!(faults[4], "two.book: stale, not what two.narration gives");
-    assert_eq!(
-        faults[5],
-        "two.listing: stale, not what two.narration gives"
-    );
+    assert_eq!(faults[5], "two.listing: stale, not what two.narration gives");
     assert_eq!(faults[6], "three.listing: stray, no source gives it");
     assert_eq!(faults.len(), 7);
     assert!(check(&dir.join("none")).is_err());

@@ -24,11 +24,7 @@ struct Narration {
 impl Narration {
     fn of(book: &Book, programs: &[Program]) -> Result<Narration, String> {
         let terms = |rows: &[u32]| rows.iter().map(|row| book.term(*row)).collect();
-        let steps: Vec<Vec<Term>> = book
-            .steps
-            .iter()
-            .map(|step| terms(&step.messages))
-            .collect();
+        let steps: Vec<Vec<Term>> = book.steps.iter().map(|step| terms(&step.messages)).collect();
         let mut present = BTreeSet::new();
         for party in &book.parties {
             present.insert(party.name);
@@ -61,10 +57,7 @@ fn there(program: &Program, steps: &[Vec<Term>]) -> Result<BTreeMap<u32, Term>, 
         let (first, n, terms) = match event {
             Event::Receive { step, first, n } => (*first, *n, steps[*step as usize].clone()),
             Event::Open {
-                placeholder,
-                first,
-                n,
-                ..
+                placeholder, first, n, ..
             } => match there.get(placeholder) {
                 Some(Term::Cipher(_, contents)) => (*first, *n, contents.clone()),
                 other => return Err(format!("{other:?} is opened")),
@@ -223,9 +216,7 @@ fn a_move_of_the_rehearsal() {
             };
             assert_eq!(moved, same);
         }
-        let done = |machine: &Machine| -> Vec<usize> {
-            machine.players.iter().map(|player| player.done).collect()
-        };
+        let done = |machine: &Machine| -> Vec<usize> { machine.players.iter().map(|player| player.done).collect() };
         assert_eq!(done(&one), done(&other));
         assert_eq!(one.sent, other.sent);
     }
@@ -321,11 +312,7 @@ fn broken(book: &Book, programs: &[Program]) -> String {
 fn wrong_by_making_what_is_missing() {
     // Row 5 is {3}2, which B stores; then B would have to make row 3 to send it.
     let cipher = row(2, 0, &[2, 3]);
-    let book = small(
-        &[cipher],
-        [&[0, 1, 2], &[0, 1]],
-        &[step(0, 1, &[5]), step(1, 0, &[3])],
-    );
+    let book = small(&[cipher], [&[0, 1, 2], &[0, 1]], &[step(0, 1, &[5]), step(1, 0, &[3])]);
     let refusal = translate::programs(&book).expect_err("row 3 is taken");
     assert_eq!((refusal.number, refusal.place), (10, vec![1, 3]));
 

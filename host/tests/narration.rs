@@ -35,8 +35,8 @@ fn the_whole_trial() {
         B -> A: N\n\
         A -> B: {N, B}K\n";
     let words = [
-        5, 8, 2, 28, 2, 34, 11, 42, 0, 0, 0, 0, 0, 0, 0, 0, 0, 0, 0, 0, 0, 0, 0, 0, 2, 0, 0, 3, 0,
-        3, 3, 1, 6, 3, 1, 0, 9, 1, 0, 1, 10, 1, 2, 3, 1, 0, 1, 2, 0, 1, 2, 3, 4,
+        5, 8, 2, 28, 2, 34, 11, 42, 0, 0, 0, 0, 0, 0, 0, 0, 0, 0, 0, 0, 0, 0, 0, 0, 2, 0, 0, 3, 0, 3, 3, 1, 6, 3, 1, 0,
+        9, 1, 0, 1, 10, 1, 2, 3, 1, 0, 1, 2, 0, 1, 2, 3, 4,
     ];
     assert_eq!(narrate(text).unwrap().words(), words);
 }
@@ -60,23 +60,11 @@ fn forms_of_terms() {
     // A key may be any term.
     assert_eq!(
         rows("{N}{M}K"),
-        [
-            atom(),
-            atom(),
-            row(2, 0, &[1, 2]),
-            atom(),
-            row(2, 0, &[3, 4])
-        ]
+        [atom(), atom(), row(2, 0, &[1, 2]), atom(), row(2, 0, &[3, 4])]
     );
     assert_eq!(
         rows("{N}f(K)-"),
-        [
-            atom(),
-            row(1, 0, &[1]),
-            row(4, 0, &[2]),
-            atom(),
-            row(2, 0, &[3, 4])
-        ]
+        [atom(), row(1, 0, &[1]), row(4, 0, &[2]), atom(), row(2, 0, &[3, 4])]
     );
 }
 
@@ -85,13 +73,7 @@ fn rows_in_the_order_of_appearance() {
     // Parts before their row, a key before the contents, and no term twice.
     assert_eq!(
         rows("{N, f(M)}K, M, f(M), {N, f(M)}K"),
-        [
-            atom(),
-            atom(),
-            atom(),
-            row(1, 0, &[3]),
-            row(2, 0, &[1, 2, 4])
-        ]
+        [atom(), atom(), atom(), row(1, 0, &[3]), row(2, 0, &[1, 2, 4])]
     );
     // A party's name before what it knows; known rows sorted.
     let book = narrate("party A knows g(X, Y), Y, A\nparty B\nB -> A: B, Z\nA -> B:\n").unwrap();
@@ -102,10 +84,7 @@ fn rows_in_the_order_of_appearance() {
                 name: 0,
                 known: vec![0, 2, 3],
             },
-            Party {
-                name: 4,
-                known: vec![],
-            },
+            Party { name: 4, known: vec![] },
         ],
         steps: vec![
             Step {
@@ -131,10 +110,7 @@ fn tags_of_operations() {
     // Other names keep clear of every opN of the text, also of later ones.
     assert_eq!(tags("f(), op0(), g(), op2()"), [1, 0, 3, 2]);
     // No opN: a leading zero, a number out of range, no number, more than a number.
-    assert_eq!(
-        tags("op00(), op65536(), op(), op1x(), op1()"),
-        [0, 2, 3, 4, 1]
-    );
+    assert_eq!(tags("op00(), op65536(), op(), op1x(), op1()"), [0, 2, 3, 4, 1]);
     // An atom of that name takes no tag, and may share an operation's name.
     assert_eq!(tags("op0, f(), f"), [0, 0, 0]);
     // The order of names is that of the text: the contents stand before the key there.
@@ -334,18 +310,12 @@ fn the_pool_is_bounded() {
     // One message, and one row, over it.
     let step = format!("{}party B\nA -> B: B, 0\n", text(191));
     assert_eq!(
-        (
-            narrate(&step).unwrap_err().line,
-            narrate(&step).unwrap_err().column
-        ),
+        (narrate(&step).unwrap_err().line, narrate(&step).unwrap_err().column),
         (1003, 12)
     );
     let row = format!("{}party B\nA -> B: {{}}{{}}K\n", text(191));
     assert_eq!(
-        (
-            narrate(&row).unwrap_err().line,
-            narrate(&row).unwrap_err().column
-        ),
+        (narrate(&row).unwrap_err().line, narrate(&row).unwrap_err().column),
         (1003, 9)
     );
 }
@@ -370,16 +340,9 @@ fn nesting_deeper_than_any_stack() {
         ("(", "K", ")-"),
     ] {
         let mistake = term(begin, middle, end).unwrap_err();
-        assert!(mistake
-            .message
-            .starts_with("expected a term of size at most 1024"));
+        assert!(mistake.message.starts_with("expected a term of size at most 1024"));
     }
-    for (begin, middle, end) in [
-        ("(", "", ""),
-        ("f(", "N", ""),
-        ("{", "N", "}"),
-        ("{}", "", ""),
-    ] {
+    for (begin, middle, end) in [("(", "", ""), ("f(", "N", ""), ("{", "N", "}"), ("{}", "", "")] {
         assert!(term(begin, middle, end).is_err());
     }
 }
@@ -391,8 +354,8 @@ fn pick(random: &mut Random, from: &[&'static str]) -> &'static str {
 /// A random text, most of them close to narrations.
 fn text(random: &mut Random) -> String {
     const PIECES: [&str; 24] = [
-        "A", "B", "K", "N", "f(", "op1(", "{", "}", "}K", "(", ")", ",", ", ", "+", "-", "->", ":",
-        " ", "#", "party", "knows", "rows", "\n", "f()",
+        "A", "B", "K", "N", "f(", "op1(", "{", "}", "}K", "(", ")", ",", ", ", "+", "-", "->", ":", " ", "#", "party",
+        "knows", "rows", "\n", "f()",
     ];
     let mut text = String::new();
     if random.percent(80) {
@@ -400,10 +363,7 @@ fn text(random: &mut Random) -> String {
     }
     for _ in 0..random.below(4) {
         if random.percent(80) {
-            text.push_str(pick(
-                random,
-                &["A -> B: ", "B -> A: ", "rows ", "party C knows "],
-            ));
+            text.push_str(pick(random, &["A -> B: ", "B -> A: ", "rows ", "party C knows "]));
         }
         if random.percent(70) {
             term(random, 4, &mut text);
@@ -463,10 +423,7 @@ fn accepted_texts_are_books() {
             }
             Err(mistake) => {
                 let line = text.split('\n').nth(mistake.line - 1).expect(&text);
-                assert!(
-                    mistake.column <= line.chars().count() + 1,
-                    "{text}\n{mistake}"
-                );
+                assert!(mistake.column <= line.chars().count() + 1, "{text}\n{mistake}");
                 assert!(mistake.message.starts_with("expected "), "{mistake}");
                 assert!(mistake.message.contains(", found "), "{mistake}");
             }

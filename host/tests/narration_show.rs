@@ -103,10 +103,7 @@ party A
 
 #[test]
 fn refused_words() {
-    assert_eq!(
-        show(&[1, 2]),
-        "# words: 1 2\n# refused 1 at 0: 2 words, fewer than 8\n"
-    );
+    assert_eq!(show(&[1, 2]), "# words: 1 2\n# refused 1 at 0: 2 words, fewer than 8\n");
     assert_eq!(
         show(&[1, 8, 0, 12, 0, 12, 0, 12]),
         "\
@@ -123,8 +120,7 @@ fn refused_words() {
 "
     );
     let words = [
-        2, 8, 2, 16, 1, 22, 3, 26, 0, 0, 0, 0, 1, 7, 0, 2, 0, 2, 0, 0, 2, 0, 0, 1, 2, 4000000000,
-        0, 0, 1,
+        2, 8, 2, 16, 1, 22, 3, 26, 0, 0, 0, 0, 1, 7, 0, 2, 0, 2, 0, 0, 2, 0, 0, 1, 2, 4000000000, 0, 0, 1,
     ];
     let text = show(&words);
     let (_, sections) = text.split_once("# length: 29\n").unwrap();
@@ -165,31 +161,16 @@ fn tables_of_any_order_come_back() {
         let mut sizes: Vec<usize> = Vec::new();
         let count = random.between(2, 40);
         while book.rows.len() < count {
-            let kind = if book.rows.is_empty() {
-                0
-            } else {
-                random.below(5)
-            };
+            let kind = if book.rows.is_empty() { 0 } else { random.below(5) };
             let n = [0, random.below(4), random.between(1, 4), 1, 1][kind];
-            let parts: Vec<u32> = (0..n)
-                .map(|_| random.below(book.rows.len()) as u32)
-                .collect();
-            let tag = if kind == 1 {
-                random.below(3) as u32 * 32767
-            } else {
-                0
-            };
+            let parts: Vec<u32> = (0..n).map(|_| random.below(book.rows.len()) as u32).collect();
+            let tag = if kind == 1 { random.below(3) as u32 * 32767 } else { 0 };
             let row = Row {
                 kind: kind as u32,
                 tag,
                 parts,
             };
-            let size = [2, 3, 2, 1, 1][kind]
-                + row
-                    .parts
-                    .iter()
-                    .map(|part| sizes[*part as usize])
-                    .sum::<usize>();
+            let size = [2, 3, 2, 1, 1][kind] + row.parts.iter().map(|part| sizes[*part as usize]).sum::<usize>();
             if size <= 1024 && (kind == 0 || !book.rows.contains(&row)) {
                 book.rows.push(row);
                 sizes.push(size);
@@ -208,9 +189,7 @@ fn tables_of_any_order_come_back() {
         for _ in 0..if parties == 1 { 0 } else { random.below(5) } {
             let sender = random.below(parties);
             let receiver = (sender + random.between(1, parties - 1)) % parties;
-            let messages = (0..random.below(9))
-                .map(|_| random.below(count) as u32)
-                .collect();
+            let messages = (0..random.below(9)).map(|_| random.below(count) as u32).collect();
             book.steps.push(Step {
                 sender: sender as u32,
                 receiver: receiver as u32,
@@ -267,11 +246,7 @@ fn the_heaviest_table_comes_back() {
 /// Words of all kinds are shown, and refused ones in comments alone with one mark.
 #[test]
 fn nothing_that_is_shown_panics() {
-    let mark = |text: &str| {
-        text.lines()
-            .filter(|line| line.starts_with("# refused "))
-            .count()
-    };
+    let mark = |text: &str| text.lines().filter(|line| line.starts_with("# refused ")).count();
     let mut refused = [0; 13];
     let mut see = |words: &[u32]| {
         let text = show(words);
@@ -281,10 +256,7 @@ fn nothing_that_is_shown_panics() {
                 refused[refusal.number as usize] += 1;
                 assert!(text.lines().all(|line| line.starts_with('#')), "{text}");
                 assert!(!text.contains("its rule is broken"), "{text}");
-                assert!(
-                    text.contains(&format!("# refused {} at ", refusal.number)),
-                    "{text}"
-                );
+                assert!(text.contains(&format!("# refused {} at ", refusal.number)), "{text}");
                 assert_eq!(mark(&text), 1, "{text}");
             }
         }
@@ -309,9 +281,6 @@ fn nothing_that_is_shown_panics() {
         see(&words);
     }
     for number in 1..10 {
-        assert!(
-            refused[number] > 0,
-            "refusal {number} was not met: {refused:?}"
-        );
+        assert!(refused[number] > 0, "refusal {number} was not met: {refused:?}");
     }
 }

@@ -41,10 +41,7 @@ fn every_answer_occurs() {
     // Of the well-formed ones about half are playable.
     let playable = counts[&0] + counts[&12];
     let share = 100 * playable / (playable + counts[&10]);
-    assert!(
-        (40..=75).contains(&share),
-        "{share} of a hundred are playable"
-    );
+    assert!((40..=75).contains(&share), "{share} of a hundred are playable");
 }
 
 #[test]

@@ -226,11 +226,7 @@ fn refusal_5() {
     // Sizes 2, then 1 and 9 times the one before, and so on.
     let nine = [0; 9];
     let mut book = Book {
-        rows: vec![
-            row(0, 0, &[]),
-            row(2, 0, &nine),
-            row(2, 0, &nine.map(|_| 1)),
-        ],
+        rows: vec![row(0, 0, &[]), row(2, 0, &nine), row(2, 0, &nine.map(|_| 1))],
         parties: vec![party(0, &[])],
         steps: vec![],
     };
@@ -394,10 +390,7 @@ fn refusal_9() {
     words.push(MAX);
     assert_eq!(refused(&words), Some((9, vec![0])));
     // The last step's count may fall short of the pool.
-    all(&[
-        (&[(step_at(2) + 3, 1)], 9, 0),
-        (&[(step_at(2) + 3, 0)], 9, 0),
-    ]);
+    all(&[(&[(step_at(2) + 3, 1)], 9, 0), (&[(step_at(2) + 3, 0)], 9, 0)]);
     // Before refusal 10: step 2 would have B make K.
     let mut book = sound();
     book.parties[1].known = vec![1];
@@ -442,11 +435,7 @@ fn refusal_10() {
     );
     assert_eq!(taken(&sent), Some((10, vec![2, 4])));
     // Not in an earlier message of the same step, nor of its own making.
-    let same = three(
-        &inside,
-        nothing,
-        &[step(0, 1, &[8, 4, 7]), step(0, 2, &[4, 3])],
-    );
+    let same = three(&inside, nothing, &[step(0, 1, &[8, 4, 7]), step(0, 2, &[4, 3])]);
     assert_eq!(taken(&same), None);
     // Received by itself, it is held.
     let held = three(&[], nothing, &[step(0, 1, &[4]), step(1, 2, &[4])]);
@@ -455,11 +444,7 @@ fn refusal_10() {
     // to right, parts first, a cipher's key before its contents. Making what isn't taken goes on.
     let rows = [row(2, 0, &[3, 4]), row(1, 0, &[5, 4, 3])];
     let both: [&[u32]; 3] = [&[], &[], &[3, 4]];
-    let key = three(
-        &rows,
-        both,
-        &[step(2, 1, &[]), step(0, 1, &[6]), step(1, 0, &[7])],
-    );
+    let key = three(&rows, both, &[step(2, 1, &[]), step(0, 1, &[6]), step(1, 0, &[7])]);
     assert_eq!(taken(&key), Some((10, vec![1, 3])));
     let later = three(&rows, both, &[step(0, 1, &[5, 7, 6])]);
     assert_eq!(taken(&later), Some((10, vec![0, 4])));

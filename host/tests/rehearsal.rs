@@ -106,9 +106,7 @@ fn random_books_to_their_end() {
         };
         let counts: Vec<u32> = programs.iter().map(|own| own.len() as u32 - 1).collect();
         let ends = programs.iter().map(|own| own.last());
-        assert!(ends
-            .into_iter()
-            .all(|last| matches!(last, Some(Event::End { .. }))));
+        assert!(ends.into_iter().all(|last| matches!(last, Some(Event::End { .. }))));
         let parties = book.parties.len() as u32;
         let rounds = counts.iter().sum::<u32>();
         let mut schedule = (0..parties).collect::<Vec<u32>>().repeat(rounds as usize);

@@ -87,18 +87,14 @@ impl Side {
             }
         }
         self.stored.push((row_of(book, term), placeholder));
-        self.held
-            .push((term.clone(), Image::Placeholder(placeholder)));
+        self.held.push((term.clone(), Image::Placeholder(placeholder)));
     }
 }
 
 fn plainly(book: &Book) -> Result<Vec<Program>, Refusal> {
     let mut sides: Vec<Side> = Vec::new();
     for party in &book.parties {
-        let known = party
-            .known
-            .iter()
-            .map(|row| (book.term(*row), Image::Itself(*row)));
+        let known = party.known.iter().map(|row| (book.term(*row), Image::Itself(*row)));
         sides.push(Side {
             held: known.collect(),
             ..Side::default()
@@ -122,20 +118,13 @@ fn plainly(book: &Book) -> Result<Vec<Program>, Refusal> {
             made.map_err(|atom| Refusal::new(10, &[number, atom]))?;
             images.push(sender.image(message));
         }
-        let step_sent = Event::Send {
-            step: number,
-            images,
-        };
+        let step_sent = Event::Send { step: number, images };
         sender.events.push(step_sent);
 
         let receiver = &mut sides[step.receiver as usize];
         let (first, n) = (receiver.next, messages.len() as u32);
         receiver.next += n;
-        receiver.events.push(Event::Receive {
-            step: number,
-            first,
-            n,
-        });
+        receiver.events.push(Event::Receive { step: number, first, n });
         for (message, placeholder) in messages.iter().zip(first..) {
             receiver.receive(book, placeholder, message);
         }

@@ -6,8 +6,8 @@ use std::fs;
 use std::path::{Path, PathBuf};
 
 const EXAMPLE_1: [u32; 53] = [
-    5, 8, 2, 28, 2, 34, 11, 42, 0, 0, 0, 0, 0, 0, 0, 0, 0, 0, 0, 0, 0, 0, 0, 0, 2, 0, 0, 3, 0, 3,
-    3, 1, 6, 3, 1, 0, 9, 1, 0, 1, 10, 1, 2, 3, 1, 0, 1, 2, 0, 1, 2, 3, 4,
+    5, 8, 2, 28, 2, 34, 11, 42, 0, 0, 0, 0, 0, 0, 0, 0, 0, 0, 0, 0, 0, 0, 0, 0, 2, 0, 0, 3, 0, 3, 3, 1, 6, 3, 1, 0, 9,
+    1, 0, 1, 10, 1, 2, 3, 1, 0, 1, 2, 0, 1, 2, 3, 4,
 ];
 
 const LINES_1: &str = "\
@@ -63,17 +63,11 @@ fn a_stream_of_books() {
     let folder = folder("stream", &books);
     let shelf = Shelf::of(&folder).unwrap();
     assert_eq!(shelf.books, 2);
-    assert_eq!(
-        shelf.stdin,
-        [&[0; 4], &[53, 0, 0, 0], &example[..]].concat()
-    );
+    assert_eq!(shelf.stdin, [&[0; 4], &[53, 0, 0, 0], &example[..]].concat());
     let refused = "refused 1 0\n".repeat(7);
     assert_eq!(text(&shelf), refused + LINES_1);
     let left_out = folder.join("c.book").display().to_string();
-    assert_eq!(
-        shelf.told(),
-        format!("2 books on the shelf, left out: {left_out}")
-    );
+    assert_eq!(shelf.told(), format!("2 books on the shelf, left out: {left_out}"));
 }
 
 /// A longer book comes as one word more than the longest, as the small program reads it.

@@ -164,11 +164,7 @@ fn opened_with_a_partner_that_is_no_row() {
 fn signed_with_a_private_half_and_opened_with_the_public_one() {
     // Rows A, B, K, N, K-, {N}K-, K+. B holds K+ as itself, so the row is the image; A holds K.
     let book = book(
-        [
-            atoms(4),
-            vec![row(4, 0, &[2]), row(2, 0, &[4, 3]), row(3, 0, &[2])],
-        ]
-        .concat(),
+        [atoms(4), vec![row(4, 0, &[2]), row(2, 0, &[4, 3]), row(3, 0, &[2])]].concat(),
         &[party(0, &[2]), party(1, &[6])],
         &[step(0, 1, &[5])],
     );
@@ -182,14 +178,8 @@ fn the_operation_over_an_unknown_atom() {
     // Rows A, B, N, f(N) with tag 7.
     let rows = [atoms(3), vec![row(1, 7, &[2])]].concat();
     let parties = [party(0, &[0, 1]), party(1, &[0, 1])];
-    let sent_on = book(
-        rows.clone(),
-        &parties,
-        &[step(0, 1, &[3]), step(1, 0, &[3])],
-    );
-    let a = [
-        1, 2, 2, 0, 1, 2, 7, 1, 0, 2, 3, 1, 0, 1, 4, 0, 2, 7, 1, 0, 2, 6, 0,
-    ];
+    let sent_on = book(rows.clone(), &parties, &[step(0, 1, &[3]), step(1, 0, &[3])]);
+    let a = [1, 2, 2, 0, 1, 2, 7, 1, 0, 2, 3, 1, 0, 1, 4, 0, 2, 7, 1, 0, 2, 6, 0];
     let b = [3, 0, 0, 1, 2, 1, 1, 1, 0, 6, 1, 3, 0];
     assert_eq!(listing(&sent_on.words()), Ok(joined(&[&a, &b])));
 
@@ -264,11 +254,7 @@ fn the_deepest_ciphers_are_opened() {
         rows.push(row(2, 0, &[2, number - 1]));
     }
     let deepest = 258;
-    let book = book(
-        rows,
-        &[party(0, &[2]), party(1, &[2])],
-        &[step(0, 1, &[deepest])],
-    );
+    let book = book(rows, &[party(0, &[2]), party(1, &[2])], &[step(0, 1, &[deepest])]);
     assert_eq!(book.term(deepest).size(), 1_022);
     let mut a = vec![1, 3, 2, 0, 1];
     a.extend([3, 1, 0, 2].repeat(255));
@@ -285,17 +271,8 @@ fn the_deepest_ciphers_are_opened() {
 fn example_2() {
     // Rows A, B, KA, KB, NA, NB, KA+, KA-, KB+, KB-, {NA,A}KB+, {NA,NB}KA+, {NB}KB+. "In its
     // example 2 read the private half of K_A in A's knowledge, in place of that of K_B."
-    let halves = [
-        row(3, 0, &[2]),
-        row(4, 0, &[2]),
-        row(3, 0, &[3]),
-        row(4, 0, &[3]),
-    ];
-    let ciphers = [
-        row(2, 0, &[8, 4, 0]),
-        row(2, 0, &[6, 4, 5]),
-        row(2, 0, &[8, 5]),
-    ];
+    let halves = [row(3, 0, &[2]), row(4, 0, &[2]), row(3, 0, &[3]), row(4, 0, &[3])];
+    let ciphers = [row(2, 0, &[8, 4, 0]), row(2, 0, &[6, 4, 5]), row(2, 0, &[8, 5])];
     let book = book(
         [atoms(6), halves.to_vec(), ciphers.to_vec()].concat(),
         &[party(0, &[0, 1, 6, 7, 8]), party(1, &[0, 1, 6, 8, 9])],
@@ -320,10 +297,7 @@ fn example_2() {
         &[4, 3, 3, 1, 0, 8, 0, 5],          // z = {NB}KB+, as rule 1 stands before rule 2
         &[6, 1, 4, 1],                      // NA is x1
     ];
-    assert_eq!(
-        listing(&book.words()),
-        Ok(joined(&[&a.concat(), &b.concat()]))
-    );
+    assert_eq!(listing(&book.words()), Ok(joined(&[&a.concat(), &b.concat()])));
 }
 
 #[test]
@@ -371,20 +345,13 @@ fn example_3() {
         &[2, 3, 1, 3, 2, 0, 2, 0, 5, 0, 6],          // {K', N'}K
         &[6, 1, 3, 2],                               // NA is x3, where the example prints z1
     ];
-    assert_eq!(
-        listing(&book.words()),
-        Ok(joined(&[&a.concat(), &b.concat()]))
-    );
+    assert_eq!(listing(&book.words()), Ok(joined(&[&a.concat(), &b.concat()])));
 }
 
 #[test]
 fn example_4() {
     // Rows A, B, S, KAS, KBS, NB, {NB}KAS, {A,{NB}KAS}KBS, {NB}KBS.
-    let ciphers = [
-        row(2, 0, &[3, 5]),
-        row(2, 0, &[4, 0, 6]),
-        row(2, 0, &[4, 5]),
-    ];
+    let ciphers = [row(2, 0, &[3, 5]), row(2, 0, &[4, 0, 6]), row(2, 0, &[4, 5])];
     let book = book(
         [atoms(6), ciphers.to_vec()].concat(),
         &[
@@ -438,9 +405,7 @@ fn a_stored_cipher_is_not_opened_later() {
         &[party(0, &[2]), party(1, &[])],
         &[step(0, 1, &[4, 2]), step(0, 1, &[4])],
     );
-    let a = [
-        1, 3, 2, 0, 2, 3, 1, 0, 2, 0, 3, 0, 2, 2, 1, 1, 3, 1, 0, 2, 0, 3, 6, 0,
-    ];
+    let a = [1, 3, 2, 0, 2, 3, 1, 0, 2, 0, 3, 0, 2, 2, 1, 1, 3, 1, 0, 2, 0, 3, 6, 0];
     let b = [3, 0, 0, 2, 3, 1, 2, 1, 4, 2, 1, 0, 6, 2, 4, 0, 2, 1];
     assert_eq!(listing(&book.words()), Ok(joined(&[&a, &b])));
 }
@@ -457,9 +422,7 @@ fn contents_are_numbered_before_they_are_received() {
     let b = [
         3, 0, 0, 2, 5, 0, 2, 2, 0, 2, 5, 2, 4, 1, 0, 2, 4, 1, 1, 3, 6, 2, 4, 4, 3, 3,
     ];
-    let a = [
-        1, 4, 1, 3, 2, 0, 2, 3, 2, 0, 2, 3, 1, 0, 2, 0, 4, 0, 3, 0, 3, 6, 0,
-    ];
+    let a = [1, 4, 1, 3, 2, 0, 2, 3, 2, 0, 2, 3, 1, 0, 2, 0, 4, 0, 3, 0, 3, 6, 0];
     assert_eq!(listing(&book.words()), Ok(joined(&[&a, &b])));
 }
 
@@ -479,9 +442,7 @@ fn the_longest_listing_that_is_printed() {
     assert_eq!(listing(&words).map(|listing| listing.len()), Ok(16_384));
     assert_eq!(print(&bytes(&words)).split(' ').count(), 16_384);
 
-    let over = [
-        1_024, 1_024, 1_024, 1_024, 1_024, 1_024, 1_024, 500, 400, 75,
-    ];
+    let over = [1_024, 1_024, 1_024, 1_024, 1_024, 1_024, 1_024, 500, 400, 75];
     let words = halves_of_sizes(&over).words();
     assert_eq!(listing(&words).map(|listing| listing.len()), Ok(16_385));
     assert_eq!(print(&bytes(&words)), "refused 12 16385");
@@ -504,10 +465,7 @@ fn the_longest_book() {
     let own = 4 * (3 + 8 * 19) + 4 * (4 + 8 * 21) + 2;
     let length = listing(&words).map(|listing| listing.len());
     assert_eq!(length, Ok(33 + 16 * own));
-    assert_eq!(
-        print(&bytes(&words)),
-        format!("refused 12 {}", 33 + 16 * own)
-    );
+    assert_eq!(print(&bytes(&words)), format!("refused 12 {}", 33 + 16 * own));
 }
 
 #[test]

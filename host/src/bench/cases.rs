@@ -1,8 +1,8 @@
 //! The books that are timed.
 
 use crate::book::{
-    Book, Party, Row, Step, ATOM, CIPHER, MOST_KNOWN, MOST_MESSAGES, MOST_PARTIES, MOST_ROWS,
-    MOST_STEPS, OPERATION, PRIVATE, PUBLIC,
+    Book, Party, Row, Step, ATOM, CIPHER, MOST_KNOWN, MOST_MESSAGES, MOST_PARTIES, MOST_ROWS, MOST_STEPS, OPERATION,
+    PRIVATE, PUBLIC,
 };
 use crate::random;
 use crate::translate::{self, LENT};
@@ -191,10 +191,7 @@ fn stored() -> Book {
 fn alike() -> Book {
     let mut rows = atoms(32);
     for number in 0..MOST_ROWS - 32 {
-        rows.push(row(
-            OPERATION,
-            &[0, 0, 0, 0, 0, 0, number / 32, number % 32],
-        ));
+        rows.push(row(OPERATION, &[0, 0, 0, 0, 0, 0, number / 32, number % 32]));
     }
     Book {
         rows,
@@ -216,8 +213,9 @@ fn chain() -> Book {
     }
 }
 
-/// The same cipher in all 512 messages, with so many ciphers in one another, all under one public half. The receiver can't build that
-/// half and opens them every time with the private one, which is the last row, behind private halves of other rows.
+/// The same cipher in all 512 messages, with so many ciphers in one another, all under one public half. The receiver
+/// can't build that half and opens them every time with the private one, which is the last row, behind private halves
+/// of other rows.
 fn far_partner(depth: u32) -> Book {
     let mut rows = atoms(3);
     rows.push(row(PUBLIC, &[2]));
@@ -298,11 +296,7 @@ fn early() -> Book {
         receiver: 1,
         messages: vec![2],
     };
-    Book {
-        rows,
-        parties,
-        steps,
-    }
+    Book { rows, parties, steps }
 }
 
 #[cfg(test)]
@@ -338,9 +332,6 @@ mod tests {
         let names: Vec<&str> = groups.iter().map(|group| group.name.as_str()).collect();
         assert_eq!(names.len(), 6, "{names:?}");
         assert!(groups.iter().all(|group| !group.cases.is_empty()));
-        assert!(groups[0]
-            .cases
-            .iter()
-            .all(|case| case.name.starts_with("example-")));
+        assert!(groups[0].cases.iter().all(|case| case.name.starts_with("example-")));
     }
 }

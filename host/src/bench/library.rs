@@ -141,12 +141,7 @@ impl Library {
     }
 
     /// The proved `rehearsal::rehearse`, which the library must have.
-    pub fn rehearse(
-        &self,
-        book: &[u32],
-        schedule: &[u32],
-        out: &mut [u32],
-    ) -> Result<usize, Refusal> {
+    pub fn rehearse(&self, book: &[u32], schedule: &[u32], out: &mut [u32]) -> Result<usize, Refusal> {
         let rehearse = self.rehearse.expect("the library has `rehearse`");
         let mut answer = Answer::default();
         let (book, schedule, out) = (Slice::of(book), Slice::of(schedule), Slice::of_lent(out));

@@ -43,10 +43,7 @@ pub fn svg(points: &[Point]) -> String {
     let high = times().fold(0.0, f64::max).log10().ceil();
     let rows = points.iter().map(|point| point.rows as f64);
     let across = Scale {
-        values: (
-            rows.clone().fold(f64::INFINITY, f64::min),
-            rows.fold(0.0, f64::max),
-        ),
+        values: (rows.clone().fold(f64::INFINITY, f64::min), rows.fold(0.0, f64::max)),
         places: (LEFT, RIGHT),
     };
     let up = Scale {
@@ -56,18 +53,14 @@ pub fn svg(points: &[Point]) -> String {
 
     let mut out = String::new();
     let mut put = |line: String| writeln!(out, "{line}").expect("a string takes all");
+    let size = format!(r#"viewBox="0 0 {WIDTH} {HEIGHT}" width="{WIDTH}" height="{HEIGHT}""#);
     put(format!(
-        r#"<svg xmlns="http://www.w3.org/2000/svg" viewBox="0 0 {WIDTH} {HEIGHT}" width="{WIDTH}" height="{HEIGHT}" font-family="sans-serif" font-size="13" fill="{INK}">"#
+        r#"<svg xmlns="http://www.w3.org/2000/svg" {size} font-family="sans-serif" font-size="13" fill="{INK}">"#
     ));
     put(format!(
         r#"<title>Time per book against rows</title><rect width="{WIDTH}" height="{HEIGHT}" fill="white"/>"#
     ));
-    put(text(
-        LEFT,
-        28.0,
-        "start",
-        "Time per book, random playable books",
-    ));
+    put(text(LEFT, 28.0, "start", "Time per book, random playable books"));
     for power in low as i32..=up.values.1.log10().round() as i32 {
         let time = 10f64.powi(power);
         let y = up.place(time);
@@ -88,12 +81,7 @@ pub fn svg(points: &[Point]) -> String {
     let shift = (20.0 - (proved - host).abs()).max(0.0) / 2.0;
     let shift = if proved < host { -shift } else { shift };
     for (name, colour, shift, time) in [
-        (
-            "proved",
-            PROVED,
-            shift,
-            (|point| point.proved) as fn(&Point) -> f64,
-        ),
+        ("proved", PROVED, shift, (|point| point.proved) as fn(&Point) -> f64),
         ("host", HOST, -shift, |point| point.host),
     ] {
         let place = |point: &Point| (across.place(point.rows as f64), up.place(time(point)));
@@ -105,9 +93,7 @@ pub fn svg(points: &[Point]) -> String {
             pairs.join(" ")
         ));
         for (x, y) in &places {
-            put(format!(
-                r#"<circle cx="{x:.1}" cy="{y:.1}" r="3.5" fill="{colour}"/>"#
-            ));
+            put(format!(r#"<circle cx="{x:.1}" cy="{y:.1}" r="3.5" fill="{colour}"/>"#));
         }
         if let Some((x, y)) = places.last() {
             put(format!(

@@ -51,12 +51,7 @@ pub struct Outcome {
 
 /// Runs both sides over each of so many books in every round. Which side goes first changes from round to round,
 /// so that neither always finds what the other has left.
-pub fn measure(
-    books: usize,
-    rounds: usize,
-    mut proved: impl FnMut(usize),
-    mut host: impl FnMut(usize),
-) -> Vec<Times> {
+pub fn measure(books: usize, rounds: usize, mut proved: impl FnMut(usize), mut host: impl FnMut(usize)) -> Vec<Times> {
     let mut all = Vec::with_capacity(books);
     let mut runs = Vec::with_capacity(books);
     for book in 0..books {

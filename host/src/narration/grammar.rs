@@ -57,10 +57,7 @@ fn read_line<'a>(tokens: &mut Tokens<'a>, lines: &mut Lines<'a>) -> Result<(), M
         Token::Name("rows") => read_rows(tokens, lines),
         Token::Name(_) => {
             tokens.skip();
-            Err(unexpected(
-                tokens,
-                "`->` (if this is no `party` and no `rows` line)",
-            ))
+            Err(unexpected(tokens, "`->` (if this is no `party` and no `rows` line)"))
         }
         _ => Err(unexpected(tokens, "`rows`, `party` or a step")),
     }

@@ -58,9 +58,7 @@ impl<'a> Table<'a> {
         // The terms begun, each with the rows of its parts entered so far.
         let mut begun: Vec<(usize, Vec<u32>)> = vec![(term, Vec::new())];
         loop {
-            let (term, parts) = begun
-                .last()
-                .expect("the outermost term is only popped below");
+            let (term, parts) = begun.last().expect("the outermost term is only popped below");
             if let Some(part) = terms[*term].form.part(parts.len()) {
                 begun.push((part, Vec::new()));
                 continue;
@@ -94,11 +92,7 @@ impl<'a> Table<'a> {
         }
         let parts = key.2.clone();
         // At most nine parts of at most 1,024 each.
-        let size = own_size
-            + parts
-                .iter()
-                .map(|part| self.sizes[*part as usize])
-                .sum::<usize>();
+        let size = own_size + parts.iter().map(|part| self.sizes[*part as usize]).sum::<usize>();
         let row = self.push(Row { kind, tag, parts }, size, term.spot)?;
         self.others.insert(key, row);
         Ok(row)

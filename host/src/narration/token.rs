@@ -65,9 +65,7 @@ impl<'a> Tokens<'a> {
 
     /// The token `n` places after the next one.
     pub fn ahead(&self, n: usize) -> Token<'a> {
-        self.list
-            .get(self.next + n)
-            .map_or(Token::End, |(token, _)| *token)
+        self.list.get(self.next + n).map_or(Token::End, |(token, _)| *token)
     }
 
     /// Where the next token stands; at the line's end, just after the last one.

@@ -130,14 +130,7 @@ pub fn term<'a>(tokens: &mut Tokens<'a>, terms: &mut Vec<Written<'a>>) -> Result
                     }
                 }
                 Some(Around::Key(spot, contents)) => {
-                    ready = Some(add(
-                        terms,
-                        Form::Cipher {
-                            key: term,
-                            contents,
-                        },
-                        spot,
-                    ));
+                    ready = Some(add(terms, Form::Cipher { key: term, contents }, spot));
                 }
                 Some(Around::Parentheses) => {
                     if !tokens.take(Token::Sign(')')) {
@@ -156,20 +149,11 @@ fn add<'a>(terms: &mut Vec<Written<'a>>, form: Form<'a>, spot: Spot) -> usize {
 }
 
 /// After a comma: one more would follow.
-fn no_more_than(
-    most: usize,
-    what: &str,
-    list: &[usize],
-    tokens: &Tokens<'_>,
-) -> Result<(), Mistake> {
+fn no_more_than(most: usize, what: &str, list: &[usize], tokens: &Tokens<'_>) -> Result<(), Mistake> {
     if list.len() < most {
         return Ok(());
     }
-    Err(mistake(
-        tokens.spot(),
-        &format!("at most {most} {what}"),
-        "one more",
-    ))
+    Err(mistake(tokens.spot(), &format!("at most {most} {what}"), "one more"))
 }
 
 pub fn unexpected(tokens: &Tokens<'_>, expected: &str) -> Mistake {

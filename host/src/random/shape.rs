@@ -2,8 +2,8 @@
 
 use super::Random;
 use crate::book::{
-    Book, Party, Row, Step, ATOM, CIPHER, MOST_KNOWN, MOST_MESSAGES, MOST_POOL, MOST_ROWS,
-    MOST_SIZE, OPERATION, PRIVATE, PUBLIC,
+    Book, Party, Row, Step, ATOM, CIPHER, MOST_KNOWN, MOST_MESSAGES, MOST_POOL, MOST_ROWS, MOST_SIZE, OPERATION,
+    PRIVATE, PUBLIC,
 };
 use crate::translate::Translation;
 use std::collections::HashSet;
@@ -25,16 +25,8 @@ pub fn book(random: &mut Random) -> Book {
 pub fn book_of(random: &mut Random, size: usize) -> Book {
     let (rows, parties, steps) = match size {
         0 => (random.between(1, 12), random.between(1, 3), random.below(6)),
-        1 => (
-            random.between(5, 40),
-            random.between(2, 5),
-            random.between(1, 12),
-        ),
-        2 => (
-            random.between(40, 200),
-            random.between(2, 8),
-            random.between(8, 32),
-        ),
+        1 => (random.between(5, 40), random.between(2, 5), random.between(1, 12)),
+        2 => (random.between(40, 200), random.between(2, 8), random.between(8, 32)),
         _ => (MOST_ROWS as usize, 16, 64),
     };
     let book = without_steps(random, rows, parties, size);
@@ -125,9 +117,7 @@ fn long_listing(random: &mut Random) -> Book {
         rows: table.rows,
         steps: Vec::new(),
     };
-    let large: Vec<usize> = (0..book.rows.len())
-        .filter(|row| table.sizes[*row] > 90)
-        .collect();
+    let large: Vec<usize> = (0..book.rows.len()).filter(|row| table.sizes[*row] > 90).collect();
     // The lent words are 16,384: some listings stop short of them, some go past.
     let goal = random.between(9_000, 20_000) as u32;
     let mut words = 0;
@@ -135,10 +125,7 @@ fn long_listing(random: &mut Random) -> Book {
         let sender = random.below(2) as u32;
         let messages = (0..random.between(1, 4)).map(|_| *random.pick(&large));
         let messages: Vec<usize> = messages.collect();
-        words += messages
-            .iter()
-            .map(|row| 2 * table.sizes[*row])
-            .sum::<u32>();
+        words += messages.iter().map(|row| 2 * table.sizes[*row]).sum::<u32>();
         book.steps.push(Step {
             sender,
             receiver: 1 - sender,
@@ -191,11 +178,7 @@ impl Table {
         let free = random.between(10, 60);
         while self.rows.len() < rows {
             let atom = self.rows.len() < first_atoms || random.percent(12);
-            let row = if atom {
-                None
-            } else {
-                self.composite(random, deep)
-            };
+            let row = if atom { None } else { self.composite(random, deep) };
             // Where nothing else finds room, an atom does.
             if row.is_none() {
                 self.push(ATOM, 0, vec![]);
@@ -287,14 +270,10 @@ impl Table {
     /// A book of two or three parties over these rows, in so many steps.
     fn finish(self, random: &mut Random, steps: usize) -> Book {
         let rows = self.rows.len();
-        let parties = (self.rows.iter().zip(0..))
-            .filter(|(row, _)| row.kind == ATOM)
-            .take(3);
+        let parties = (self.rows.iter().zip(0..)).filter(|(row, _)| row.kind == ATOM).take(3);
         let parties: Vec<Party> = parties
             .map(|(_, name)| {
-                let mut known: Vec<u32> = (0..random.below(4))
-                    .map(|_| random.below(rows) as u32)
-                    .collect();
+                let mut known: Vec<u32> = (0..random.below(4)).map(|_| random.below(rows) as u32).collect();
                 if random.percent(50) {
                     known.extend(0..random.below(6) as u32);
                 }
@@ -320,13 +299,8 @@ fn narrate(random: &mut Random, mut book: Book, steps: usize, most: usize, playa
     if parties < 2 {
         return book;
     }
-    let careful = if playable {
-        steps
-    } else {
-        random.below(steps + 1)
-    };
-    let lists = (book.rows.iter().map(|row| row.parts.len()))
-        .chain(book.parties.iter().map(|party| party.known.len()));
+    let careful = if playable { steps } else { random.below(steps + 1) };
+    let lists = (book.rows.iter().map(|row| row.parts.len())).chain(book.parties.iter().map(|party| party.known.len()));
     let mut room = (MOST_POOL as usize).saturating_sub(lists.sum());
     let mut translation = Some(Translation::start(&book));
     for number in 0..steps {
@@ -341,9 +315,7 @@ fn narrate(random: &mut Random, mut book: Book, steps: usize, most: usize, playa
         };
         for _ in 0..count.min(room).min(MOST_MESSAGES as usize) {
             let row = match &translation {
-                Some(translation) if number < careful => {
-                    sendable(random, translation, sender as u32, receiver as u32)
-                }
+                Some(translation) if number < careful => sendable(random, translation, sender as u32, receiver as u32),
                 _ => Some(random.below(book.rows.len()) as u32),
             };
             messages.extend(row);
@@ -355,10 +327,7 @@ fn narrate(random: &mut Random, mut book: Book, steps: usize, most: usize, playa
             messages,
         };
         // Once the book is unplayable, nothing is left to take care of.
-        if translation
-            .as_mut()
-            .is_some_and(|so_far| so_far.step(&step).is_err())
-        {
+        if translation.as_mut().is_some_and(|so_far| so_far.step(&step).is_err()) {
             translation = None;
         }
         book.steps.push(step);
@@ -368,12 +337,7 @@ fn narrate(random: &mut Random, mut book: Book, steps: usize, most: usize, playa
 
 /// A row the sender can send without making a taken atom, if some tries find one; often, if there
 /// is one, such that the receiver opens it.
-fn sendable(
-    random: &mut Random,
-    translation: &Translation,
-    sender: u32,
-    receiver: u32,
-) -> Option<u32> {
+fn sendable(random: &mut Random, translation: &Translation, sender: u32, receiver: u32) -> Option<u32> {
     let receiver = translation.dictionary(receiver);
     let to_open = random.percent(60);
     let mut found = None;

@@ -43,9 +43,7 @@ fn write_event(event: &Event, texts: &Texts, out: &mut String) {
         }
         Event::End { stored } => {
             out.push_str("end: ");
-            let pair = |(row, number): &(u32, u32)| {
-                format!("{} = {}", texts.row(*row), placeholder(*number))
-            };
+            let pair = |(row, number): &(u32, u32)| format!("{} = {}", texts.row(*row), placeholder(*number));
             let pairs: Vec<String> = stored.iter().map(pair).collect();
             out.push_str(&pairs.join(", "));
             nothing_if(pairs.is_empty(), out);

@@ -56,10 +56,7 @@ impl Page {
     /// The mark, if the refusal is one of `numbers` and the last line is at its place.
     fn mark(&mut self, numbers: RangeInclusive<u32>, place: usize, what: &str) {
         if numbers.contains(&self.number) && place == self.place {
-            self.line(&format!(
-                "refused {} at {what}: {}",
-                self.number, self.reason
-            ));
+            self.line(&format!("refused {} at {what}: {}", self.number, self.reason));
         }
     }
 

@@ -13,10 +13,7 @@ impl Texts {
     pub fn of(book: &Book) -> Texts {
         let mut rows: Vec<String> = Vec::with_capacity(book.rows.len());
         for (number, row) in book.rows.iter().enumerate() {
-            let party = book
-                .parties
-                .iter()
-                .position(|party| party.name as usize == number);
+            let party = book.parties.iter().position(|party| party.name as usize == number);
             let text = match (row.kind, party) {
                 (book::ATOM, Some(party)) => char::from(b'A' + party as u8).to_string(),
                 (book::ATOM, None) => format!("n{number}"),
@@ -111,10 +108,7 @@ pub fn placeholder(number: u32) -> String {
 /// a half stands in parentheses; nothing else needs them.
 fn over_parts(row: &Row, rows: &[Row], texts: &[String]) -> String {
     let list = |parts: &[u32]| {
-        let texts: Vec<&str> = parts
-            .iter()
-            .map(|part| &texts[*part as usize][..])
-            .collect();
+        let texts: Vec<&str> = parts.iter().map(|part| &texts[*part as usize][..]).collect();
         texts.join(", ")
     };
     let part = row.parts.first().map_or(0, |part| *part as usize);

@@ -29,10 +29,7 @@ fn bounds(words: &[u32], at: usize) -> Option<String> {
         6 => ("pool words", 0, book::MOST_POOL),
         _ => return None,
     };
-    Some(format!(
-        "{} {what}, where {least} to {most} are allowed",
-        words[at]
-    ))
+    Some(format!("{} {what}, where {least} to {most} are allowed", words[at]))
 }
 
 fn offset(words: &[u32], at: usize) -> Option<String> {
@@ -48,9 +45,7 @@ fn offset(words: &[u32], at: usize) -> Option<String> {
         8 => ("length", words.len() as u64, pool + w),
         _ => return None,
     };
-    Some(format!(
-        "the {what} is {found}, by the counts it is {right}"
-    ))
+    Some(format!("the {what} is {found}, by the counts it is {right}"))
 }
 
 /// What is wrong with a list as such: its count, its first, or that it leaves the pool.
@@ -77,24 +72,9 @@ fn list(words: &[u32], list: &[u32], before: u64, most: u32) -> Option<String> {
 fn counts_before(words: &[u32], end: usize) -> u64 {
     let sections = Sections::of(words);
     let [rows, parties, steps] = [1, 3, 5].map(|word| words[word] as usize);
-    let of_rows = sections
-        .rows
-        .iter()
-        .skip(3)
-        .step_by(4)
-        .zip((rows..).step_by(4));
-    let of_parties = sections
-        .parties
-        .iter()
-        .skip(2)
-        .step_by(3)
-        .zip((parties..).step_by(3));
-    let of_steps = sections
-        .steps
-        .iter()
-        .skip(3)
-        .step_by(4)
-        .zip((steps..).step_by(4));
+    let of_rows = sections.rows.iter().skip(3).step_by(4).zip((rows..).step_by(4));
+    let of_parties = sections.parties.iter().skip(2).step_by(3).zip((parties..).step_by(3));
+    let of_steps = sections.steps.iter().skip(3).step_by(4).zip((steps..).step_by(4));
     let counts = of_rows.chain(of_parties).chain(of_steps);
     counts
         .filter(|(_, at)| *at < end)
@@ -113,17 +93,13 @@ fn row(words: &[u32], at: usize) -> Option<String> {
         _ => return Some(format!("kind {kind} is none of 0 to 4")),
     };
     if kind != book::OPERATION && tag != 0 {
-        return Some(format!(
-            "tag {tag}, where only an operation has one other than 0"
-        ));
+        return Some(format!("tag {tag}, where only an operation has one other than 0"));
     }
     if tag > book::MOST_TAG {
         return Some(format!("tag {tag} is over {}", book::MOST_TAG));
     }
     if count < least || count > most {
-        return Some(format!(
-            "count {count}, where kind {kind} has {least} to {most} parts"
-        ));
+        return Some(format!("count {count}, where kind {kind} has {least} to {most} parts"));
     }
     let broken = list(words, &own[2..], counts_before(words, 8 + 4 * at), most);
     broken.or_else(|| {
@@ -143,17 +119,10 @@ fn size(words: &[u32], at: usize) -> Option<String> {
             _ => 1,
         };
         let parts = sections.clipped(row[2], row[3], 9);
-        let parts: u64 = parts
-            .iter()
-            .filter_map(|part| sizes.get(*part as usize))
-            .sum();
+        let parts: u64 = parts.iter().filter_map(|part| sizes.get(*part as usize)).sum();
         sizes.push(own + parts);
     }
-    Some(format!(
-        "size {} is over {}",
-        sizes.last()?,
-        book::MOST_SIZE
-    ))
+    Some(format!("size {} is over {}", sizes.last()?, book::MOST_SIZE))
 }
 
 fn repeated(words: &[u32], at: usize) -> Option<String> {
@@ -177,9 +146,7 @@ fn party(words: &[u32], at: usize) -> Option<String> {
     }
     let names = sections.parties.iter().step_by(3);
     if let Some(earlier) = names.take(at).position(|other| *other == name) {
-        return Some(format!(
-            "name {name} is the name of party {earlier} already"
-        ));
+        return Some(format!("name {name} is the name of party {earlier} already"));
     }
     let before = counts_before(words, words[3] as usize + 3 * at);
     let broken = list(words, &own[1..], before, book::MOST_KNOWN);
@@ -218,8 +185,5 @@ fn step(words: &[u32], at: usize) -> Option<String> {
 
 fn sum(words: &[u32]) -> String {
     let sum = counts_before(words, usize::MAX);
-    format!(
-        "the counts add up to {sum}, the pool has {} words",
-        words[6]
-    )
+    format!("the counts add up to {sum}, the pool has {} words", words[6])
 }

@@ -6,12 +6,12 @@ mod plot;
 mod timing;
 
 use crate::book::{Refusal, MOST_PARTIES};
+use crate::files;
 use crate::rehearse::{self, MOST_MOVES};
 use crate::translate::{self, LENT};
 use cases::{Case, Group};
 use library::Library;
 use plot::Point;
-use std::fs;
 use std::hint::black_box;
 use std::io::Write;
 use std::path::Path;
@@ -55,8 +55,7 @@ pub fn run(library: &Path, books: &Path, picture: Option<&Path>, out: &mut dyn W
         };
         let points: Vec<Point> = sizes.iter().zip(&grown).map(point).collect();
         if let Some(file) = picture {
-            let written = fs::write(file, plot::svg(&points));
-            written.map_err(|error| format!("{}: {error}", file.display()))?;
+            files::write(file, plot::svg(&points).as_bytes())?;
         }
     } else {
         say("The library has no `translate`.\n")?;

@@ -14,6 +14,8 @@ pub const MOST_POOL: u32 = 8_192;
 /// "Total length is exactly 8+4T+3Q+4L+W, so at most 12,600 words."
 pub const LONGEST: usize = 12_600;
 pub const MOST_TAG: u32 = 65_535;
+/// A cipher's key and its 8 contents.
+pub const MOST_PARTS: u32 = 9;
 pub const MOST_KNOWN: u32 = 256;
 pub const MOST_MESSAGES: u32 = 8;
 /// "No size exceeds 1,024."
@@ -24,6 +26,26 @@ pub const OPERATION: u32 = 1;
 pub const CIPHER: u32 = 2;
 pub const PUBLIC: u32 = 3;
 pub const PRIVATE: u32 = 4;
+
+/// How many parts a row of this kind has, least and most; nothing if there is no such kind.
+pub fn parts(kind: u32) -> Option<(u32, u32)> {
+    match kind {
+        ATOM => Some((0, 0)),
+        OPERATION => Some((0, 8)),
+        CIPHER => Some((1, MOST_PARTS)),
+        PUBLIC | PRIVATE => Some((1, 1)),
+        _ => None,
+    }
+}
+
+/// What a row of this kind adds to the sizes of its parts.
+pub fn own_size(kind: u32) -> u32 {
+    match kind {
+        ATOM | CIPHER => 2,
+        OPERATION => 3,
+        _ => 1,
+    }
+}
 
 /// One row of the table: kind 0 atom, 1 operation, 2 cipher (key first), 3 public half, 4 private half.
 #[derive(Clone, PartialEq, Eq, Hash, Debug)]
@@ -170,12 +192,32 @@ pub fn read(words: &[u32]) -> Result<Book, Refusal> {
     Ok(Book { rows, parties, steps })
 }
 
-/// The four sections of a book whose header is right.
-struct Sections<'w> {
-    rows: &'w [u32],
-    parties: &'w [u32],
-    steps: &'w [u32],
-    pool: &'w [u32],
+/// The four sections of words whose header is right.
+pub struct Sections<'w> {
+    pub rows: &'w [u32],
+    pub parties: &'w [u32],
+    pub steps: &'w [u32],
+    pub pool: &'w [u32],
+}
+
+impl<'w> Sections<'w> {
+    /// Only for words that passed refusals 1 to 3.
+    pub fn of(words: &'w [u32]) -> Sections<'w> {
+        let [rows, parties, steps, pool] = [1, 3, 5, 7].map(|word| words[word] as usize);
+        Sections {
+            rows: &words[rows..parties],
+            parties: &words[parties..steps],
+            steps: &words[steps..pool],
+            pool: &words[pool..],
+        }
+    }
+
+    /// As much of a list as lies in the pool, and no more of it than a good list could have.
+    pub fn clipped(&self, first: u32, count: u32, most: u32) -> &'w [u32] {
+        let from = (first as usize).min(self.pool.len());
+        let to = from + (count.min(most) as usize).min(self.pool.len() - from);
+        &self.pool[from..to]
+    }
 }
 
 /// Refusals 1 to 3.
@@ -207,12 +249,7 @@ fn header(words: &[u32]) -> Result<Sections<'_>, Refusal> {
     if words.len() != pool_at + w {
         return Err(Refusal::new(3, &[8]));
     }
-    Ok(Sections {
-        rows: &words[rows_at..parties_at],
-        parties: &words[parties_at..steps_at],
-        steps: &words[steps_at..pool_at],
-        pool: &words[pool_at..],
-    })
+    Ok(Sections::of(words))
 }
 
 /// The pool, and how many of its words the lists so far have taken.
@@ -247,13 +284,7 @@ fn rows(section: &[u32], pool: &mut Pool) -> Result<Vec<Row>, Refusal> {
 
 fn row(number: u32, words: &[u32], pool: &mut Pool) -> Option<Row> {
     let [kind, tag, first, count] = words.try_into().ok()?;
-    let (least, most) = match kind {
-        ATOM => (0, 0),
-        OPERATION => (0, 8),
-        CIPHER => (1, 9),
-        PUBLIC | PRIVATE => (1, 1),
-        _ => return None,
-    };
+    let (least, most) = parts(kind)?;
     // "Tag is 0 to 65,535 for kind 1 and 0 for all others."
     if count < least || tag > if kind == OPERATION { MOST_TAG } else { 0 } {
         return None;
@@ -271,12 +302,8 @@ fn row(number: u32, words: &[u32], pool: &mut Pool) -> Option<Row> {
 fn sizes(rows: &[Row]) -> Result<(), Refusal> {
     let mut sizes: Vec<u32> = Vec::with_capacity(rows.len());
     for (number, row) in rows.iter().enumerate() {
-        let own = match row.kind {
-            ATOM | CIPHER => 2,
-            OPERATION => 3,
-            _ => 1,
-        };
-        let size = own + row.parts.iter().map(|part| sizes[*part as usize]).sum::<u32>();
+        let parts = row.parts.iter().map(|part| sizes[*part as usize]);
+        let size = own_size(row.kind) + parts.sum::<u32>();
         if size > MOST_SIZE {
             return Err(Refusal::new(5, &[number as u32]));
         }

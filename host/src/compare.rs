@@ -1,5 +1,6 @@
 //! The comparison: a program's answers held against this implementation's own, to the letter.
 
+use crate::files;
 use crate::random;
 use crate::translate;
 use std::collections::BTreeMap;
@@ -22,11 +23,11 @@ struct Answer {
 }
 
 /// Compares over book files and folders of them (all `*.book`, sorted); whether nothing differs.
-pub fn files(program: &str, paths: &[PathBuf], out: &mut dyn Write) -> Result<bool, String> {
+pub fn over(program: &str, paths: &[PathBuf], out: &mut dyn Write) -> Result<bool, String> {
     let mut books = Vec::new();
     for path in paths {
         if path.is_dir() {
-            books.extend(folder(path)?);
+            books.extend(files::ending(path, "book")?);
         } else {
             books.push(path.clone());
         }
@@ -41,28 +42,14 @@ pub fn files(program: &str, paths: &[PathBuf], out: &mut dyn Write) -> Result<bo
 pub fn random(program: &str, seed: u64, count: usize, out: &mut dyn Write) -> Result<bool, String> {
     let folder = std::env::temp_dir().join(format!("books-{seed}-{count}-{}", process::id()));
     say(out, &format!("seed {seed}, {count} random books"))?;
-    let same = random::write(seed, count, &folder).and_then(|()| files(program, std::slice::from_ref(&folder), out));
+    let same = random::write(seed, count, &folder).and_then(|()| over(program, std::slice::from_ref(&folder), out));
     let removed = fs::remove_dir_all(&folder);
     let same = same?;
-    removed.map_err(|error| format!("{}: {error}", folder.display()))?;
+    removed.map_err(|error| files::told(&folder, error))?;
     if !same {
         say(out, &format!("host random {seed} {count} DIR writes the same books"))?;
     }
     Ok(same)
-}
-
-/// The books of a folder, sorted by name.
-pub fn folder(path: &Path) -> Result<Vec<PathBuf>, String> {
-    let told = |error: std::io::Error| format!("{}: {error}", path.display());
-    let mut books = Vec::new();
-    for entry in fs::read_dir(path).map_err(told)? {
-        let file = entry.map_err(told)?.path();
-        if file.extension().is_some_and(|extension| extension == "book") {
-            books.push(file);
-        }
-    }
-    books.sort();
-    Ok(books)
 }
 
 /// Both answers for every book, in the books' order.
@@ -100,7 +87,7 @@ fn answers(program: &str, books: &[PathBuf]) -> Result<Vec<Answer>, String> {
 
 /// The program gets the file's name as its one argument; its answer is its standard output.
 fn answer(program: &str, book: &Path) -> Result<Answer, String> {
-    let bytes = fs::read(book).map_err(|error| format!("{}: {error}", book.display()))?;
+    let bytes = files::bytes(book)?;
     let output = Command::new(program).arg(book).output();
     let output = output.map_err(|error| format!("{program}: {error}"))?;
     Ok(Answer {
@@ -132,8 +119,8 @@ fn report(books: &[PathBuf], answers: &[Answer], out: &mut dyn Write) -> Result<
     Ok(differences == 0)
 }
 
-/// 0 for a listing, else the refusal's number.
-fn kind(line: &str) -> u32 {
+/// What kind of answer a line is: 0 for a listing, else the refusal's number.
+pub fn kind(line: &str) -> u32 {
     let mut words = line.split_whitespace();
     match (words.next(), words.next()) {
         (Some("refused"), Some(number)) => number.parse().unwrap_or(0),

@@ -1,37 +1,13 @@
 //! The folder of example books. Each has one source, NAME.narration or NAME.words, and two files derived
 //! from it: NAME.book, the book's bytes, and NAME.listing, the line the small program prints for them.
 
+use crate::files;
 use crate::narration;
-use crate::random;
 use crate::translate;
+use crate::words;
 use std::collections::{BTreeMap, BTreeSet};
 use std::fs;
 use std::path::Path;
-
-/// The words of a `.words` text: decimal, separated by blanks, `#` comments to the end of the line.
-pub fn words(text: &str) -> Result<Vec<u32>, String> {
-    let mut words = Vec::new();
-    for (number, line) in text.lines().enumerate() {
-        let line = line.split('#').next().unwrap_or("");
-        for piece in line.split_ascii_whitespace() {
-            let digits = piece.bytes().all(|byte| byte.is_ascii_digit());
-            match piece.parse() {
-                Ok(word) if digits => words.push(word),
-                _ => {
-                    // The piece is a part of the line, so the distance of the two is its place there.
-                    let before = piece.as_ptr() as usize - line.as_ptr() as usize;
-                    let column = line[..before].chars().count() + 1;
-                    return Err(format!(
-                        "line {}, column {column}: expected a word from 0 to {}, found `{piece}`",
-                        number + 1,
-                        u32::MAX
-                    ));
-                }
-            }
-        }
-    }
-    Ok(words)
-}
 
 /// Writes the derived files of every source; the number of sources.
 pub fn write(dir: &Path) -> Result<usize, String> {
@@ -47,7 +23,8 @@ pub fn write(dir: &Path) -> Result<usize, String> {
             Err(fault) => faults.push(fault),
         }
     }
-    finish(faults, folder.sources.len())
+    files::faultless(&faults)?;
+    Ok(folder.sources.len())
 }
 
 /// Whether each source has its current derived files and nothing else is there; the number of sources, or
@@ -60,11 +37,8 @@ pub fn check(dir: &Path) -> Result<usize, String> {
         match derive(dir, source) {
             Ok(derived) => {
                 for (file, content) in derived {
-                    match fs::read(dir.join(&file)) {
-                        Ok(found) if found == content => (),
-                        Ok(_) => faults.push(format!("{file}: stale, not what {source} gives")),
-                        Err(e) => faults.push(format!("{file}: {e}")),
-                    }
+                    let current = files::current(&dir.join(&file), &content, &format!("{source} gives"));
+                    faults.extend(current.err().map(|fault| format!("{file}: {fault}")));
                     stray.remove(&file);
                 }
             }
@@ -72,15 +46,8 @@ pub fn check(dir: &Path) -> Result<usize, String> {
         }
     }
     faults.extend(stray.iter().map(|file| format!("{file}: stray, no source gives it")));
-    finish(faults, folder.sources.len())
-}
-
-fn finish(faults: Vec<String>, sources: usize) -> Result<usize, String> {
-    if faults.is_empty() {
-        Ok(sources)
-    } else {
-        Err(faults.join("\n"))
-    }
+    files::faultless(&faults)?;
+    Ok(folder.sources.len())
 }
 
 /// The file names of a folder, sorted, so that the same folder always gives the same answer.
@@ -94,7 +61,7 @@ struct Folder {
 
 impl Folder {
     fn of(dir: &Path) -> Result<Folder, String> {
-        let fault = |e| format!("{}: {e}", dir.display());
+        let fault = |error| files::told(dir, error);
         let mut files = BTreeSet::new();
         for entry in fs::read_dir(dir).map_err(fault)? {
             let name = entry.map_err(fault)?.file_name();
@@ -139,10 +106,10 @@ fn derive(dir: &Path, source: &str) -> Result<[(String, Vec<u8>); 2], String> {
         }
         None => (
             source.strip_suffix(".words").unwrap_or(source),
-            words(&text).map_err(fault)?,
+            words::of_text(&text).map_err(fault)?,
         ),
     };
-    let bytes = random::bytes_of(&words);
+    let bytes = words::to_bytes(&words);
     let line = translate::print(&bytes) + "\n";
     Ok([
         (format!("{name}.book"), bytes),

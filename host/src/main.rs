@@ -1,10 +1,8 @@
 //! The commands of the second implementation.
 
 use host::shelf::Shelf;
-use host::translate;
-use host::{bench, compare, corpus, narration, random, rehearse, show};
-use std::fs::{self, File};
-use std::io::{self, Read, Write};
+use host::{bench, compare, corpus, files, narration, random, rehearse, show, translate, words};
+use std::io::{self, Write};
 use std::path::{Path, PathBuf};
 use std::process::ExitCode;
 use std::thread;
@@ -54,34 +52,32 @@ fn run(arguments: &[String]) -> Result<bool, String> {
     match arguments.as_slice() {
         [] | ["help"] => say(USE)?,
         ["translate"] => {
-            let book = up_to(io::stdin(), translate::READ_BYTES, "standard input")?;
+            let book = files::read(io::stdin(), 4 * translate::READ);
+            let book = book.map_err(|error| format!("standard input: {error}"))?;
             say(&(translate::print(&book) + "\n"))?;
         }
         ["translate", file] => {
-            let book = file_up_to(file, translate::READ_BYTES)?;
+            let book = first_words(file, translate::READ)?;
             say(&(translate::print(&book) + "\n"))?;
         }
         ["rehearse", file, schedule] => {
-            let book = file_up_to(file, translate::READ_BYTES)?;
-            let schedule = file_up_to(schedule, rehearse::READ_BYTES)?;
+            let book = first_words(file, translate::READ)?;
+            let schedule = first_words(schedule, rehearse::READ)?;
             say(&(rehearse::print(&book, &schedule) + "\n"))?;
         }
         ["narrate", file, out @ ..] if out.len() < 2 => {
-            let book = narration::narrate(&text(file)?);
+            let book = narration::narrate(&files::text(Path::new(file))?);
             let book = book.map_err(|mistake| format!("{file}: {mistake}"))?;
-            give(&random::bytes_of(&book.words()), out.first())?;
+            give(&words::to_bytes(&book.words()), out.first())?;
         }
-        ["show", file] => {
-            let bytes = file_up_to(file, translate::READ_BYTES)?;
-            match translate::words_of(&bytes) {
-                Ok(words) => say(&ended(show::show(&words)))?,
-                Err(refusal) => say(&format!("{refusal}\n"))?,
-            }
-        }
+        ["show", file] => match words::of_bytes(&first_words(file, translate::READ)?) {
+            Ok(words) => say(&ended(show::show(&words)))?,
+            Err(refusal) => say(&format!("{refusal}\n"))?,
+        },
         ["words", file, out @ ..] if out.len() < 2 => {
-            let words = corpus::words(&text(file)?);
+            let words = words::of_text(&files::text(Path::new(file))?);
             let words = words.map_err(|mistake| format!("{file}: {mistake}"))?;
-            give(&random::bytes_of(&words), out.first())?;
+            give(&words::to_bytes(&words), out.first())?;
         }
         ["books", "--check", folder] => {
             let books = corpus::check(Path::new(folder))?;
@@ -111,7 +107,7 @@ fn run(arguments: &[String]) -> Result<bool, String> {
         ["compare", program, first, rest @ ..] if *first != "--random" => {
             let paths = [&[*first], rest].concat();
             let paths: Vec<PathBuf> = paths.iter().map(PathBuf::from).collect();
-            return compare::files(program, &paths, &mut io::stdout());
+            return compare::over(program, &paths, &mut io::stdout());
         }
         ["bench", library, books, plot @ ..] if plot.len() < 2 => {
             let (library, books) = (Path::new(library), Path::new(books));
@@ -130,21 +126,9 @@ fn number(text: &str) -> Result<u64, String> {
     number.map_err(|_| format!("`{text}` is no number"))
 }
 
-/// The first bytes of a file, "and no further".
-fn file_up_to(name: &str, most: usize) -> Result<Vec<u8>, String> {
-    let file = File::open(name).map_err(|error| format!("{name}: {error}"))?;
-    up_to(file, most, name)
-}
-
-fn up_to(source: impl Read, most: usize, name: &str) -> Result<Vec<u8>, String> {
-    let mut bytes = Vec::new();
-    let read = source.take(most as u64).read_to_end(&mut bytes);
-    read.map_err(|error| format!("{name}: {error}"))?;
-    Ok(bytes)
-}
-
-fn text(name: &str) -> Result<String, String> {
-    fs::read_to_string(name).map_err(|error| format!("{name}: {error}"))
+/// The bytes of a file's first words, "and no further".
+fn first_words(name: &str, most: usize) -> Result<Vec<u8>, String> {
+    files::first_bytes(Path::new(name), 4 * most)
 }
 
 fn ended(mut text: String) -> String {
@@ -161,7 +145,7 @@ fn say(text: &str) -> Result<(), String> {
 /// Writes bytes to a file, or to standard output; a closed pipe is an error like any other.
 fn give(bytes: &[u8], file: Option<&&str>) -> Result<(), String> {
     match file {
-        Some(name) => fs::write(name, bytes).map_err(|error| format!("{name}: {error}")),
+        Some(name) => files::write(Path::new(name), bytes),
         None => {
             let mut out = io::stdout().lock();
             let written = out.write_all(bytes).and_then(|()| out.flush());

@@ -5,6 +5,8 @@ mod damage;
 mod shape;
 
 use crate::book::Book;
+use crate::files;
+use crate::words;
 use std::fs;
 use std::path::Path;
 
@@ -46,11 +48,6 @@ impl Random {
     }
 }
 
-/// The bytes of a book's file: words of four bytes, low byte first.
-pub fn bytes_of(words: &[u32]) -> Vec<u8> {
-    words.iter().flat_map(|word| word.to_le_bytes()).collect()
-}
-
 /// The files of random books, one after another. Each hangs on the seed and its number alone.
 pub fn books(seed: u64, count: usize) -> impl Iterator<Item = Vec<u8>> {
     (0..count).map(move |number| {
@@ -58,7 +55,7 @@ pub fn books(seed: u64, count: usize) -> impl Iterator<Item = Vec<u8>> {
         if random.percent(35) {
             damage::bytes(&mut random)
         } else {
-            bytes_of(&shape::book(&mut random).words())
+            words::to_bytes(&shape::book(&mut random).words())
         }
     })
 }
@@ -81,11 +78,9 @@ fn at(seed: u64, number: usize) -> Random {
 
 /// Writes random books as `00000.book` and on into a folder, which is made if it isn't there.
 pub fn write(seed: u64, count: usize, folder: &Path) -> Result<(), String> {
-    let name = |path: &Path| path.display().to_string();
-    fs::create_dir_all(folder).map_err(|error| format!("{}: {error}", name(folder)))?;
+    fs::create_dir_all(folder).map_err(|error| files::told(folder, error))?;
     for (number, bytes) in books(seed, count).enumerate() {
-        let path = folder.join(format!("{number:05}.book"));
-        fs::write(&path, bytes).map_err(|error| format!("{}: {error}", name(&path)))?;
+        files::write(&folder.join(format!("{number:05}.book")), &bytes)?;
     }
     Ok(())
 }

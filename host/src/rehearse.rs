@@ -3,11 +3,12 @@
 use crate::book::{self, Refusal};
 use crate::machine::Machine;
 use crate::translate;
+use crate::words;
 
 /// Refusal 11: "more than 4,096 moves".
 pub const MOST_MOVES: usize = 4_096;
 /// As with a book, one word more than the longest schedule is read, and no further.
-pub const READ_BYTES: usize = 4 * (MOST_MOVES + 1);
+pub const READ: usize = MOST_MOVES + 1;
 
 /// Plays a book's programs under a schedule of party numbers. The output is Q words: "events done
 /// by each party, END not counted". A refusal leaves all of `out` as it was.
@@ -41,15 +42,15 @@ fn test(schedule: &[u32], parties: usize) -> Result<(), Refusal> {
 
 /// The line for a book's file and a schedule's, without the line's end.
 pub fn print(book: &[u8], schedule: &[u8]) -> String {
-    let book = translate::words_of(&book[..book.len().min(translate::READ_BYTES)]);
-    let schedule = translate::words_of(&schedule[..schedule.len().min(READ_BYTES)]);
+    let book = words::of_bytes(words::first(book, translate::READ));
+    let schedule = words::of_bytes(words::first(schedule, READ));
     let mut out = [0; book::MOST_PARTIES as usize];
     let length = match (book, schedule) {
         (Ok(book), Ok(schedule)) => rehearse(&book, &schedule, &mut out),
         (Err(refusal), _) | (_, Err(refusal)) => Err(refusal),
     };
     match length {
-        Ok(length) => translate::line(&out[..length]),
+        Ok(length) => words::line(&out[..length]),
         Err(refusal) => refusal.to_string(),
     }
 }

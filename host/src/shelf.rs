@@ -2,11 +2,10 @@
 //! of each book its translation and its rehearsals under six schedules, a line for each.
 
 use crate::book;
-use crate::compare;
-use crate::random;
+use crate::files;
 use crate::rehearse;
 use crate::translate;
-use std::fs;
+use crate::words;
 use std::path::Path;
 
 /// The two files of the program's crate, and the books that are in them.
@@ -28,25 +27,23 @@ impl Shelf {
             books: 0,
             left_out: Vec::new(),
         };
-        for file in compare::folder(folder)? {
-            let bytes = fs::read(&file).map_err(|error| format!("{}: {error}", file.display()))?;
-            if bytes.len() % 4 != 0 {
-                shelf.left_out.push(file.display().to_string());
-                continue;
+        for file in files::ending(folder, "book")? {
+            match words::of_bytes(&files::bytes(&file)?) {
+                // One word more than the longest book is read, and no further.
+                Ok(words) => shelf.add(&words[..words.len().min(translate::READ)]),
+                Err(_) => shelf.left_out.push(file.display().to_string()),
             }
-            // One word more than the longest book is read, and no further.
-            shelf.add(&bytes[..bytes.len().min(translate::READ_BYTES)]);
         }
         Ok(shelf)
     }
 
-    fn add(&mut self, book: &[u8]) {
-        let words = book.len() as u32 / 4;
-        self.stdin.extend(words.to_le_bytes());
-        self.stdin.extend(book);
-        let mut lines = vec![translate::print(book)];
-        for schedule in schedules(book) {
-            lines.push(rehearse::print(book, &random::bytes_of(&schedule)));
+    fn add(&mut self, words: &[u32]) {
+        let book = words::to_bytes(words);
+        self.stdin.extend(words::to_bytes(&[words.len() as u32]));
+        self.stdin.extend(&book);
+        let mut lines = vec![translate::print(&book)];
+        for schedule in schedules(words) {
+            lines.push(rehearse::print(&book, &words::to_bytes(&schedule)));
         }
         self.stdout.extend((lines.join("\n") + "\n").into_bytes());
         self.books += 1;
@@ -58,11 +55,8 @@ impl Shelf {
 
     /// Writes the files into the crate's folder.
     pub fn write(&self, folder: &Path) -> Result<(), String> {
-        for (name, content) in self.files() {
-            let file = folder.join(name);
-            fs::write(&file, content).map_err(|error| format!("{}: {error}", file.display()))?;
-        }
-        Ok(())
+        let mut files = self.files().into_iter();
+        files.try_for_each(|(name, content)| files::write(&folder.join(name), content))
     }
 
     /// Whether the crate's folder has these files; a line for each that it hasn't.
@@ -70,17 +64,10 @@ impl Shelf {
         let mut faults = Vec::new();
         for (name, content) in self.files() {
             let file = folder.join(name);
-            match fs::read(&file) {
-                Ok(found) if found == *content => (),
-                Ok(_) => faults.push(format!("{}: stale, not what the books give", file.display())),
-                Err(error) => faults.push(format!("{}: {error}", file.display())),
-            }
+            let current = files::current(&file, content, "the books give");
+            faults.extend(current.err().map(|fault| files::told(&file, fault)));
         }
-        if faults.is_empty() {
-            Ok(())
-        } else {
-            Err(faults.join("\n"))
-        }
+        files::faultless(&faults)
     }
 
     /// How many books there are, and which were left out.
@@ -95,12 +82,9 @@ impl Shelf {
 
 /// The schedules of a book: long ones, a short one, one that names a party too many in each round, one
 /// with a move too many. A book that can't have so many parties as it says has schedules for one.
-fn schedules(book: &[u8]) -> [Vec<u32>; 6] {
-    let said = book.get(8..12).map_or(0, |word| {
-        word.iter().rev().fold(0, |n, byte| 256 * n + u32::from(*byte))
-    });
-    let parties = match said {
-        1..=book::MOST_PARTIES => said,
+fn schedules(book: &[u32]) -> [Vec<u32>; 6] {
+    let parties = match book.get(2) {
+        Some(&said @ 1..=book::MOST_PARTIES) => said,
         _ => 1,
     };
     let on: Vec<u32> = (0..parties).collect();

@@ -2,9 +2,10 @@
 
 use crate::book::{self, Book, Refusal, Step};
 use crate::term::{Form, Shared, SharedMap, SharedSet};
+use crate::words;
 
 /// "It reads one word more than the longest book, so 12,601 words, and no further."
-pub const READ_BYTES: usize = 4 * (book::LONGEST + 1);
+pub const READ: usize = book::LONGEST + 1;
 /// "It lends 16,384 words for the output."
 pub const LENT: usize = 16_384;
 
@@ -376,27 +377,10 @@ pub fn lend(output: &[u32], out: &mut [u32]) -> Result<usize, Refusal> {
 
 /// The line the small program prints for a file of these bytes, without the line's end.
 pub fn print(bytes: &[u8]) -> String {
-    let read = &bytes[..bytes.len().min(READ_BYTES)];
+    let words = words::of_bytes(words::first(bytes, READ));
     let mut out = vec![0; LENT];
-    match words_of(read).and_then(|words| translate(&words, &mut out)) {
-        Ok(length) => line(&out[..length]),
+    match words.and_then(|words| translate(&words, &mut out)) {
+        Ok(length) => words::line(&out[..length]),
         Err(refusal) => refusal.to_string(),
     }
-}
-
-/// Words of four bytes, low byte first; "if the count of bytes read isn't a multiple of four it
-/// says refusal 1, place 0".
-pub fn words_of(bytes: &[u8]) -> Result<Vec<u32>, Refusal> {
-    let chunks = bytes.chunks_exact(4);
-    if !chunks.remainder().is_empty() {
-        return Err(Refusal::new(1, &[0]));
-    }
-    let word = |chunk: &[u8]| u32::from_le_bytes([chunk[0], chunk[1], chunk[2], chunk[3]]);
-    Ok(chunks.map(word).collect())
-}
-
-/// Words in decimal on one line with single spaces.
-pub fn line(words: &[u32]) -> String {
-    let words: Vec<String> = words.iter().map(u32::to_string).collect();
-    words.join(" ")
 }

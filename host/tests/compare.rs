@@ -2,34 +2,33 @@
 //! writes programs and runs them.
 #![cfg(unix)]
 
+mod common;
+
+use common::{host, Folder};
 use std::fs;
 use std::os::unix::fs::PermissionsExt;
 use std::path::Path;
-use std::process::{Command, Output};
+use std::process::Output;
 
 #[test]
 fn programs_right_and_wrong() {
-    let host = env!("CARGO_BIN_EXE_host");
-    let folder = Path::new(env!("CARGO_TARGET_TMPDIR")).join("compare");
-    let _ = fs::remove_dir_all(&folder);
-    fs::create_dir_all(&folder).expect("a folder for files");
+    let own = env!("CARGO_BIN_EXE_host");
+    let folder = Folder::new("compare");
     let program = |name: &str, text: &str| {
-        let path = folder.join(name);
-        fs::write(&path, format!("#!/bin/sh\n{text}\n")).expect("a program");
+        let path = folder.file(name, format!("#!/bin/sh\n{text}\n"));
         fs::set_permissions(&path, fs::Permissions::from_mode(0o755)).expect("may be run");
-        path.to_string_lossy().into_owned()
+        path
     };
     let compare = |arguments: &[&str]| -> Output {
-        let mut command = Command::new(host);
-        command.arg("compare").args(arguments).env("TMPDIR", &folder);
-        command.output().expect("the command runs")
+        let mut command = host(&[&["compare"], arguments].concat());
+        command.env("TMPDIR", folder.at()).output().expect("the command runs")
     };
     let last = |output: &Output| -> String {
         let text = String::from_utf8_lossy(&output.stdout).into_owned();
         text.lines().last().expect("a last line").to_string()
     };
 
-    let right = program("right", &format!("exec '{host}' translate \"$1\""));
+    let right = program("right", &format!("exec '{own}' translate \"$1\""));
     let same = compare(&[&right, "--random", "5", "60"]);
     assert!(same.status.success(), "{same:?}");
     assert!(same.stdout.starts_with(b"seed 5, 60 random books\n"));
@@ -37,10 +36,9 @@ fn programs_right_and_wrong() {
     assert!(last(&same).contains("refused 10: "));
 
     // Files and folders mixed; only `*.book` of a folder.
-    let books = folder.join("books");
-    host::random::write(6, 20, &books).expect("random books");
-    fs::write(books.join("remark.txt"), "no book").expect("a file");
-    let books = books.to_string_lossy().into_owned();
+    let books = folder.path("books");
+    host::random::write(6, 20, Path::new(&books)).expect("random books");
+    folder.file("books/remark.txt", "no book");
     let one = format!("{books}/00003.book");
     let same = compare(&[&right, &one, &books]);
     assert!(same.status.success(), "{same:?}");
@@ -49,7 +47,7 @@ fn programs_right_and_wrong() {
     // The idle programs: one that refuses all books, one constant listing, one that says nothing;
     // and a line without its end.
     let idle = ["echo refused 1 0", "echo 1 3 2 6 0", "exit 0"];
-    let unended = format!("printf %s \"$('{host}' translate \"$1\")\"");
+    let unended = format!("printf %s \"$('{own}' translate \"$1\")\"");
     for (number, text) in idle.iter().chain([&unended.as_str()]).enumerate() {
         let wrong = program(&format!("wrong{number}"), text);
         let differs = compare(&[&wrong, &books]);
@@ -70,9 +68,7 @@ fn programs_right_and_wrong() {
         compare(&["./no-such-program", "--random", "5", "3"]).status.code(),
         Some(2)
     );
-    let left = fs::read_dir(&folder).expect("the folder").filter(|entry| {
-        let name = entry.as_ref().expect("a file").file_name();
-        name.to_string_lossy().starts_with("books-")
-    });
+    let names = folder.names();
+    let left = names.iter().filter(|name| name.starts_with("books-"));
     assert_eq!(left.count(), 0);
 }

@@ -1,28 +1,25 @@
 //! The folder of example books: current, and each book with the kind of answer it stands for.
 
-use host::corpus::{check, words, write};
+mod common;
+
+use common::{top, Folder};
+use host::corpus::{check, write};
+use host::files;
 use host::narration::narrate;
 use host::show::show;
-use host::translate::words_of;
+use host::words;
 use std::fs;
-use std::path::{Path, PathBuf};
+use std::path::PathBuf;
 
 fn books() -> PathBuf {
-    Path::new(env!("CARGO_MANIFEST_DIR")).join("../books")
+    top().join("books")
 }
 
-/// The files of the folder that end so, by the name of the book.
-fn files(end: &str) -> Vec<(String, PathBuf)> {
-    let mut files = Vec::new();
-    for entry in fs::read_dir(books()).unwrap() {
-        let path = entry.unwrap().path();
-        let name = path.file_name().unwrap().to_string_lossy().into_owned();
-        if let Some(name) = name.strip_suffix(end) {
-            files.push((name.to_string(), path));
-        }
-    }
-    files.sort();
-    files
+/// The files of the folder with this extension, by the name of the book.
+fn of_kind(extension: &str) -> Vec<(String, PathBuf)> {
+    let files = files::ending(&books(), extension).unwrap().into_iter();
+    let named = |path: PathBuf| (path.file_stem().unwrap().to_string_lossy().into_owned(), path);
+    files.map(named).collect()
 }
 
 fn listing(name: &str) -> String {
@@ -32,7 +29,7 @@ fn listing(name: &str) -> String {
 
 #[test]
 fn the_folder_is_current() {
-    let sources = files(".narration").len() + files(".words").len();
+    let sources = of_kind("narration").len() + of_kind("words").len();
     assert_eq!(check(&books()), Ok(sources));
 }
 
@@ -47,7 +44,7 @@ const REFUSED: &[(&str, &str)] = &[
 
 #[test]
 fn every_book_has_its_kind_of_answer() {
-    for (name, _) in files(".listing") {
+    for (name, _) in of_kind("listing") {
         let answer = listing(&name);
         let refused = answer.strip_prefix("refused ");
         let number = refused.and_then(|refused| refused.split(' ').next());
@@ -66,7 +63,7 @@ fn every_book_has_its_kind_of_answer() {
 /// A source says what it is, and an unplayable one why.
 #[test]
 fn every_source_begins_with_a_comment() {
-    for (name, path) in files(".narration").into_iter().chain(files(".words")) {
+    for (name, path) in of_kind("narration").into_iter().chain(of_kind("words")) {
         let text = fs::read_to_string(path).unwrap();
         assert!(text.starts_with("# "), "{name}");
         let comments = text.lines().take_while(|line| line.starts_with('#'));
@@ -124,7 +121,7 @@ fn the_edges_are_reached() {
 
     let shown = |name: &str| {
         let bytes = fs::read(books().join(format!("{name}.book"))).unwrap();
-        show(&words_of(&bytes).unwrap())
+        show(&words::of_bytes(&bytes).unwrap())
     };
     let opens = |name: &str| shown(name).matches("# B: open ").count();
     assert_eq!(opens("deep-ciphers"), 255);
@@ -137,7 +134,7 @@ fn the_edges_are_reached() {
 /// What is shown of a book that passes 1 to 9 is a narration of that very book.
 #[test]
 fn every_narration_comes_back() {
-    for (name, path) in files(".narration") {
+    for (name, path) in of_kind("narration") {
         let book = narrate(&fs::read_to_string(path).unwrap()).unwrap();
         let text = show(&book.words());
         assert_eq!(narrate(&text).as_ref(), Ok(&book), "{name}\n{text}");
@@ -146,46 +143,24 @@ fn every_narration_comes_back() {
 }
 
 #[test]
-fn words_and_their_mistakes() {
-    assert_eq!(words(""), Ok(vec![]));
-    let text = "1 2\t3\r\n# 4\n  5# 6 x\n4294967295 007";
-    assert_eq!(words(text), Ok(vec![1, 2, 3, 5, 4294967295, 7]));
-    for (text, spot, found) in [
-        ("1 x", "line 1, column 3", "x"),
-        ("1\n 2 -3", "line 2, column 4", "-3"),
-        ("+1", "line 1, column 1", "+1"),
-        ("1\n\n\u{00e9} 4294967296", "line 3, column 1", "\u{00e9}"),
-        ("1, 2", "line 1, column 1", "1,"),
-        ("0 4294967296", "line 1, column 3", "4294967296"),
-    ] {
-        let expected = format!("{spot}: expected a word from 0 to 4294967295, found `{found}`");
-        assert_eq!(words(text), Err(expected));
-    }
-}
-
-#[test]
 fn stale_and_stray_files_are_named() {
-    let dir = Path::new(env!("CARGO_TARGET_TMPDIR")).join("stale-and-stray");
-    let _ = fs::remove_dir_all(&dir);
-    fs::create_dir_all(&dir).unwrap();
-    let put = |name: &str, text: &str| fs::write(dir.join(name), text).unwrap();
-    put("one.narration", "party A\n");
-    put("two.words", "1 2 3\n");
-    assert_eq!(write(&dir), Ok(2));
-    assert_eq!(check(&dir), Ok(2));
-    assert_eq!(fs::read(dir.join("one.listing")).unwrap(), b"1 3 2 6 0\n");
-    assert_eq!(
-        fs::read(dir.join("two.book")).unwrap(),
-        [1, 0, 0, 0, 2, 0, 0, 0, 3, 0, 0, 0]
+    let folder = Folder::with(
+        "stale-and-stray",
+        &[("one.narration", b"party A\n"), ("two.words", b"1 2 3\n")],
     );
-    assert_eq!(fs::read(dir.join("two.listing")).unwrap(), b"refused 1 0\n");
+    let dir = folder.at();
+    assert_eq!(write(dir), Ok(2));
+    assert_eq!(check(dir), Ok(2));
+    assert_eq!(folder.text("one.listing"), "1 3 2 6 0\n");
+    assert_eq!(folder.read("two.book"), words::to_bytes(&[1, 2, 3]));
+    assert_eq!(folder.text("two.listing"), "refused 1 0\n");
 
-    put("one.listing", "1 3 2 6 0");
-    put("two.narration", "party A\n");
-    put("three.listing", "refused 1 0\n");
-    put("three.narration", "party A\nA -> B: N\n");
-    fs::remove_file(dir.join("one.book")).unwrap();
-    let faults = check(&dir).unwrap_err();
+    folder.file("one.listing", "1 3 2 6 0");
+    folder.file("two.narration", "party A\n");
+    folder.file("three.listing", "refused 1 0\n");
+    folder.file("three.narration", "party A\nA -> B: N\n");
+    folder.remove("one.book");
+    let faults = check(dir).unwrap_err();
     let faults: Vec<&str> = faults.lines().collect();
     assert_eq!(faults[0], "two.words: a second source of one book");
     assert!(faults[1].starts_with("one.book: "), "{faults:?}");
@@ -197,5 +172,4 @@ fn stale_and_stray_files_are_named() {
     assert_eq!(faults[6], "three.listing: stray, no source gives it");
     assert_eq!(faults.len(), 7);
     assert!(check(&dir.join("none")).is_err());
-    fs::remove_dir_all(&dir).unwrap();
 }

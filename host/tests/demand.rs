@@ -1,11 +1,15 @@
 //! Demand 3 on the plain machine: whatever the carrier loses, repeats or delays, the programs keep
 //! to the narration; and wrong programs don't, so these tests can fail.
 
-use host::book::{Book, Party, Row, Step};
+mod common;
+
+use common::{book, parties, row, step};
+use host::book::{Book, Row, Step};
 use host::machine::Machine;
 use host::random::{self, Random};
 use host::term::Term;
 use host::translate::{self, Event, Image, Program};
+use host::words;
 use std::collections::{BTreeMap, BTreeSet};
 
 /// Random moves before the fair end; in full-sized books every state takes its time.
@@ -179,7 +183,7 @@ fn the_clauses_hold() {
 #[test]
 fn the_clauses_hold_in_all_shapes() {
     let book = |bytes: Vec<u8>| {
-        let book = host::book::read(&translate::words_of(&bytes).ok()?).ok()?;
+        let book = host::book::read(&words::of_bytes(&bytes).ok()?).ok()?;
         let programs = translate::programs(&book).ok()?;
         Some((book, programs))
     };
@@ -225,7 +229,7 @@ fn a_move_of_the_rehearsal() {
 /// A copy for which nobody waits is dropped, and a party's own move at a RECEIVE does nothing.
 #[test]
 fn dropped_copies() {
-    let book = small(&[], [&[0], &[1]], &[step(0, 1, &[0]), step(1, 0, &[1])]);
+    let book = small(&[], &[&[0], &[1]], &[step(0, 1, &[0]), step(1, 0, &[1])]);
     let programs = translate::programs(&book).expect("all is known");
     let mut machine = Machine::start(&book, &programs);
     assert!(!machine.hand_over(0), "not sent yet");
@@ -243,33 +247,9 @@ fn dropped_copies() {
     assert!(!machine.own_move(0) && !machine.can_move(0));
 }
 
-fn step(sender: u32, receiver: u32, messages: &[u32]) -> Step {
-    Step {
-        sender,
-        receiver,
-        messages: messages.to_vec(),
-    }
-}
-
-fn row(kind: u32, tag: u32, parts: &[u32]) -> Row {
-    Row {
-        kind,
-        tag,
-        parts: parts.to_vec(),
-    }
-}
-
 /// Atoms 0 to 4, then these rows; the parties have the names 0, 1 and on.
-fn small<const Q: usize>(rows: &[Row], known: [&[u32]; Q], steps: &[Step]) -> Book {
-    let party = |(name, known): (u32, &[u32])| Party {
-        name,
-        known: known.to_vec(),
-    };
-    Book {
-        rows: [vec![row(0, 0, &[]); 5], rows.to_vec()].concat(),
-        parties: (0..).zip(known).map(party).collect(),
-        steps: steps.to_vec(),
-    }
+fn small(rows: &[Row], known: &[&[u32]], steps: &[Step]) -> Book {
+    book([common::atoms(5), rows.to_vec()].concat(), &parties(known), steps)
 }
 
 fn receive(step: u32, first: u32, n: u32) -> Event {
@@ -312,7 +292,7 @@ fn broken(book: &Book, programs: &[Program]) -> String {
 fn wrong_by_making_what_is_missing() {
     // Row 5 is {3}2, which B stores; then B would have to make row 3 to send it.
     let cipher = row(2, 0, &[2, 3]);
-    let book = small(&[cipher], [&[0, 1, 2], &[0, 1]], &[step(0, 1, &[5]), step(1, 0, &[3])]);
+    let book = small(&[cipher], &[&[0, 1, 2], &[0, 1]], &[step(0, 1, &[5]), step(1, 0, &[3])]);
     let refusal = translate::programs(&book).expect_err("row 3 is taken");
     assert_eq!((refusal.number, refusal.place), (10, vec![1, 3]));
 
@@ -346,7 +326,7 @@ fn wrong_by_making_what_is_missing() {
 fn wrong_by_comparing_rows() {
     // Rows 5 and 6 are both {3}2; B knows row 5 and gets row 6.
     let rows = [row(2, 0, &[2, 3]), row(2, 0, &[2, 3])];
-    let book = small(&rows, [&[2, 3], &[5]], &[step(0, 1, &[6])]);
+    let book = small(&rows, &[&[2, 3], &[5]], &[step(0, 1, &[6])]);
     let refusal = host::book::read(&book.words()).expect_err("row 6 repeats row 5");
     assert_eq!((refusal.number, refusal.place), (6, vec![6]));
     // Were it let in, the terms would be equal, so B compares; row against row, B would store.
@@ -363,7 +343,7 @@ fn wrong_by_comparing_rows() {
 fn wrong_by_opening_with_the_own_key() {
     // Row 5 is the public half of row 2, row 6 is {3}5; A holds row 2.
     let rows = [row(3, 0, &[2]), row(2, 0, &[5, 3])];
-    let book = small(&rows, [&[0, 2], &[1, 5]], &[step(1, 0, &[6])]);
+    let book = small(&rows, &[&[0, 2], &[1, 5]], &[step(1, 0, &[6])]);
     let mut programs = translate::programs(&book).expect("row 3 is free");
     assert!(play(&book, &programs, &mut Random::new(7)).is_ok());
     let Event::Open { key, .. } = &mut programs[0][1] else {
@@ -385,7 +365,7 @@ fn wrong_by_opening_with_the_own_key() {
 fn wrong_by_testing_taken_per_party() {
     // A makes row 3 for B; C, who never saw it, would send it to A.
     let steps = [step(0, 1, &[3]), step(2, 0, &[3])];
-    let book = small(&[], [&[], &[], &[]], &steps);
+    let book = small(&[], &[&[], &[], &[]], &steps);
     let refusal = translate::programs(&book).expect_err("row 3 is taken");
     assert_eq!((refusal.number, refusal.place), (10, vec![1, 3]));
     let new = Event::New { row: 3 };
@@ -402,7 +382,7 @@ fn wrong_by_testing_taken_per_party() {
     assert!(["b:", "c:"].contains(&&told[..2]), "{told}");
 
     // Known to C at the start, and never sent before.
-    let book = small(&[], [&[], &[], &[3]], &[step(0, 1, &[3])]);
+    let book = small(&[], &[&[], &[], &[3]], &[step(0, 1, &[3])]);
     let refusal = translate::programs(&book).expect_err("row 3 is taken");
     assert_eq!((refusal.number, refusal.place), (10, vec![0, 3]));
     let a = vec![Event::New { row: 3 }, send(0, itself(3)), end(&[])];

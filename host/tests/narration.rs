@@ -1,20 +1,11 @@
 //! Narration texts: what they give, and where their mistakes are found.
 
-use host::book::{read, Book, Party, Row, Step};
+mod common;
+
+use common::{atom, book, party, row, step, EXAMPLE_1};
+use host::book::{read, Row};
 use host::narration::narrate;
 use host::random::Random;
-
-fn atom() -> Row {
-    row(0, 0, &[])
-}
-
-fn row(kind: u32, tag: u32, parts: &[u32]) -> Row {
-    Row {
-        kind,
-        tag,
-        parts: parts.to_vec(),
-    }
-}
 
 /// The rows of a text of one party A that has these `rows` lines; A, row 0, is left out.
 fn rows(terms: &str) -> Vec<Row> {
@@ -34,11 +25,7 @@ fn the_whole_trial() {
         \n\
         B -> A: N\n\
         A -> B: {N, B}K\n";
-    let words = [
-        5, 8, 2, 28, 2, 34, 11, 42, 0, 0, 0, 0, 0, 0, 0, 0, 0, 0, 0, 0, 0, 0, 0, 0, 2, 0, 0, 3, 0, 3, 3, 1, 6, 3, 1, 0,
-        9, 1, 0, 1, 10, 1, 2, 3, 1, 0, 1, 2, 0, 1, 2, 3, 4,
-    ];
-    assert_eq!(narrate(text).unwrap().words(), words);
+    assert_eq!(narrate(text).unwrap().words(), EXAMPLE_1);
 }
 
 #[test]
@@ -76,30 +63,13 @@ fn rows_in_the_order_of_appearance() {
         [atom(), atom(), atom(), row(1, 0, &[3]), row(2, 0, &[1, 2, 4])]
     );
     // A party's name before what it knows; known rows sorted.
-    let book = narrate("party A knows g(X, Y), Y, A\nparty B\nB -> A: B, Z\nA -> B:\n").unwrap();
-    let expected = Book {
-        rows: vec![atom(), atom(), atom(), row(1, 0, &[1, 2]), atom(), atom()],
-        parties: vec![
-            Party {
-                name: 0,
-                known: vec![0, 2, 3],
-            },
-            Party { name: 4, known: vec![] },
-        ],
-        steps: vec![
-            Step {
-                sender: 1,
-                receiver: 0,
-                messages: vec![4, 5],
-            },
-            Step {
-                sender: 0,
-                receiver: 1,
-                messages: vec![],
-            },
-        ],
-    };
-    assert_eq!(book, expected);
+    let narrated = narrate("party A knows g(X, Y), Y, A\nparty B\nB -> A: B, Z\nA -> B:\n").unwrap();
+    let expected = book(
+        vec![atom(), atom(), atom(), row(1, 0, &[1, 2]), atom(), atom()],
+        &[party(0, &[0, 2, 3]), party(4, &[])],
+        &[step(1, 0, &[4, 5]), step(0, 1, &[])],
+    );
+    assert_eq!(narrated, expected);
 }
 
 #[test]

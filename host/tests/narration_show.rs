@@ -1,10 +1,13 @@
 //! What is shown of a book: a narration of that very book, or the words at fault.
 
-use host::book::{read, Book, Party, Row, Step};
+mod common;
+
+use common::{atoms, book, party, row, step};
+use host::book::{read, Book, Party, Step};
 use host::narration::narrate;
 use host::random::{self, Random};
 use host::show::show;
-use host::translate::words_of;
+use host::words;
 
 fn shown(narration: &str) -> String {
     show(&narrate(narration).unwrap().words())
@@ -153,11 +156,7 @@ fn random_books_come_back() {
 fn tables_of_any_order_come_back() {
     let mut random = Random::new(3);
     for _ in 0..2_000 {
-        let mut book = Book {
-            rows: Vec::new(),
-            parties: Vec::new(),
-            steps: Vec::new(),
-        };
+        let mut book = book(Vec::new(), &[], &[]);
         let mut sizes: Vec<usize> = Vec::new();
         let count = random.between(2, 40);
         while book.rows.len() < count {
@@ -165,11 +164,7 @@ fn tables_of_any_order_come_back() {
             let n = [0, random.below(4), random.between(1, 4), 1, 1][kind];
             let parts: Vec<u32> = (0..n).map(|_| random.below(book.rows.len()) as u32).collect();
             let tag = if kind == 1 { random.below(3) as u32 * 32767 } else { 0 };
-            let row = Row {
-                kind: kind as u32,
-                tag,
-                parts,
-            };
+            let row = row(kind as u32, tag, &parts);
             let size = [2, 3, 2, 1, 1][kind] + row.parts.iter().map(|part| sizes[*part as usize]).sum::<usize>();
             if size <= 1024 && (kind == 0 || !book.rows.contains(&row)) {
                 book.rows.push(row);
@@ -178,23 +173,16 @@ fn tables_of_any_order_come_back() {
         }
         for name in (0..count).filter(|row| book.rows[*row].kind == 0).take(16) {
             if random.percent(70) || book.parties.is_empty() {
-                let known = (0..count as u32).filter(|_| random.percent(20)).collect();
-                book.parties.push(Party {
-                    name: name as u32,
-                    known,
-                });
+                let known: Vec<u32> = (0..count as u32).filter(|_| random.percent(20)).collect();
+                book.parties.push(party(name as u32, &known));
             }
         }
         let parties = book.parties.len();
         for _ in 0..if parties == 1 { 0 } else { random.below(5) } {
             let sender = random.below(parties);
             let receiver = (sender + random.between(1, parties - 1)) % parties;
-            let messages = (0..random.below(9)).map(|_| random.below(count) as u32).collect();
-            book.steps.push(Step {
-                sender: sender as u32,
-                receiver: receiver as u32,
-                messages,
-            });
+            let messages: Vec<u32> = (0..random.below(9)).map(|_| random.below(count) as u32).collect();
+            book.steps.push(step(sender as u32, receiver as u32, &messages));
         }
         assert_eq!(read(&book.words()).as_ref(), Ok(&book));
         comes_back(&book);
@@ -205,12 +193,7 @@ fn tables_of_any_order_come_back() {
 /// may be, and in every message.
 #[test]
 fn the_heaviest_table_comes_back() {
-    let row = |kind, tag, parts: &[u32]| Row {
-        kind,
-        tag,
-        parts: parts.to_vec(),
-    };
-    let mut rows = vec![row(0, 0, &[]); 16];
+    let mut rows = atoms(16);
     // Sizes 7, 17, 37, 77, 157, 317, 637, each by doubling the one before.
     for last in 15..22 {
         rows.push(row(1, last, &[last, last]));
@@ -223,20 +206,11 @@ fn the_heaviest_table_comes_back() {
             _ => row(3 + last / 2 % 2, 0, &[last]),
         });
     }
-    let party = |name| Party {
-        name,
-        known: (768..1024).collect(),
-    };
-    let step = |number: u32| Step {
-        sender: number % 16,
-        receiver: (number + 1) % 16,
-        messages: (1016..1024).collect(),
-    };
-    let book = Book {
-        rows,
-        parties: (0..16).map(party).collect(),
-        steps: (0..64).map(step).collect(),
-    };
+    let (known, messages): (Vec<u32>, Vec<u32>) = ((768..1024).collect(), (1016..1024).collect());
+    let parties: Vec<Party> = (0..16).map(|name| party(name, &known)).collect();
+    let step = |number: u32| step(number % 16, (number + 1) % 16, &messages);
+    let steps: Vec<Step> = (0..64).map(step).collect();
+    let book = book(rows, &parties, &steps);
     assert!(read(&book.words()).as_ref() == Ok(&book));
     let text = show(&book.words());
     assert!(text.len() > 10_000_000);
@@ -262,7 +236,7 @@ fn nothing_that_is_shown_panics() {
         }
     };
     for bytes in random::books(5, 1_500) {
-        if let Ok(words) = words_of(&bytes) {
+        if let Ok(words) = words::of_bytes(&bytes) {
             see(&words);
         }
     }

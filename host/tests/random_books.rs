@@ -1,22 +1,13 @@
 //! What the random books have in them: every refusal, long listings, and all kinds of events.
 
 use host::book::{self, Book};
+use host::compare;
 use host::random;
 use host::translate::{self, Event, Image};
+use host::words;
 use std::collections::BTreeMap;
 
 const SEED: u64 = 2_024;
-
-/// The kind of answer: 0 for a listing, else the refusal's number; and the line.
-fn answer(bytes: &[u8]) -> (u32, String) {
-    let line = translate::print(bytes);
-    let mut words = line.split(' ');
-    let number = match words.next() {
-        Some("refused") => words.next().and_then(|number| number.parse().ok()),
-        _ => Some(0),
-    };
-    (number.expect("a refusal has a number"), line)
-}
 
 #[test]
 fn every_answer_occurs() {
@@ -25,7 +16,8 @@ fn every_answer_occurs() {
     let mut uneven = 0;
     for bytes in random::books(SEED, 2_000) {
         uneven += usize::from(bytes.len() % 4 != 0);
-        let (number, line) = answer(&bytes);
+        let line = translate::print(&bytes);
+        let number = compare::kind(&line);
         *counts.entry(number).or_default() += 1;
         long += usize::from(number == 0 && line.split(' ').count() > 10_000);
     }
@@ -65,7 +57,7 @@ fn words_and_back() {
         }
     }
     for bytes in random::books(SEED, 500) {
-        let Ok(words) = translate::words_of(&bytes) else {
+        let Ok(words) = words::of_bytes(&bytes) else {
             continue;
         };
         if let Ok(book) = book::read(&words) {
@@ -131,7 +123,7 @@ fn tally(book: &Book, program: &[Event], tally: &mut Tally) {
 fn every_kind_of_event_occurs() {
     let mut all = Tally::default();
     for bytes in random::books(SEED, 2_000) {
-        let book = translate::words_of(&bytes).and_then(|words| book::read(&words));
+        let book = words::of_bytes(&bytes).and_then(|words| book::read(&words));
         let Ok(book) = book else {
             continue;
         };

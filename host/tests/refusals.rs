@@ -1,34 +1,14 @@
 //! Every refusal of document 01's table at each of its places, their order, and that all lent
 //! words stay as they were.
 
-use host::book::{read, Book, Party, Refusal, Row, Step};
+mod common;
+
+use common::{atoms, book, parties, party, row, step};
+use host::book::{read, Book, Refusal, Row, Step};
 use host::rehearse::rehearse;
 use host::translate::translate;
 
 const MAX: u32 = u32::MAX;
-
-fn row(kind: u32, tag: u32, parts: &[u32]) -> Row {
-    Row {
-        kind,
-        tag,
-        parts: parts.to_vec(),
-    }
-}
-
-fn party(name: u32, known: &[u32]) -> Party {
-    Party {
-        name,
-        known: known.to_vec(),
-    }
-}
-
-fn step(sender: u32, receiver: u32, messages: &[u32]) -> Step {
-    Step {
-        sender,
-        receiver,
-        messages: messages.to_vec(),
-    }
-}
 
 /// A book with a row of every kind, two parties and three steps that nothing refuses.
 fn sound() -> Book {
@@ -404,11 +384,7 @@ fn refusal_9() {
 
 /// Atoms A, B, C, K, N, M and over them whatever rows a test adds.
 fn three(rows: &[Row], known: [&[u32]; 3], steps: &[Step]) -> Book {
-    Book {
-        rows: [vec![row(0, 0, &[]); 6], rows.to_vec()].concat(),
-        parties: vec![party(0, known[0]), party(1, known[1]), party(2, known[2])],
-        steps: steps.to_vec(),
-    }
+    book([atoms(6), rows.to_vec()].concat(), &parties(&known), steps)
 }
 
 #[test]

@@ -1,18 +1,12 @@
 //! The rehearsal under schedules whose outcome was worked out by hand.
 
-use host::book::{Book, Party, Row, Step};
+mod common;
+
+use common::{atoms, book, parties, step, EXAMPLE_1, SMALLEST};
 use host::random;
 use host::rehearse::{print, rehearse};
 use host::translate::{self, Event};
-
-const EXAMPLE_1: [u32; 53] = [
-    5, 8, 2, 28, 2, 34, 11, 42, //
-    0, 0, 0, 0, 0, 0, 0, 0, 0, 0, 0, 0, 0, 0, 0, 0, //
-    2, 0, 0, 3, //
-    0, 3, 3, 1, 6, 3, //
-    1, 0, 9, 1, 0, 1, 10, 1, //
-    2, 3, 1, 0, 1, 2, 0, 1, 2, 3, 4,
-];
+use host::words;
 
 /// Events done in example 1, where A receives and sends, and B makes, sends, receives and compares.
 fn done(schedule: &[u32]) -> [u32; 2] {
@@ -40,10 +34,10 @@ fn example_1() {
 
 #[test]
 fn on_bytes() {
-    let book = random::bytes_of(&EXAMPLE_1);
-    assert_eq!(print(&book, &random::bytes_of(&[1, 1, 0])), "1 2");
+    let book = words::to_bytes(&EXAMPLE_1);
+    assert_eq!(print(&book, &words::to_bytes(&[1, 1, 0])), "1 2");
     assert_eq!(print(&book, &[]), "0 0");
-    assert_eq!(print(&book, &random::bytes_of(&[1, 2])), "refused 11 1");
+    assert_eq!(print(&book, &words::to_bytes(&[1, 2])), "refused 11 1");
     assert_eq!(print(&book, &[0; 7]), "refused 1 0");
     assert_eq!(print(&book[..50], &[0; 4]), "refused 1 0");
     assert_eq!(print(&book[..52], &[0; 7]), "refused 1 0");
@@ -55,9 +49,8 @@ fn on_bytes() {
 /// One party alone has nothing to do.
 #[test]
 fn no_step() {
-    let words = [1, 8, 1, 12, 0, 15, 0, 15, 0, 0, 0, 0, 0, 0, 0];
     let mut out = [77];
-    assert_eq!(rehearse(&words, &[0; 4_096], &mut out), Ok(1));
+    assert_eq!(rehearse(&SMALLEST, &[0; 4_096], &mut out), Ok(1));
     assert_eq!(out, [0]);
 }
 
@@ -65,25 +58,8 @@ fn no_step() {
 /// messages wait for their receiver.
 #[test]
 fn messages_wait() {
-    let atom = Row {
-        kind: 0,
-        tag: 0,
-        parts: vec![],
-    };
-    let party = |name| Party {
-        name,
-        known: vec![name],
-    };
-    let step = |sender, receiver| Step {
-        sender,
-        receiver,
-        messages: vec![sender],
-    };
-    let book = Book {
-        rows: vec![atom; 3],
-        parties: vec![party(0), party(1), party(2)],
-        steps: vec![step(0, 1), step(0, 1), step(0, 2), step(2, 1)],
-    };
+    let steps = [(0, 1), (0, 1), (0, 2), (2, 1)].map(|(sender, receiver)| step(sender, receiver, &[sender]));
+    let book = book(atoms(3), &parties(&[&[0], &[1], &[2]]), &steps);
     let done = |schedule: &[u32]| {
         let mut out = [77; 3];
         assert_eq!(rehearse(&book.words(), schedule, &mut out), Ok(3));

@@ -1,37 +1,14 @@
 //! What the program `shelf` is run on, and what it must print.
 
-use host::random::bytes_of;
+mod common;
+
+use common::{top, Folder, EXAMPLE_1, LISTING_1};
 use host::shelf::Shelf;
-use std::fs;
-use std::path::{Path, PathBuf};
+use host::words::{self, to_bytes};
 
-const EXAMPLE_1: [u32; 53] = [
-    5, 8, 2, 28, 2, 34, 11, 42, 0, 0, 0, 0, 0, 0, 0, 0, 0, 0, 0, 0, 0, 0, 0, 0, 2, 0, 0, 3, 0, 3, 3, 1, 6, 3, 1, 0, 9,
-    1, 0, 1, 10, 1, 2, 3, 1, 0, 1, 2, 0, 1, 2, 3, 4,
-];
-
-const LINES_1: &str = "\
-2 5 19 24 23 3 0 0 1 2 1 1 3 2 0 2 1 0 0 1 6 1 3 0 1 3 2 0 1 0 3 3 1 0 1 4 0 3 2 0 2 0 3 0 1 6 0
-2 4
-2 4
-2 4
-2 4
-refused 11 2
-refused 11 4096
-";
-
-fn top() -> PathBuf {
-    Path::new(env!("CARGO_MANIFEST_DIR")).join("..")
-}
-
-fn folder(name: &str, books: &[(&str, &[u8])]) -> PathBuf {
-    let folder = Path::new(env!("CARGO_TARGET_TMPDIR")).join(name);
-    let _ = fs::remove_dir_all(&folder);
-    fs::create_dir_all(&folder).unwrap();
-    for (name, bytes) in books {
-        fs::write(folder.join(name), bytes).unwrap();
-    }
-    folder
+/// The lines of example 1: its listing, and its rehearsals.
+fn lines_1() -> String {
+    words::line(&LISTING_1) + "\n2 4\n2 4\n2 4\n2 4\nrefused 11 2\nrefused 11 4096\n"
 }
 
 fn text(shelf: &Shelf) -> &str {
@@ -53,28 +30,28 @@ fn the_crate_is_current() {
 
 #[test]
 fn a_stream_of_books() {
-    let example = bytes_of(&EXAMPLE_1);
+    let example = to_bytes(&EXAMPLE_1);
     let books: [(&str, &[u8]); 4] = [
         ("b.book", &example),
         ("a.book", &[]),
         ("c.book", &[1, 2, 3]),
         ("d.listing", b"1"),
     ];
-    let folder = folder("stream", &books);
-    let shelf = Shelf::of(&folder).unwrap();
+    let folder = Folder::with("stream", &books);
+    let shelf = Shelf::of(folder.at()).unwrap();
     assert_eq!(shelf.books, 2);
     assert_eq!(shelf.stdin, [&[0; 4], &[53, 0, 0, 0], &example[..]].concat());
     let refused = "refused 1 0\n".repeat(7);
-    assert_eq!(text(&shelf), refused + LINES_1);
-    let left_out = folder.join("c.book").display().to_string();
+    assert_eq!(text(&shelf), refused + &lines_1());
+    let left_out = folder.path("c.book");
     assert_eq!(shelf.told(), format!("2 books on the shelf, left out: {left_out}"));
 }
 
 /// A longer book comes as one word more than the longest, as the small program reads it.
 #[test]
 fn a_long_book() {
-    let folder = folder("long", &[("a.book", &[1; 4 * 12_602])]);
-    let shelf = Shelf::of(&folder).unwrap();
+    let folder = Folder::with("long", &[("a.book", &[1; 4 * 12_602])]);
+    let shelf = Shelf::of(folder.at()).unwrap();
     assert_eq!(shelf.stdin.len(), 4 + 4 * 12_601);
     assert_eq!(shelf.stdin[..4], 12_601_u32.to_le_bytes());
 }
@@ -88,11 +65,11 @@ fn the_rounds() {
     ];
     let mut other = words;
     other[2] = 17;
-    let folder = folder(
+    let folder = Folder::with(
         "rounds",
-        &[("a.book", &bytes_of(&words)), ("b.book", &bytes_of(&other))],
+        &[("a.book", &to_bytes(&words)), ("b.book", &to_bytes(&other))],
     );
-    let shelf = Shelf::of(&folder).unwrap();
+    let shelf = Shelf::of(folder.at()).unwrap();
     let lines: Vec<&str> = text(&shelf).lines().collect();
     assert_eq!(lines[1..5], ["0 0 0"; 4]);
     assert_eq!(lines[5..7], ["refused 11 3", "refused 11 4096"]);
@@ -101,20 +78,19 @@ fn the_rounds() {
 
 #[test]
 fn stale_and_missing_files_are_named() {
-    let books = folder("stale-books", &[("a.book", &bytes_of(&EXAMPLE_1))]);
-    let to = folder("stale-crate", &[]);
-    let shelf = Shelf::of(&books).unwrap();
-    assert_eq!(shelf.write(&to), Ok(()));
-    assert_eq!(shelf.check(&to), Ok(()));
-    assert_eq!(fs::read_to_string(to.join("stdout")).unwrap(), LINES_1);
-    fs::write(to.join("stdout"), "2 4\n").unwrap();
-    fs::remove_file(to.join("stdin")).unwrap();
-    let faults = shelf.check(&to).unwrap_err();
+    let books = Folder::with("stale-books", &[("a.book", &to_bytes(&EXAMPLE_1))]);
+    let to = Folder::new("stale-crate");
+    let shelf = Shelf::of(books.at()).unwrap();
+    assert_eq!(shelf.write(to.at()), Ok(()));
+    assert_eq!(shelf.check(to.at()), Ok(()));
+    assert_eq!(to.text("stdout"), lines_1());
+    to.file("stdout", "2 4\n");
+    to.remove("stdin");
+    let faults = shelf.check(to.at()).unwrap_err();
     let faults: Vec<&str> = faults.lines().collect();
-    let named = |file: &str| to.join(file).display().to_string();
-    assert!(faults[0].starts_with(&named("stdin")), "{faults:?}");
-    let stale = named("stdout") + ": stale, not what the books give";
+    assert!(faults[0].starts_with(&to.path("stdin")), "{faults:?}");
+    let stale = to.path("stdout") + ": stale, not what the books give";
     assert_eq!(faults[1..], [stale]);
-    assert!(Shelf::of(&books.join("none")).is_err());
-    assert!(shelf.write(&to.join("none")).is_err());
+    assert!(Shelf::of(&books.at().join("none")).is_err());
+    assert!(shelf.write(&to.at().join("none")).is_err());
 }

@@ -1,53 +1,15 @@
 //! Document 01's "Trials at the edges", marked P or not, and the examples of source 000 as
 //! document 01 reads them. Every expected word was worked out by hand from figure 3.
 
+mod common;
+
+use common::{atoms, book, party, row, step, EXAMPLE_1, LISTING_1, SMALLEST};
 use host::book::{read, Book, Party, Refusal, Row, Step};
 use host::translate::{print, translate};
+use host::words::{self, to_bytes};
 
 /// What stands in a lent buffer beforehand.
 const OLD: u32 = 0xfeed;
-
-fn refusal(number: u32, place: &[u32]) -> Refusal {
-    Refusal {
-        number,
-        place: place.to_vec(),
-    }
-}
-
-fn row(kind: u32, tag: u32, parts: &[u32]) -> Row {
-    Row {
-        kind,
-        tag,
-        parts: parts.to_vec(),
-    }
-}
-
-fn atoms(count: usize) -> Vec<Row> {
-    vec![row(0, 0, &[]); count]
-}
-
-fn party(name: u32, known: &[u32]) -> Party {
-    Party {
-        name,
-        known: known.to_vec(),
-    }
-}
-
-fn step(sender: u32, receiver: u32, messages: &[u32]) -> Step {
-    Step {
-        sender,
-        receiver,
-        messages: messages.to_vec(),
-    }
-}
-
-fn book(rows: Vec<Row>, parties: &[Party], steps: &[Step]) -> Book {
-    Book {
-        rows,
-        parties: parties.to_vec(),
-        steps: steps.to_vec(),
-    }
-}
 
 /// Translates into a long buffer; the words past the listing must be the old ones, and a refusal
 /// must leave all of them.
@@ -72,41 +34,20 @@ fn joined(parties: &[&[u32]]) -> Vec<u32> {
     words
 }
 
-fn bytes(words: &[u32]) -> Vec<u8> {
-    words.iter().flat_map(|word| word.to_le_bytes()).collect()
-}
-
 #[test]
 fn one_row_one_party_no_step() {
-    let words = [1, 8, 1, 12, 0, 15, 0, 15, 0, 0, 0, 0, 0, 0, 0];
-    assert_eq!(words.len(), 15);
-    assert_eq!(listing(&words), Ok(vec![1, 3, 2, 6, 0]));
-    assert_eq!(print(&bytes(&words)), "1 3 2 6 0");
+    assert_eq!(listing(&SMALLEST), Ok(vec![1, 3, 2, 6, 0]));
+    assert_eq!(print(&to_bytes(&SMALLEST)), "1 3 2 6 0");
 
     let mut short = [7, 8, 9, 10];
-    assert_eq!(translate(&words, &mut short), Err(refusal(12, &[5])));
+    assert_eq!(translate(&SMALLEST, &mut short), Err(Refusal::new(12, &[5])));
     assert_eq!(short, [7, 8, 9, 10]);
     let mut none = [];
-    assert_eq!(translate(&words, &mut none), Err(refusal(12, &[5])));
+    assert_eq!(translate(&SMALLEST, &mut none), Err(Refusal::new(12, &[5])));
     let mut exact = [OLD; 5];
-    assert_eq!(translate(&words, &mut exact), Ok(5));
+    assert_eq!(translate(&SMALLEST, &mut exact), Ok(5));
     assert_eq!(exact, [1, 3, 2, 6, 0]);
 }
-
-const EXAMPLE_1: [u32; 53] = [
-    5, 8, 2, 28, 2, 34, 11, 42, //
-    0, 0, 0, 0, 0, 0, 0, 0, 0, 0, 0, 0, 0, 0, 0, 0, //
-    2, 0, 0, 3, //
-    0, 3, 3, 1, 6, 3, //
-    1, 0, 9, 1, 0, 1, 10, 1, //
-    2, 3, 1, 0, 1, 2, 0, 1, 2, 3, 4,
-];
-
-const LISTING_1: [u32; 47] = [
-    2, 5, 19, 24, 23, //
-    3, 0, 0, 1, 2, 1, 1, 3, 2, 0, 2, 1, 0, 0, 1, 6, 1, 3, 0, //
-    1, 3, 2, 0, 1, 0, 3, 3, 1, 0, 1, 4, 0, 3, 2, 0, 2, 0, 3, 0, 1, 6, 0,
-];
 
 #[test]
 fn example_1() {
@@ -118,8 +59,7 @@ fn example_1() {
     );
     assert_eq!(built.words(), EXAMPLE_1);
     assert_eq!(read(&EXAMPLE_1), Ok(built));
-    let line: Vec<String> = LISTING_1.iter().map(u32::to_string).collect();
-    assert_eq!(print(&bytes(&EXAMPLE_1)), line.join(" "));
+    assert_eq!(print(&to_bytes(&EXAMPLE_1)), words::line(&LISTING_1));
 }
 
 #[test]
@@ -130,8 +70,8 @@ fn a_taken_atom_would_have_to_be_made() {
         &[party(0, &[0, 1, 2]), party(1, &[0, 1])],
         &[step(0, 1, &[4]), step(1, 0, &[3])],
     );
-    assert_eq!(listing(&book.words()), Err(refusal(10, &[1, 3])));
-    assert_eq!(print(&bytes(&book.words())), "refused 10 1 3");
+    assert_eq!(listing(&book.words()), Err(Refusal::new(10, &[1, 3])));
+    assert_eq!(print(&to_bytes(&book.words())), "refused 10 1 3");
 }
 
 #[test]
@@ -184,7 +124,7 @@ fn the_operation_over_an_unknown_atom() {
     assert_eq!(listing(&sent_on.words()), Ok(joined(&[&a, &b])));
 
     let itself = book(rows, &parties, &[step(0, 1, &[3]), step(1, 0, &[2])]);
-    assert_eq!(listing(&itself.words()), Err(refusal(10, &[1, 2])));
+    assert_eq!(listing(&itself.words()), Err(Refusal::new(10, &[1, 2])));
 }
 
 #[test]
@@ -200,7 +140,7 @@ fn a_step_with_no_messages() {
 fn the_sender_is_the_receiver() {
     let parties = [party(0, &[]), party(1, &[])];
     let own = book(atoms(2), &parties, &[step(0, 0, &[])]);
-    assert_eq!(listing(&own.words()), Err(refusal(8, &[0])));
+    assert_eq!(listing(&own.words()), Err(Refusal::new(8, &[0])));
 }
 
 /// Row 0 an atom and each later row the public half of the one before, up to row `last`.
@@ -216,7 +156,7 @@ fn a_chain_of_halves() {
     assert_eq!(passes.term(1_022).size(), 1_024);
     assert_eq!(listing(&passes.words()), Ok(vec![1, 3, 2, 6, 0]));
     let refused = book(halves(1_023), &parties, &[]);
-    assert_eq!(listing(&refused.words()), Err(refusal(5, &[1_023])));
+    assert_eq!(listing(&refused.words()), Err(Refusal::new(5, &[1_023])));
 }
 
 #[test]
@@ -440,12 +380,12 @@ fn the_longest_listing_that_is_printed() {
     let fits = [1_024, 1_024, 1_024, 1_024, 1_024, 1_024, 1_024, 500, 479];
     let words = halves_of_sizes(&fits).words();
     assert_eq!(listing(&words).map(|listing| listing.len()), Ok(16_384));
-    assert_eq!(print(&bytes(&words)).split(' ').count(), 16_384);
+    assert_eq!(print(&to_bytes(&words)).split(' ').count(), 16_384);
 
     let over = [1_024, 1_024, 1_024, 1_024, 1_024, 1_024, 1_024, 500, 400, 75];
     let words = halves_of_sizes(&over).words();
     assert_eq!(listing(&words).map(|listing| listing.len()), Ok(16_385));
-    assert_eq!(print(&bytes(&words)), "refused 12 16385");
+    assert_eq!(print(&to_bytes(&words)), "refused 12 16385");
 }
 
 #[test]
@@ -465,12 +405,12 @@ fn the_longest_book() {
     let own = 4 * (3 + 8 * 19) + 4 * (4 + 8 * 21) + 2;
     let length = listing(&words).map(|listing| listing.len());
     assert_eq!(length, Ok(33 + 16 * own));
-    assert_eq!(print(&bytes(&words)), format!("refused 12 {}", 33 + 16 * own));
+    assert_eq!(print(&to_bytes(&words)), format!("refused 12 {}", 33 + 16 * own));
 }
 
 #[test]
 fn the_small_program_reads_so_far_and_no_further() {
-    let mut file = bytes(&EXAMPLE_1);
+    let mut file = to_bytes(&EXAMPLE_1);
     file.push(0);
     assert_eq!(print(&file), "refused 1 0");
     file.extend([0, 0, 0]);

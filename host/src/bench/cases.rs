@@ -4,9 +4,10 @@ use crate::book::{
     Book, Party, Row, Step, ATOM, CIPHER, MOST_KNOWN, MOST_MESSAGES, MOST_PARTIES, MOST_ROWS, MOST_STEPS, OPERATION,
     PRIVATE, PUBLIC,
 };
+use crate::files;
 use crate::random;
 use crate::translate::{self, LENT};
-use std::fs;
+use crate::words;
 use std::path::Path;
 
 /// A book in memory, with a name to tell it by.
@@ -67,16 +68,10 @@ fn group(name: &str, cases: Vec<Case>, wanted: impl Fn(&Case) -> bool) -> Group 
 
 /// The books of a folder whose bytes are words, sorted by name.
 fn books(folder: &Path) -> Result<Vec<Case>, String> {
-    let told = |error: std::io::Error| format!("{}: {error}", folder.display());
     let mut cases = Vec::new();
-    for entry in fs::read_dir(folder).map_err(told)? {
-        let path = entry.map_err(told)?.path();
-        if path.extension().is_none_or(|extension| extension != "book") {
-            continue;
-        }
-        let bytes = fs::read(&path).map_err(told)?;
-        let name = path.file_stem().unwrap_or_default();
-        cases.extend(translate::words_of(&bytes).ok().map(|words| Case {
+    for file in files::ending(folder, "book")? {
+        let name = file.file_stem().unwrap_or_default();
+        cases.extend(words::of_bytes(&files::bytes(&file)?).ok().map(|words| Case {
             name: name.to_string_lossy().into_owned(),
             words,
         }));

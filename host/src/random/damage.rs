@@ -1,7 +1,8 @@
 //! Damaged books: each is aimed at one refusal of 1 to 9, or at nothing in particular.
 
-use super::{bytes_of, shape, Random};
+use super::{shape, Random};
 use crate::book::{Book, Row, ATOM, CIPHER, MOST_ROWS, OPERATION, PUBLIC};
+use crate::words;
 
 /// The file of a damaged book.
 pub fn bytes(random: &mut Random) -> Vec<u8> {
@@ -30,7 +31,7 @@ pub fn bytes(random: &mut Random) -> Vec<u8> {
         let at = random.below(words.len());
         words[at] = odd(random, words[at]);
     }
-    let mut bytes = bytes_of(&words);
+    let mut bytes = words::to_bytes(&words);
     if random.percent(if aim == 1 || aim == 10 { 60 } else { 2 }) {
         let cut = random.between(1, 3).min(bytes.len());
         bytes.truncate(bytes.len() - cut);

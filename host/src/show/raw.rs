@@ -2,8 +2,8 @@
 //! the refusal stands right under the header word, row, party or step it names.
 
 use super::why;
-use crate::book::{Refusal, HEADER};
-use crate::translate;
+use crate::book::{Refusal, Sections, HEADER, MOST_KNOWN, MOST_MESSAGES, MOST_PARTS};
+use crate::words;
 use std::ops::RangeInclusive;
 
 const NAMES: [&str; HEADER as usize] = [
@@ -26,7 +26,7 @@ pub fn show(words: &[u32], refusal: &Refusal) -> String {
         reason: why::why(words, refusal.number, place),
     };
     if refusal.number == 1 {
-        page.line(&format!("words: {}", list(words)));
+        page.line(&format!("words: {}", line(words)));
         page.mark(1..=1, 0, "0");
         return page.lines;
     }
@@ -71,7 +71,7 @@ impl Page {
 
     fn sections(&mut self, sections: &Sections) {
         for (number, row) in sections.rows.chunks_exact(4).enumerate() {
-            let parts = sections.list(row[2], row[3], 9);
+            let parts = list(sections, row[2], row[3], MOST_PARTS);
             self.line(&format!(
                 "row {number}: kind {}, tag {}, first {}, count {}; parts: {parts}",
                 row[0], row[1], row[2], row[3]
@@ -79,7 +79,7 @@ impl Page {
             self.mark(4..=6, number, &format!("row {number}"));
         }
         for (number, party) in sections.parties.chunks_exact(3).enumerate() {
-            let known = sections.list(party[1], party[2], 256);
+            let known = list(sections, party[1], party[2], MOST_KNOWN);
             self.line(&format!(
                 "party {number}: name {}, first {}, count {}; known: {known}",
                 party[0], party[1], party[2]
@@ -87,7 +87,7 @@ impl Page {
             self.mark(7..=7, number, &format!("party {number}"));
         }
         for (number, step) in sections.steps.chunks_exact(4).enumerate() {
-            let messages = sections.list(step[2], step[3], 8);
+            let messages = list(sections, step[2], step[3], MOST_MESSAGES);
             self.line(&format!(
                 "step {number}: sender {}, receiver {}, first {}, count {}; messages: {messages}",
                 step[0], step[1], step[2], step[3]
@@ -99,47 +99,19 @@ impl Page {
     }
 }
 
-/// The four sections of words whose header is right.
-pub struct Sections<'w> {
-    pub rows: &'w [u32],
-    pub parties: &'w [u32],
-    pub steps: &'w [u32],
-    pub pool: &'w [u32],
-}
-
-impl<'w> Sections<'w> {
-    /// Only for words that passed refusals 1 to 3.
-    pub fn of(words: &'w [u32]) -> Sections<'w> {
-        let [rows, parties, steps, pool] = [1, 3, 5, 7].map(|word| words[word] as usize);
-        Sections {
-            rows: &words[rows..parties],
-            parties: &words[parties..steps],
-            steps: &words[steps..pool],
-            pool: &words[pool..],
-        }
-    }
-
-    /// As much of a list as lies in the pool, and no more of it than a good list could have.
-    pub fn clipped(&self, first: u32, count: u32, most: usize) -> &'w [u32] {
-        let from = (first as usize).min(self.pool.len());
-        let to = from + (count as usize).min(most).min(self.pool.len() - from);
-        &self.pool[from..to]
-    }
-
-    /// A list, with two dots for what of it can't be shown.
-    fn list(&self, first: u32, count: u32, most: usize) -> String {
-        let words = self.clipped(first, count, most);
-        match words.len() {
-            0 if count > 0 => String::from(".."),
-            shown if shown as u32 == count => list(words),
-            _ => list(words) + " ..",
-        }
+/// A list, with two dots for what of it can't be shown.
+fn list(sections: &Sections, first: u32, count: u32, most: u32) -> String {
+    let words = sections.clipped(first, count, most);
+    match words.len() {
+        0 if count > 0 => String::from(".."),
+        shown if shown as u32 == count => line(words),
+        _ => line(words) + " ..",
     }
 }
 
-fn list(words: &[u32]) -> String {
+fn line(words: &[u32]) -> String {
     if words.is_empty() {
         return String::from("none");
     }
-    translate::line(words)
+    words::line(words)
 }

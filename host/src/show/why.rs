@@ -1,7 +1,6 @@
 //! Why a book is refused by 1 to 9, in words: the first broken rule of the row, party or step at fault.
 
-use super::raw::Sections;
-use crate::book::{self, HEADER};
+use crate::book::{self, Sections, HEADER};
 
 /// `number` and `place` are what the reader gave for these words.
 pub fn why(words: &[u32], number: u32, place: u32) -> String {
@@ -85,12 +84,8 @@ fn counts_before(words: &[u32], end: usize) -> u64 {
 fn row(words: &[u32], at: usize) -> Option<String> {
     let own = Sections::of(words).rows.get(4 * at..4 * at + 4)?;
     let (kind, tag, count) = (own[0], own[1], own[3]);
-    let (least, most) = match kind {
-        book::ATOM => (0, 0),
-        book::OPERATION => (0, 8),
-        book::CIPHER => (1, 9),
-        book::PUBLIC | book::PRIVATE => (1, 1),
-        _ => return Some(format!("kind {kind} is none of 0 to 4")),
+    let Some((least, most)) = book::parts(kind) else {
+        return Some(format!("kind {kind} is none of 0 to 4"));
     };
     if kind != book::OPERATION && tag != 0 {
         return Some(format!("tag {tag}, where only an operation has one other than 0"));
@@ -103,7 +98,7 @@ fn row(words: &[u32], at: usize) -> Option<String> {
     }
     let broken = list(words, &own[2..], counts_before(words, 8 + 4 * at), most);
     broken.or_else(|| {
-        let parts = Sections::of(words).clipped(own[2], count, 9);
+        let parts = Sections::of(words).clipped(own[2], count, most);
         let later = parts.iter().find(|part| **part as usize >= at)?;
         Some(format!("part {later} is no row before it"))
     })
@@ -113,14 +108,9 @@ fn size(words: &[u32], at: usize) -> Option<String> {
     let sections = Sections::of(words);
     let mut sizes: Vec<u64> = Vec::new();
     for row in sections.rows.chunks_exact(4).take(at + 1) {
-        let own = match row[0] {
-            book::ATOM | book::CIPHER => 2,
-            book::OPERATION => 3,
-            _ => 1,
-        };
-        let parts = sections.clipped(row[2], row[3], 9);
+        let parts = sections.clipped(row[2], row[3], book::MOST_PARTS);
         let parts: u64 = parts.iter().filter_map(|part| sizes.get(*part as usize)).sum();
-        sizes.push(own + parts);
+        sizes.push(u64::from(book::own_size(row[0])) + parts);
     }
     Some(format!("size {} is over {}", sizes.last()?, book::MOST_SIZE))
 }
@@ -129,7 +119,11 @@ fn repeated(words: &[u32], at: usize) -> Option<String> {
     let sections = Sections::of(words);
     let own = |row: usize| {
         let words = &sections.rows[4 * row..4 * row + 4];
-        (words[0], words[1], sections.clipped(words[2], words[3], 9))
+        (
+            words[0],
+            words[1],
+            sections.clipped(words[2], words[3], book::MOST_PARTS),
+        )
     };
     let earlier = (0..at).find(|earlier| own(*earlier) == own(at))?;
     Some(format!("agrees in kind, tag and parts with row {earlier}"))
@@ -151,7 +145,7 @@ fn party(words: &[u32], at: usize) -> Option<String> {
     let before = counts_before(words, words[3] as usize + 3 * at);
     let broken = list(words, &own[1..], before, book::MOST_KNOWN);
     broken.or_else(|| {
-        let known = sections.clipped(own[1], own[2], 256);
+        let known = sections.clipped(own[1], own[2], book::MOST_KNOWN);
         if let Some(row) = known.iter().find(|row| **row >= words[0]) {
             return Some(format!("known {row} is no row"));
         }
@@ -177,7 +171,7 @@ fn step(words: &[u32], at: usize) -> Option<String> {
     let before = counts_before(words, words[5] as usize + 4 * at);
     let broken = list(words, &own[2..], before, book::MOST_MESSAGES);
     broken.or_else(|| {
-        let messages = sections.clipped(own[2], own[3], 8);
+        let messages = sections.clipped(own[2], own[3], book::MOST_MESSAGES);
         let message = messages.iter().find(|row| **row >= words[0])?;
         Some(format!("message {message} is no row"))
     })

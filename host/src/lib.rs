@@ -5,6 +5,7 @@ pub mod book;
 pub mod compare;
 pub mod corpus;
 pub mod files;
+pub mod frames;
 pub mod machine;
 pub mod narration;
 pub mod random;

@@ -1,7 +1,7 @@
 //! The commands of the second implementation.
 
 use host::shelf::Shelf;
-use host::{bench, compare, corpus, files, narration, random, rehearse, show, translate, words};
+use host::{bench, compare, corpus, files, frames, narration, random, rehearse, show, translate, words};
 use std::io::{self, Write};
 use std::path::{Path, PathBuf};
 use std::process::ExitCode;
@@ -18,6 +18,7 @@ host shelf [--check] BOOKS CRATE        write (or only check) what the program s
 host random SEED COUNT DIR              write random books
 host compare PROGRAM PATH..             compare a program over books and folders of books
 host compare PROGRAM --random SEED COUNT   compare a program over random books
+host frames OBJECT [NAME..]             print the stack frames of an object's functions, in bytes (x86-64)
 host bench LIB BOOKS [PLOT]             time proved code, a library made by host/bench, against this on books
 host help                               print this
 ";
@@ -108,6 +109,11 @@ fn run(arguments: &[String]) -> Result<bool, String> {
             let paths = [&[*first], rest].concat();
             let paths: Vec<PathBuf> = paths.iter().map(PathBuf::from).collect();
             return compare::over(program, &paths, &mut io::stdout());
+        }
+        ["frames", object, names @ ..] => {
+            for frame in frames::read(Path::new(object), names)? {
+                say(&format!("{} {}\n", frame.bytes, frame.name))?;
+            }
         }
         ["bench", library, books, plot @ ..] if plot.len() < 2 => {
             let (library, books) = (Path::new(library), Path::new(books));

@@ -97,6 +97,8 @@ fn help() {
         "shelf",
         "random",
         "compare",
+        "frames",
+        "bench",
     ] {
         assert!(text.contains(&format!("host {command} ")), "{command}");
     }
@@ -129,6 +131,9 @@ fn bad_input() {
     complains(&["random", "1", "1", &binary]);
     complains(&["random", "1"]);
     complains(&["compare", "program"]);
+    complains(&["frames"]);
+    complains(&["frames", &missing]);
+    complains(&["frames", &binary, "some"]);
     complains(&["compare", &missing, &binary]);
     complains(&["compare", "program", "--random", "1"]);
     complains(&["compare", "program", &directory]);

@@ -4,6 +4,7 @@ pub mod bench;
 pub mod book;
 pub mod compare;
 pub mod corpus;
+pub mod edits;
 pub mod files;
 pub mod frames;
 pub mod machine;

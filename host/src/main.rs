@@ -1,7 +1,7 @@
 //! The commands of the second implementation.
 
 use host::shelf::Shelf;
-use host::{bench, compare, corpus, files, frames, narration, random, rehearse, show, translate, words};
+use host::{bench, compare, corpus, edits, files, frames, narration, random, rehearse, show, translate, words};
 use std::io::{self, Write};
 use std::path::{Path, PathBuf};
 use std::process::ExitCode;
@@ -15,6 +15,7 @@ host show FILE                          tell what a book says
 host words FILE [OUT]                   turn decimal words (# to the line's end is a remark) into a book
 host books [--check] DIR                write (or only check) the files derived in a folder of books
 host shelf [--check] BOOKS CRATE        write (or only check) what the program shelf reads and prints
+host edits [--check] CRATES DOC         write (or only check) the page of the must-fail edits
 host random SEED COUNT DIR              write random books
 host compare PROGRAM PATH..             compare a program over books and folders of books
 host compare PROGRAM --random SEED COUNT   compare a program over random books
@@ -97,6 +98,16 @@ fn run(arguments: &[String]) -> Result<bool, String> {
             let shelf = Shelf::of(Path::new(books))?;
             shelf.write(Path::new(folder))?;
             say(&format!("{}, written to {folder}\n", shelf.told()))?;
+        }
+        ["edits", "--check", crates, page] => {
+            let edits = edits::Page::of(Path::new(crates))?;
+            edits.check(Path::new(page))?;
+            say(&format!("{} edits in {page} are current\n", edits.edits))?;
+        }
+        ["edits", crates, page] if *crates != "--check" => {
+            let edits = edits::Page::of(Path::new(crates))?;
+            edits.write(Path::new(page))?;
+            say(&format!("{} edits in {page} are written\n", edits.edits))?;
         }
         ["random", seed, count, folder] => {
             random::write(number(seed)?, number(count)? as usize, Path::new(folder))?;

@@ -95,6 +95,7 @@ fn help() {
         "words",
         "books",
         "shelf",
+        "edits",
         "random",
         "compare",
         "frames",

@@ -1,3 +1,6 @@
+// The book as the other rooms read it: its refusals, the words' layout, the kinds of rows, the limits, and a function for each
+// word. Each answers exactly the word that specs/Layout.antt gives its name, of a book whose header is right and a number within
+// its section; `entry` and `first_part` answer a row of a valid book.
 use words::wide;
 ghost use mathlib.Core.Path.{_≡_};
 ghost use Prim.Native.Nat.{_+_, _^_, _≤_, _<_};

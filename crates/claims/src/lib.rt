@@ -1,3 +1,5 @@
+// From which step on each atom is taken: it is a party's name, known at the start, or in a message of an earlier step. `claims`
+// answers the table of these steps for a valid book, an entry for each row.
 use book::Kind;
 use book::entry;
 use book::parties;

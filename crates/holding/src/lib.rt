@@ -1,3 +1,6 @@
+// What a party holds, an entry for each row: 0 nothing, 1 the row itself, x + 2 placeholder x. `start` answers what is known at
+// the start, `buildable` and `can_open` whether a row, and a key's partner, can be built; the `write_..` functions write images.
+// All of it is the meaning's own (translation/specs/Dictionary.antt), for a valid book.
 use book::Kind;
 use book::entry;
 use book::first_part;

@@ -1,4 +1,5 @@
-// A program's input: bytes are read, and words made of them.
+// A program's input: bytes are read, and words made of them. `word` and `load` make each word of its four bytes, low byte first;
+// `fill` says how many bytes came, never more than there is room for. Which bytes come is the system's.
 ghost use mathlib.Core.Path.{_≡_};
 ghost use Prim.Native.Nat.{ℕ, _*_, _/_, _<_, _≤_};
 ghost use lib.ListN.{length, getD};

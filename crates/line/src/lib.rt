@@ -1,4 +1,5 @@
-// The line that is printed of a listing, and of a refusal.
+// The line that is printed of a listing, and of a refusal. `listing_line` and `refusal_line` leave exactly the line's bytes,
+// decimal with single spaces and one newline at the end; `print_answer` and `print_refusal` print it at once.
 use book::Refusal;
 use libc::STDOUT_FILENO;
 use translation::Answer;

@@ -1,5 +1,5 @@
-// Reads a book from the file that its argument names, or from standard input, and prints its
-// listing or its refusal on one line.
+// The program: reads a book from the file that its argument names, or from standard input, and prints its listing or its refusal
+// on one line. What is printed is `translator::translate`'s answer to the words that were read.
 use book::Refusal;
 use input::Input;
 use libc::STDERR_FILENO;

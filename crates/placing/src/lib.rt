@@ -1,3 +1,5 @@
+// Where the events of a book's programs stand, counted by a walk that writes nothing: a rehearsal goes by these places. `place`
+// leaves the place of each step's SEND and RECEIVE and of each party's END, for a valid book.
 use book::parties;
 use book::rows;
 use book::step_count;

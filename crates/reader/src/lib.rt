@@ -1,3 +1,5 @@
+// The reader of any words. `read` answers the number and place of the first refusal of 1 to 9 that applies, or acceptance, as the
+// ordered table of book/specs/Refusals.antt has it; no index leaves the book and no sum wraps, whatever the words.
 use book::Kind;
 use book::Layout;
 use book::Limit;

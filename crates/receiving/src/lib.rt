@@ -1,3 +1,6 @@
+// Figure 3's R: what a party does with the terms that arrive at its placeholders. `receive` and `receive_messages` write the
+// CHECKs and OPENs, put each stored pair behind the last in the log, and give back the dictionary afterwards. All of it is the
+// meaning's own (translation/specs/Receive.antt), for a valid book.
 use book::Code;
 use book::Kind;
 use book::entry;

@@ -1,3 +1,5 @@
+// The programs of a book played under a schedule. `rehearse` answers, for any words, any schedule and any lent words, the first
+// refusal of 1 to 12 that applies, or leaves the events done by each party of the plain machine; no other lent word changes.
 use book::Limit;
 use book::Reading;
 use book::Refusal;

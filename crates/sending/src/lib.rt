@@ -1,3 +1,5 @@
+// Figure 3's S: what a party does to send a step's messages. `send` writes a NEW for each atom that has to be made, in building
+// order, then the SEND with its images; `make_list` does the making alone. Both tell the first taken atom that would be made.
 use book::Code;
 use book::Kind;
 use book::entry;

@@ -1,5 +1,5 @@
-// Reads books from standard input, each with its count of words before it. Of each it prints the
-// listing or the refusal, and what its rehearsal comes to under six schedules, a line for each.
+// The program over the whole shelf of books: reads books from standard input, each with its count of words before it, and prints
+// of each the listing or the refusal, and what its rehearsal comes to under six schedules, a line for each.
 use input::Input;
 use libc::STDERR_FILENO;
 use libc::STDIN_FILENO;

@@ -1,3 +1,5 @@
+// The translator. `translate` answers, for any words and any lent words, the first refusal of 1 to 10 and 12 that applies, or
+// leaves the listing; no other lent word changes. `accept` answers refusals 1 to 10, with no buffer.
 use book::Reading;
 use book::Refusal;
 use book::parties;

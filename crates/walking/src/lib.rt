@@ -1,3 +1,6 @@
+// A party's way through the steps of a valid book. `walk` writes its events up to a step, or to the first at which it would make
+// a taken atom; `measure` counts its program's words and finds that step; `write_program` writes the program of a party that
+// makes no taken atom.
 use book::Code;
 use book::rows;
 use book::step_count;

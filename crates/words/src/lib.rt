@@ -1,3 +1,5 @@
+// Words, and writing them into lent slices. `put` and its kin write each word whose place is inside, leave every other word as it
+// was, and answer the next place, also past the end; `wide` and `narrow` are the number itself, as an index and as a word.
 ghost use mathlib.Core.Path.{_≡_};
 ghost use mathlib.Core.List.{[], _∷_};
 ghost use Prim.Native.Nat.{_^_, _≤_, _<_};

@@ -1,4 +1,5 @@
-//! The bench: the proved code against this implementation, in one process, on the same books.
+//! The bench: the proved code against this implementation, in one process, on the same books. Answers are compared
+//! first, and only equal ones are timed; the outcome is told in tables.
 
 mod cases;
 mod library;

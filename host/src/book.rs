@@ -1,4 +1,5 @@
 //! The book: its words, its rules and the refusals 1 to 9 (document 01, "The book", "The refusals and their order").
+//! `read` gives the book of any words, or the first refusal that applies; `Book::words` writes it back.
 
 use crate::term::{Fold, Form, Shared, Term};
 use std::collections::HashSet;

@@ -1,4 +1,5 @@
-//! The comparison: a program's answers held against this implementation's own, to the letter.
+//! The comparison: a program's answers held against this implementation's own, to the letter, over files of books or
+//! random ones. Every difference is told, and in the end the counts by kind of answer.
 
 use crate::files;
 use crate::random;

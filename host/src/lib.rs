@@ -1,4 +1,6 @@
-//! Nghiralum's second implementation, written from the papers alone, on terms.
+//! Nghiralum's second implementation, written from the papers alone, on terms: reader, translator and rehearsal,
+//! random books, the narration's text format, and what the gate asks for. It shares nothing with the proved code, so
+//! that each tests the other.
 
 pub mod bench;
 pub mod book;

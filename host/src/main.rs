@@ -1,4 +1,5 @@
-//! The commands of the second implementation.
+//! The commands of the second implementation: each reads its files, asks the library, and prints. Whatever a command
+//! is given, it ends with an answer or with one message on standard error and status 2.
 
 use host::shelf::Shelf;
 use host::{bench, compare, corpus, edits, files, frames, narration, random, rehearse, show, translate, words};

@@ -1,4 +1,5 @@
-//! The rehearsal: the programs of a book played under a schedule (refusals 11 and 12).
+//! The rehearsal: the programs of a book played under a schedule, and the events done by each party (refusals 11 and
+//! 12). It plays the plain machine itself, terms and all.
 
 use crate::book::{self, Refusal};
 use crate::machine::Machine;

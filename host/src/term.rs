@@ -1,4 +1,5 @@
-//! Terms: what a row of a book stands for (figure 1 of source 000, document 01 "The book").
+//! Terms: what a row of a book stands for (figure 1 of source 000, document 01 "The book"). As plain trees, and as
+//! shared ones that are compared and hashed quickly, which the translation holds.
 
 use std::collections::{HashMap, HashSet};
 use std::hash::{BuildHasherDefault, Hash, Hasher};

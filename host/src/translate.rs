@@ -1,4 +1,5 @@
-//! The translation of figure 3 as document 01 reads it: one program per party (refusals 10 and 12).
+//! The translation of figure 3 as document 01 reads it: one program per party (refusals 10 and 12), the listing's
+//! words, and the line that the small program prints.
 
 use crate::book::{self, Book, Refusal, Step};
 use crate::term::{Form, Shared, SharedMap, SharedSet};

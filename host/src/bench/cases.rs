@@ -1,4 +1,5 @@
-//! The books that are timed.
+//! The books that are timed: those of a folder, random ones, random ones that grow, and the worst that were thought
+//! of, each made to ask most of one thing.
 
 use crate::book::{
     Book, Party, Row, Step, ATOM, CIPHER, MOST_KNOWN, MOST_MESSAGES, MOST_PARTIES, MOST_ROWS, MOST_STEPS, OPERATION,

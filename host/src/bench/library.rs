@@ -1,4 +1,5 @@
-//! The proved code as a shared library, made from the kit's LLVM IR for the machine at hand (the script `host/bench`).
+//! The proved code as a shared library, made from the kit's LLVM IR for the machine at hand (the script `host/bench`):
+//! its functions found by name and called as Rattle's code is called.
 
 use crate::book::Refusal;
 use std::ffi::{c_char, c_int, c_void, CStr, CString};

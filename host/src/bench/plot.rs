@@ -1,4 +1,5 @@
-//! The plot of the growth: time per book against rows, both sides, on logarithmic scales.
+//! The plot of the growth, a picture in SVG: time per book against rows, both sides, on logarithmic scales.
+//! It is written by hand, as there is no package to draw with.
 
 use std::fmt::Write;
 

@@ -1,4 +1,5 @@
-//! Times of two sides over the same books, taken in turn.
+//! Times of two sides over the same books, taken in turn, and what they come to: medians over the rounds, and ratios
+//! within a round, so that what else the machine does counts little.
 
 use std::ffi::{c_int, c_long};
 

@@ -276,8 +276,8 @@ fn one(opcode: u8, prefixes: Prefixes, operands: Option<Operands>, constant: i32
     }
 }
 
-/// The effect of an instruction of the second map. No compiler makes an address in the stack pointer by any of them, but
-/// a conditional mov is looked at.
+/// The effect of an instruction of the second map. No compiler makes an address in the stack pointer by any of them,
+/// but a conditional mov is looked at.
 fn two(opcode: u8, operands: Option<Operands>, constant: i32) -> Effect {
     match (opcode, operands) {
         (0x80..=0x8f, _) => Effect::MayJump(constant),

@@ -1,4 +1,5 @@
-//! The lines of a text: `rows` lines, then party lines, then steps.
+//! The lines of a text: `rows` lines, then party lines, then steps. This is the first pass: how the text is written,
+//! with the spot of everything that the second pass may find at fault.
 
 use super::limits;
 use super::mistake::{mistake, Mistake, Spot};

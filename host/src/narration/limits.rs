@@ -1,4 +1,5 @@
 //! The bounds of a book as far as a text can break them, as lengths.
+//! Each is the book's own (`book.rs`); what a text can't break has none here.
 
 use crate::book;
 

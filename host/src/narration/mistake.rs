@@ -1,4 +1,5 @@
 //! A mistake in a text: where it stands, what was expected there and what was found.
+//! The first one ends the reading.
 
 use std::fmt;
 

@@ -1,4 +1,5 @@
-//! The table while it is filled: each term gets a row when it first appears, its parts before it.
+//! The table while it is filled: each term gets a row when it first appears, its parts before it, and equal terms get
+//! the same row. The limits of rows, sizes and pool are tested on the way.
 
 use super::limits;
 use super::mistake::{mistake, Mistake, Spot};

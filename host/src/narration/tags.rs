@@ -1,4 +1,5 @@
-//! The tags of operation names.
+//! The tags of operation names. A tag depends on the names of the whole text, so they are given out before any term
+//! gets its row.
 
 use crate::book::MOST_TAG;
 use std::collections::{HashMap, HashSet};

@@ -1,4 +1,5 @@
-//! One line of a text, cut into tokens. A line is the largest unit: nothing goes on over its end.
+//! One line of a text, cut into tokens, each with its spot.
+//! A line is the largest unit: nothing goes on over its end.
 
 use super::mistake::Spot;
 use std::fmt;

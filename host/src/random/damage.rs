@@ -1,4 +1,5 @@
-//! Damaged books: each is aimed at one refusal of 1 to 9, or at nothing in particular.
+//! Damaged books: each is aimed at one refusal of 1 to 9, or at nothing in particular. The damage is done to a book
+//! that kept its rules, or to its words, or to the file's bytes.
 
 use super::{shape, Random};
 use crate::book::{Book, Row, ATOM, CIPHER, MOST_ROWS, OPERATION, PUBLIC};

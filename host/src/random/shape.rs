@@ -1,4 +1,5 @@
-//! Random books that keep their rules: small and full-sized, deep and wide, playable or not.
+//! Random books that keep their rules: small and full-sized, deep and wide, playable or not. Rows are drawn first,
+//! then parties with what they know, then steps, by what their senders hold.
 
 use super::Random;
 use crate::book::{

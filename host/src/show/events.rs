@@ -1,4 +1,5 @@
 //! A party's program, one event a line, each line a comment.
+//! Terms are written as in the narration above it, placeholders as x and their number.
 
 use super::texts::{placeholder, Texts};
 use crate::translate::Event;

@@ -1,4 +1,5 @@
-//! Whether a narration without a `rows` line gives a book's table.
+//! Whether a narration without a `rows` line gives a book's table: its rows then stand in the order in which such a
+//! text first has them.
 
 use crate::book::{Book, Row};
 

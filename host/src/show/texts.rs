@@ -1,4 +1,5 @@
-//! The rows of a book as they stand in a narration, and images with placeholders among them.
+//! The rows of a book as they stand in a narration, and images with placeholders among them. Names are made up so that
+//! the text reads back as the very same book.
 
 use crate::book::{self, Book, Row};
 use crate::translate::Image;

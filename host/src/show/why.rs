@@ -1,4 +1,5 @@
 //! Why a book is refused by 1 to 9, in words: the first broken rule of the row, party or step at fault.
+//! The reader has found the refusal; here only its reason is looked for.
 
 use crate::book::{self, Sections, HEADER};
 

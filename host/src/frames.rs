@@ -45,36 +45,57 @@ pub fn read(object: &Path, names: &[&str]) -> Result<Vec<Frame>, String> {
     Ok(frames)
 }
 
-/// The deepest that a function's code goes, found by following it. Compiled code is as deep at each place however it
-/// came there; where that isn't so, or can't be seen, there is no answer.
+/// The deepest that a function's code goes.
 fn frame(function: &Function) -> Result<u64, String> {
-    let code = function.code;
-    let mut depths: Vec<Option<u64>> = vec![None; code.len()];
-    let mut deepest = WORD;
-    // How deep it is where a jump goes by a table.
-    let mut tables = BTreeSet::new();
-    let mut ways = vec![(0, WORD)];
-    loop {
+    let mut followed = Followed {
+        function,
+        depths: vec![None; function.code.len()],
+        deepest: WORD,
+        tables: BTreeSet::new(),
+    };
+    followed.follow(0, WORD)?;
+    while let Some(at) = followed.left()? {
+        match followed.tables.first() {
+            Some(depth) if followed.tables.len() == 1 => followed.follow(at, *depth)?,
+            _ => return Err(format!("what leads to {at:#x} isn't seen")),
+        }
+    }
+    Ok(followed.deepest)
+}
+
+/// A function's code as far as it was followed. Compiled code is as deep at each place however it came there; where
+/// that isn't so, or can't be seen, there is no answer.
+struct Followed<'f> {
+    function: &'f Function<'f>,
+    /// How deep the stack is before each instruction that was met.
+    depths: Vec<Option<u64>>,
+    deepest: u64,
+    /// How deep it is where a jump goes by a table.
+    tables: BTreeSet<u64>,
+}
+
+impl Followed<'_> {
+    /// Follows all ways from a place on, where the stack is so deep.
+    fn follow(&mut self, from: usize, depth: u64) -> Result<(), String> {
+        let mut ways = vec![(from, depth)];
         while let Some((at, depth)) = ways.pop() {
-            let known = depths
-                .get_mut(at)
-                .ok_or_else(|| format!("the code goes on at {at:#x}, behind its end"))?;
-            match *known {
-                Some(known) if known == depth => continue,
-                Some(known) => return Err(format!("the stack is {known} and {depth} bytes deep at {at:#x}")),
-                None => *known = Some(depth),
+            match self.depths.get(at) {
+                None => return Err(format!("the code goes on at {at:#x}, behind its end")),
+                Some(Some(known)) if *known == depth => continue,
+                Some(Some(known)) => return Err(format!("the stack is {known} and {depth} bytes deep at {at:#x}")),
+                Some(None) => self.depths[at] = Some(depth),
             }
-            let read = read_at(code, at)?;
+            let read = read_at(self.function.code, at)?;
             let next = at + read.length;
             // A jump to another function, in place of a call and a return, leads to no place here.
-            let linked = next.checked_sub(4).is_some_and(|at| function.linked.contains(&at));
+            let linked = next.checked_sub(4).is_some_and(|at| self.function.linked.contains(&at));
             let to = |by: i32| next.checked_add_signed(by as isize).unwrap_or(usize::MAX);
             match read.effect {
                 Effect::None => ways.push((next, depth)),
                 Effect::Moves(by) => {
                     let depth = depth.checked_add_signed(by).filter(|depth| *depth >= WORD);
                     let depth = depth.ok_or_else(|| format!("more is given back than was taken at {at:#x}"))?;
-                    deepest = deepest.max(depth);
+                    self.deepest = self.deepest.max(depth);
                     ways.push((next, depth));
                 }
                 Effect::MayJump(_) if linked => ways.push((next, depth)),
@@ -82,31 +103,31 @@ fn frame(function: &Function) -> Result<u64, String> {
                 Effect::Jumps(_) if linked => (),
                 Effect::Jumps(by) => ways.push((to(by), depth)),
                 Effect::JumpsByTable => {
-                    tables.insert(depth);
+                    self.tables.insert(depth);
                 }
                 Effect::Ends => (),
                 Effect::Unknown => {
                     return Err(format!(
-                        "the stack pointer is changed at {at:#x} in a way that isn't read"
-                    ));
+                        "at {at:#x} the stack pointer is changed in a way that isn't read"
+                    ))
                 }
             }
         }
-        // What nothing has led to is reached by a table, or only fills up.
-        let mut left = None;
+        Ok(())
+    }
+
+    /// The first instruction that nothing has led to and that doesn't only fill up: it is reached by a table.
+    fn left(&self) -> Result<Option<usize>, String> {
+        let code = self.function.code;
         let mut at = 0;
-        while at < code.len() && left.is_none() {
-            let read = read_at(code, at)?;
-            if depths[at].is_none() && !x86::fills(&code[at..at + read.length]) {
-                left = Some(at);
+        while at < code.len() {
+            let next = at + read_at(code, at)?.length;
+            if self.depths[at].is_none() && !x86::fills(&code[at..next]) {
+                return Ok(Some(at));
             }
-            at += read.length;
+            at = next;
         }
-        match (left, tables.first()) {
-            (None, _) => return Ok(deepest),
-            (Some(at), Some(depth)) if tables.len() == 1 => ways.push((at, *depth)),
-            (Some(at), _) => return Err(format!("what leads to {at:#x} isn't seen")),
-        }
+        Ok(None)
     }
 }
 
@@ -296,7 +317,7 @@ mod tests {
         ];
         for change in changes {
             let told = frame(&[&[0x90], change].concat()).unwrap_err();
-            assert_eq!(told, "the stack pointer is changed at 0x1 in a way that isn't read");
+            assert_eq!(told, "at 0x1 the stack pointer is changed in a way that isn't read");
         }
         // A push in a loop: push rax; jmp back.
         assert_eq!(

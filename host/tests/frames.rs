@@ -89,7 +89,7 @@ fn what_can_not_be_read_is_no_answer() {
     assert_eq!(printed(&["frames", &file, "small"]), "56 small\n");
     let told = complains(&["frames", &file, "small", "unread"]);
     assert!(
-        told.contains("unread: the stack pointer is changed at 0x0 in a way that isn't read"),
+        told.contains("unread: at 0x0 the stack pointer is changed in a way that isn't read"),
         "{told}"
     );
     complains(&["frames", &file]);

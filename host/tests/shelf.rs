@@ -53,7 +53,7 @@ fn a_long_book() {
     let folder = Folder::with("long", &[("a.book", &[1; 4 * 12_602])]);
     let shelf = Shelf::of(folder.at()).unwrap();
     assert_eq!(shelf.stdin.len(), 4 + 4 * 12_601);
-    assert_eq!(shelf.stdin[..4], 12_601_u32.to_le_bytes());
+    assert_eq!(shelf.stdin[..4], to_bytes(&[12_601]));
 }
 
 /// How many parties a round has is what word 2 says, if a book may have so many; else it has one.

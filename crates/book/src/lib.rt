@@ -1,6 +1,6 @@
-// The book as the other rooms read it: its refusals, the words' layout, the kinds of rows, the limits, and a function for each
-// word. Each answers exactly the word that specs/Layout.antt gives its name, of a book whose header is right and a number within
-// its section; `entry` and `first_part` answer a row of a valid book.
+// The book as the other rooms read it: refusals, the words' layout, limits, codes, and a function for each word. Each answers
+// exactly what specs/Layout.antt gives its name, of a book whose header is right and a number within its section; `Kind::of`
+// answers a kind's line (specs/Kinds.antt), `entry` and `first_part` a row of a valid book.
 use words::wide;
 ghost use mathlib.Core.Path.{_≡_};
 ghost use Prim.Native.Nat.{_+_, _^_, _≤_, _<_};

@@ -1,5 +1,5 @@
 // What the translation of a book is: its programs, refusal 10, the listing and the whole outcome are meaning, in specs/. Here
-// stand only the answer that a translation or a rehearsal gives, and the events' codes.
+// stands only the answer that a translation or a rehearsal gives.
 use book::Refusal;
 
 // What a translation or a rehearsal answers: the length of its output, or why there is none.

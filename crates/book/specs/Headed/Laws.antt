@@ -5,7 +5,7 @@ use native.Mathlib.Omega.{arith}
 use lib.ListN.{length}
 use Rattle.words.specs.Choice.{pick}
 use mathlib.Core.Path.{_≡_, ap}
-use Rattle.book.specs.Layout.{at, begins, field, pooled, offset}
+use Rattle.book.specs.Layout.{at, begins, rows, parties, steps, pool, field, pooled, offset}
 use Rattle.book.specs.Rules.{CountRule, stated, OffsetRule}
 use Rattle.book.specs.Valid.{Valid}
 use Rattle.book.specs.Headed.{Headed}
@@ -33,6 +33,19 @@ rules-headed b counts offsets =
 
 pub valid-headed : (b : List ℕ) → Valid b → Headed b
 valid-headed b v = rules-headed b (v .counts) (v .offsets)
+
+-- the bounds that a valid book's header keeps, each as a rule for `omega`
+pub few-rows : (b : List ℕ) → Valid b → rows b ≤ 1024
+few-rows b v = valid-headed b v .fewRows
+
+pub few-parties : (b : List ℕ) → Valid b → parties b ≤ 16
+few-parties b v = valid-headed b v .fewParties
+
+pub few-steps : (b : List ℕ) → Valid b → steps b ≤ 64
+few-steps b v = valid-headed b v .fewSteps
+
+pub small-pool : (b : List ℕ) → Valid b → pool b ≤ 8192
+small-pool b v = valid-headed b v .smallPool
 
 -- "so at most 12,600 words"
 pub longest : (b : List ℕ) → Headed b → length b ≤ 12600

@@ -48,6 +48,10 @@ module _ (b : List ℕ) (d f n : ℕ) (s : Span b d f n) (h : 0 < n) where
   pub span-index : f + 0 < pool b
   span-index = let l = s .inside in omega arith
 
+-- the rest of a list that is not at its end, as a test of the count says it
+pub span-rest : (b : List ℕ) (d f n : ℕ) → Span b d f n → (n ≡ 0 → ⊥) → Span b d (f + 1) (n - 1)
+span-rest b d f n s z = span-tail b d f n s (omega arith)
+
 -- ---- a row's first part: a cipher's key, a half's part
 module _ (b : List ℕ) (v : Valid b) where
   pub some-part : (r : ℕ) → r < rows b → 2 ≤ kind b r → 0 < rowCount b r

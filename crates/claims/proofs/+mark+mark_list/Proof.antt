@@ -1,8 +1,9 @@
--- `claims::mark` and `claims::mark_list` meet their contracts: what occurs in a row occurs in one of its parts, and those of a row seen have entries. Assumes nothing.
-use Rattle.claims.proofs.Laws.{atom-marked, row-marked, more-marked, ready-marked, ready-more, seen-already}
-use Rattle.claims.specs.Marked.Laws.{marked-end}
-use Rattle.book.specs.Span.Laws.{span-row, span-tail}
-use Rattle.book.specs.Headed.Laws.{valid-headed}
+-- `claims::mark` and `claims::mark_list` meet their contracts: what occurs in a row occurs in one of its parts, and
+-- every atom of a row gone through before has an entry. Assumes nothing.
+use Rattle.claims.proofs.Marks.{atom-marked, ready-marked, row-done, seen-done, none-done, more-marked}
+use Rattle.book.specs.Span.{Span}
+use Rattle.book.specs.Span.Laws.{span-row, span-rest}
+use Rattle.book.specs.Headed.Laws.{valid-headed, few-rows, small-pool}
 use Prim.Native.Nat.{_+_, _*_}
 use borrow.Author.Needs.{needs}
 use native.Mathlib.Omega.{arith}
@@ -24,6 +25,7 @@ use Rattle.words.proofs.wide.Reads as wide-reads
 use Rattle.claims.proofs.+mark+mark_list.{statement}
 use Rattle.claims.proofs.+mark+mark_list.Tie.{close}
 
+-- A row counts more than a list below it, and a list more than each of its rows: at most nine are left of it.
 abbrev μ-mark : Measures 3 mark-kinds.ps ℕ
 μ-mark κs a = 16 * a .1 .1 .1 .0 + 15
 
@@ -60,7 +62,8 @@ mark-calls t = (
 )
 
 -- a place or a need of `mark`, by its name
-abbrev in-mark : (mark-lts.Claims → In 3 mark-kinds.ps → Out 3 mark-kinds.ps mark-kinds.r → Type 0) → ℕ → Type 0
+abbrev in-mark : (mark-lts.Claims → In 3 mark-kinds.ps → Out 3 mark-kinds.ps mark-kinds.r → Type 0)
+    → ℕ → Type 0
 in-mark P t = P (mark-calls t) (mark-at t) mark.Post
 
 abbrev mark-list-calls : ℕ → mark-list-lts.Claims
@@ -74,88 +77,54 @@ mark-list-calls t = (
 )
 
 -- a place or a need of `mark_list`, by its name
-abbrev in-mark-list : (mark-list-lts.Claims → In 3 mark-list-kinds.ps → Out 3 mark-list-kinds.ps mark-list-kinds.r → Type 0) → ℕ → Type 0
+abbrev in-mark-list : (mark-list-lts.Claims → In 3 mark-list-kinds.ps → Out 3 mark-list-kinds.ps mark-list-kinds.r
+    → Type 0) → ℕ → Type 0
 in-mark-list P t = P (mark-list-calls t) (mark-list-at t) mark-list.Post
 
-mark-mark-atom-requires : (t : ℕ) → in-mark mark-lts.Need-mark-atom-requires t
-mark-mark-atom-requires t c κs =
+-- the row's entry in `seen` is not 0
+mark-returns-2 : (t : ℕ) → in-mark mark-lts.Need-returns-2 t
+mark-returns-2 t c =
+    let after-wide : in-mark mark-lts.After-wide t = search in
     let start : in-mark mark-lts.Start t = search in
-    let h = valid-headed _ (start .pre .1 .0) in
-    (start .pre .1 .1 .sized, omega arith)
+    seen-done _ _ _ (start .args .row) _ _ (after-wide .wide .ensures .0) (start .pre .1 .1) (c .if2 .taken)
 
-mark-mul-if2 : (t : ℕ) → in-mark mark-lts.Need-mul-if2 t
-mark-mul-if2 t c =
-    let start : in-mark mark-lts.Start t = search in
-    let h = valid-headed _ (start .pre .1 .0) in
-    omega arith
+-- the parts of a row are rows before it
+module _ (t : ℕ) (c : in-mark mark-lts.After-row-count t) where
+  abbrev start : in-mark mark-lts.Start t
+  start = search
 
-mark-element-copy-out-if2 : (t : ℕ) → in-mark mark-lts.Need-element-copy-out-if2 t
-mark-element-copy-out-if2 t c =
-    let start : in-mark mark-lts.Start t = search in
-    let h = valid-headed _ (start .pre .1 .0) in
-    omega arith
+  abbrev first : in-mark mark-lts.After-row-first t
+  first = search
+
+  parts : Span (start .args .book .now) (start .args .row) (first .row-first .result) (c .row-count .result)
+  parts = search span-row
 
 mark-mark-list-requires : (t : ℕ) → in-mark mark-lts.Need-mark-list-requires t
 mark-mark-list-requires t c κs =
-    let after-row-first : in-mark mark-lts.After-row-first t = search in
-    let start : in-mark mark-lts.Start t = search in
-    let s = span-row _ (start .pre .1 .0) _ _ _ (start .pre .1 .2) (after-row-first .row-first .ensures .0)
-    (c .row-count .ensures .0) in
-    (omega arith, (start .pre .1 .0, start .pre .1 .1, omega arith, s, start .pre .1 .3))
+    (omega (arith, parts t c), (search needs, search needs, omega arith, parts t c, search needs))
 
-mark-mul-seen : (t : ℕ) → in-mark mark-lts.Need-mul-seen t
-mark-mul-seen t c =
-    let start : in-mark mark-lts.Start t = search in
-    let h = valid-headed _ (start .pre .1 .0) in
-    omega arith
-
-mark-element-write-seen : (t : ℕ) → in-mark mark-lts.Need-element-write-seen t
-mark-element-write-seen t c =
-    let start : in-mark mark-lts.Start t = search in
-    let h = valid-headed _ (start .pre .1 .0) in
-    omega arith
-
+-- the parts are marked, and the row is noted as gone through
 mark-returns-3 : (t : ℕ) → in-mark mark-lts.Need-returns-3 t
 mark-returns-3 t c =
     let after-mark-list : in-mark mark-lts.After-mark-list t = search in
-    let after-row-count : in-mark mark-lts.After-row-count t = search in
-    let after-row-first : in-mark mark-lts.After-row-first t = search in
+    let count : in-mark mark-lts.After-row-count t = search in
+    let first : in-mark mark-lts.After-row-first t = search in
     let else1 : in-mark mark-lts.Else1 t = search in
     let after-row-kind : in-mark mark-lts.After-row-kind t = search in
     let start : in-mark mark-lts.Start t = search in
-    let d = row-marked _ (start .pre .1 .0) _ _ (start .pre .1 .2) (after-row-kind .row-kind .ensures) _ _
-    (else1 .if1 .left) (after-row-first .row-first .ensures .0) (after-row-count .row-count .ensures .0)
-    (after-mark-list .mark-list .ensures .0) in (
-      d,
-      ready-more _ _ _ _ (c .wide2 .ensures .0)
-          (let h = valid-headed _ (start .pre .1 .0) in let k = h .fewRows in let j = start .pre .1 .2 in omega
-          arith) (start .pre .1 .3) d (after-mark-list .mark-list .ensures .1),
-    )
+    row-done _ (start .pre .1 .0) _ _ (start .pre .1 .2) (after-row-kind .row-kind .ensures) _ _ _ (else1 .if1 .left)
+    (first .row-first .ensures .0) (count .row-count .ensures .0) (c .wide2 .ensures .0) (start .pre .1 .3)
+    (after-mark-list .mark-list .ensures .0) (after-mark-list .mark-list .ensures .1)
 
-mark-list-entry-requires : (t : ℕ) → in-mark-list mark-list-lts.Need-entry-requires t
-mark-list-entry-requires t c κs =
-    let else1 : in-mark-list mark-list-lts.Else1 t = search in
-    let start : in-mark-list mark-list-lts.Start t = search in
-    (start .pre .1 .0, start .pre .1 .3, let n = else1 .if1 .left in omega arith)
-
-mark-list-mark-requires : (t : ℕ) → in-mark-list mark-list-lts.Need-mark-requires t
-mark-list-mark-requires t c κs =
-    let start : in-mark-list mark-list-lts.Start t = search in
-    (omega arith, (start .pre .1 .0, start .pre .1 .1, omega arith, start .pre .1 .4))
-
-mark-list-add-mark-list : (t : ℕ) → in-mark-list mark-list-lts.Need-add-mark-list t
-mark-list-add-mark-list t c =
-    let start : in-mark-list mark-list-lts.Start t = search in
-    let h = valid-headed _ (start .pre .1 .0) in
-    omega arith
+-- no part is left
+mark-list-returns : (t : ℕ) → in-mark-list mark-list-lts.Need-returns t
+mark-list-returns t c =
+    let here : in-mark-list mark-list-lts.Start t = search in
+    none-done _ _ _ _ _ _ (c .if1 .taken) (here .pre .1 .1)
 
 mark-list-mark-list-requires : (t : ℕ) → in-mark-list mark-list-lts.Need-mark-list-requires t
 mark-list-mark-list-requires t c κs =
-    let after-mark : in-mark-list mark-list-lts.After-mark t = search in
-    let else1 : in-mark-list mark-list-lts.Else1 t = search in
-    let start : in-mark-list mark-list-lts.Start t = search in
-    let s = span-tail _ _ _ _ (start .pre .1 .3) (let n = else1 .if1 .left in omega arith) in
-    (omega arith, (start .pre .1 .0, after-mark .mark .ensures .1, start .pre .1 .2, s, start .pre .1 .4))
+    (omega arith, (search needs, search needs, search needs, search span-rest, search needs))
 
 pub +mark+mark-list-spec : {M : Type 1} → statement M
 +mark+mark-list-spec = close μ-mark μ-mark-list (λ t. mark-lts.spec
@@ -163,27 +132,27 @@ pub +mark+mark-list-spec : {M : Type 1} → statement M
     (mark-at t)
     mark.Post
     (λ c κs. search (valid-headed, needs))  -- mark-row-kind-requires
-    (mark-mark-atom-requires t)
-    (λ c. search (atom-marked, ready-marked, needs))  -- mark-returns
+    (λ c κs. (search needs, omega (arith, few-rows)))  -- mark-mark-atom-requires
+    (λ c. (search atom-marked, search ready-marked))  -- mark-returns
     (λ c κs. search needs)  -- mark-wide-requires
-    (mark-mul-if2 t)
-    (mark-element-copy-out-if2 t)
-    (λ c. search (seen-already, needs))  -- mark-returns-2
+    (λ c. omega (arith, few-rows))  -- mark-mul-if2
+    (λ c. omega (arith, few-rows))  -- mark-element-copy-out-if2
+    (mark-returns-2 t)
     (λ c κs. search (valid-headed, needs))  -- mark-row-first-requires
     (λ c κs. search (valid-headed, needs))  -- mark-row-count-requires
     (mark-mark-list-requires t)
     (λ c κs. search needs)  -- mark-wide-requires-2
-    (mark-mul-seen t)
-    (mark-element-write-seen t)
+    (λ c. omega (arith, few-rows))  -- mark-mul-seen
+    (λ c. omega (arith, few-rows))  -- mark-element-write-seen
     (mark-returns-3 t))
     λ t. mark-list-lts.spec
     (mark-list-calls t)
     (mark-list-at t)
     mark-list.Post
-    (λ c. search (marked-end, needs))  -- mark-list-returns
-    (mark-list-entry-requires t)
-    (mark-list-mark-requires t)
-    (mark-list-add-mark-list t)
+    (mark-list-returns t)
+    (λ c κs. (search needs, search needs, omega arith))  -- mark-list-entry-requires
+    (λ c κs. (omega arith, (search needs, search needs, omega arith, search needs)))  -- mark-list-mark-requires
+    (λ c. omega (arith, small-pool))  -- mark-list-add-mark-list
     (λ c. search needs)  -- mark-list-sub-mark-list
     (mark-list-mark-list-requires t)
     (λ c. search (more-marked, needs))  -- mark-list-returns-2

@@ -1,9 +1,19 @@
--- `claims::mark_atom` meets its contract: only the entry of the atom is written, and only where it is 0. Assumes nothing.
-use Rattle.claims.proofs.Laws.{new-marked, old-marked}
+-- `claims::mark_atom` meets its contract: only the atom's entry is written, and only where it is 0. Assumes nothing.
+use Rattle.claims.proofs.Marks.{new-marked, old-marked}
 use native.Mathlib.Omega.{arith}
 use borrow.Author.Needs.{needs}
 use Rattle.claims.proofs.mark_atom.Statement.{statement}
 use Rattle.claims.proofs.mark_atom.Tie as tie
+
+-- the entry read and the entry written are the atom's
+returns : tie.Need-returns
+returns c =
+    let after-wide2 : tie.After-wide2 = search in
+    let then1 : tie.Then1 = search in
+    let after-wide : tie.After-wide = search in
+    let start : tie.Start = search in
+    new-marked _ (start .args .row) _ _ (start .pre .0) (after-wide .wide .ensures .0) _
+    (after-wide2 .wide2 .ensures .0) (start .pre .1) (then1 .if1 .taken)
 
 pub mark-atom-spec : {M : Type 1} → statement M
 mark-atom-spec =
@@ -15,5 +25,5 @@ mark-atom-spec =
     (λ c κs. search needs)  -- wide-requires-2
     (λ c. omega arith)  -- mul-since
     (λ c. omega arith)  -- element-write-since
-    (λ c. search new-marked)  -- returns
+    returns
     (λ c. search old-marked))  -- returns-2

@@ -1,5 +1,6 @@
--- `claims::mark_knowledge` meets its contract: what the parties passed know is marked. Assumes nothing.
-use Rattle.claims.proofs.Laws.{Knowledge, knowledge-start, knowledge-on, knowledge-end}
+-- `claims::mark_knowledge` meets its contract: party by party, what those passed know is marked. Assumes nothing.
+use Rattle.claims.proofs.Passed.{Knowledge, knowledge-start, knowledge-on, knowledge-end}
+use mathlib.Core.Path.{refl}
 use Rattle.claims.specs.Marked.{Ready}
 use Rattle.book.specs.Headed.Laws.{valid-headed}
 use Prim.Native.Nat.{_-_}
@@ -14,12 +15,16 @@ Inv-loop book since₀ seen₀ n party₀ since seen party = Knowledge book n pa
 abbrev μ-loop : tie.MeasureT-loop
 μ-loop book since₀ seen₀ n party₀ since seen party = n - party
 
-mark-known-requires : tie.Need-mark-known-requires Inv-loop μ-loop
-mark-known-requires c κs =
-    let at-loop : tie.At-loop Inv-loop μ-loop = search in
-    let after-parties : tie.After-parties Inv-loop μ-loop = search in
-    let start : tie.Start Inv-loop μ-loop = search in
-    (start .pre .0, at-loop .loop .inv .1, let e = after-parties .parties .ensures in omega arith)
+-- the party whose knowledge is marked is the next one
+loop-again : tie.Need-loop-again Inv-loop μ-loop
+loop-again c =
+    let after-mark-known : tie.After-mark-known Inv-loop μ-loop = search in
+    let in-loop : tie.In-loop Inv-loop μ-loop = search in
+    let at-loop : tie.At-loop Inv-loop μ-loop = search in (
+      knowledge-on _ _ _ _ (in-loop .loop-test .taken) (at-loop .loop .inv .0)
+          (after-mark-known .mark-known .ensures .0) refl,
+      after-mark-known .mark-known .ensures .1,
+    )
 
 pub mark-knowledge-spec : {M : Type 1} → statement M
 mark-knowledge-spec =
@@ -28,9 +33,9 @@ mark-knowledge-spec =
     Inv-loop
     μ-loop
     (λ c κs. search valid-headed)  -- parties-requires
-    (λ c. search (knowledge-start, needs))  -- loop-holds
-    mark-known-requires
+    (λ c. (search knowledge-start, search needs))  -- loop-holds
+    (λ c κs. (search needs, search needs, omega arith))  -- mark-known-requires
     (λ c. search needs)  -- add-party
     (λ c. search needs)  -- loop-less
-    (λ c. search (knowledge-on, needs))  -- loop-again
+    loop-again
     (λ c. search (knowledge-end, needs)))  -- returns

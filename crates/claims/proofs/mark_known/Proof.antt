@@ -1,5 +1,6 @@
--- `claims::mark_known` meets its contract: the known rows passed are marked. Assumes nothing.
-use Rattle.claims.proofs.Laws.{Knows, knows-start, known-inside, known-low, knows-on, knows-end}
+-- `claims::mark_known` meets its contract: row by row, the known rows passed are marked. Assumes nothing.
+use Rattle.claims.proofs.Passed.{Knows, knows-start, known-inside, known-low, knows-on, knows-end}
+use mathlib.Core.Path.{refl}
 use Rattle.claims.specs.Marked.{Ready}
 use Rattle.book.specs.Headed.Laws.{valid-headed}
 use Prim.Native.Nat.{_-_}
@@ -14,30 +15,37 @@ Inv-loop book since₀ seen₀ party first n j₀ since seen j = Knows book firs
 abbrev μ-loop : tie.MeasureT-loop
 μ-loop book since₀ seen₀ party first n j₀ since seen j = n - j
 
-mark-requires : tie.Need-mark-requires Inv-loop μ-loop
-mark-requires c κs =
-    let in-loop : tie.In-loop Inv-loop μ-loop = search in
-    let at-loop : tie.At-loop Inv-loop μ-loop = search in
-    let after-party-count : tie.After-party-count Inv-loop μ-loop = search in
-    let after-party-first : tie.After-party-first Inv-loop μ-loop = search in
-    let start : tie.Start Inv-loop μ-loop = search in (
-      start .pre .0,
-      at-loop .loop .inv .1,
-      known-low _ _ _ _ (after-party-first .party-first .ensures .0) (after-party-count .party-count .ensures .0)
-          (start .pre .0) (start .pre .2) _ _ (in-loop .loop-test .taken) (c .pooled .ensures),
-      omega arith,
-    )
+-- no row is marked before the first
+loop-holds : tie.Need-loop-holds Inv-loop μ-loop
+loop-holds c =
+    let start : tie.Start Inv-loop μ-loop = search in
+    (knows-start _ _ _ _ (start .pre .1 .sized), start .pre .1)
 
+-- what a party knows is a row
+mark-requires : tie.Need-mark-requires Inv-loop μ-loop
+mark-requires c κs = (
+  search needs,
+  search needs,
+  let after-pooled : tie.After-pooled Inv-loop μ-loop = search in
+      let in-loop : tie.In-loop Inv-loop μ-loop = search in
+      let count : tie.After-party-count Inv-loop μ-loop = search in
+      let first : tie.After-party-first Inv-loop μ-loop = search in
+      let start : tie.Start Inv-loop μ-loop = search in
+      known-low _ _ _ _ (first .party-first .ensures .0) (count .party-count .ensures .0) (start .pre .0)
+      (start .pre .2) _ _ (in-loop .loop-test .taken) (after-pooled .pooled .ensures),
+  omega arith,
+)
+
+-- the next row is marked, and with 1
 loop-again : tie.Need-loop-again Inv-loop μ-loop
 loop-again c =
+    let after-mark : tie.After-mark Inv-loop μ-loop = search in
     let after-pooled : tie.After-pooled Inv-loop μ-loop = search in
     let in-loop : tie.In-loop Inv-loop μ-loop = search in
-    let at-loop : tie.At-loop Inv-loop μ-loop = search in
-    let after-party-count : tie.After-party-count Inv-loop μ-loop = search in
-    let after-party-first : tie.After-party-first Inv-loop μ-loop = search in (
-      knows-on _ _ _ _ (after-party-first .party-first .ensures .0) (after-party-count .party-count .ensures .0) _ _
-          (in-loop .loop-test .taken) (after-pooled .pooled .ensures) (at-loop .loop .inv .0) (c .mark .ensures .0),
-      c .mark .ensures .1,
+    let at-loop : tie.At-loop Inv-loop μ-loop = search in (
+      knows-on _ _ _ _ _ _ (in-loop .loop-test .taken) (after-pooled .pooled .ensures) (at-loop .loop .inv .0)
+          (after-mark .mark .ensures .0) refl,
+      after-mark .mark .ensures .1,
     )
 
 pub mark-known-spec : {M : Type 1} → statement M
@@ -48,7 +56,7 @@ mark-known-spec =
     μ-loop
     (λ c κs. search (valid-headed, needs))  -- party-first-requires
     (λ c κs. search (valid-headed, needs))  -- party-count-requires
-    (λ c. search (knows-start, needs))  -- loop-holds
+    loop-holds
     (λ c κs. search (valid-headed, known-inside, needs))  -- pooled-requires
     mark-requires
     (λ c. search needs)  -- add-j

@@ -1,5 +1,5 @@
--- `claims::mark_names` meets its contract: the names of the parties passed are marked. Assumes nothing.
-use Rattle.claims.proofs.Laws.{Names, names-start, name-low, names-on, names-end}
+-- `claims::mark_names` meets its contract: party by party, the names of those passed are marked. Assumes nothing.
+use Rattle.claims.proofs.Passed.{Names, names-start, name-low, names-on, names-end}
 use Rattle.claims.specs.Marked.{Ready}
 use Rattle.book.specs.Headed.Laws.{valid-headed}
 use Prim.Native.Nat.{_-_}

@@ -68,11 +68,13 @@ marked-low zero k x false h l = h
 take-more : {X : Type 0} (f : ℕ → X) (i s n : ℕ) → n ≤ s → take s (values f i n) ≡ values f i n
 take-more f i s n h = let l = values-length f i n in take-all s (values f i n) (omega arith)
 
-said-last : (q : ℕ) (ss : List Step) (a : Step) → occursInOne q (allMessages (ss ++ (a ∷ []))) ≡ (occursInOne q (allMessages ss) || occursInOne q (listed (a .messages)))
+said-last : (q : ℕ) (ss : List Step) (a : Step)
+    → occursInOne q (allMessages (ss ++ (a ∷ []))) ≡ (occursInOne q (allMessages ss) || occursInOne q (listed (a .messages)))
 unfolding allMessages occursInOne
 said-last q [] a = ap (occursInOne q) (append-nil (listed (a .messages)))
 said-last q (s ∷ ss) a =
-    one-append q (listed (s .messages)) (allMessages (ss ++ (a ∷ []))) ∙ ap (λ x. occursInOne q (listed (s .messages)) || x) (said-last q ss a) ∙ sym (or-assoc (occursInOne q (listed (s .messages))) (occursInOne q (allMessages ss)) (occursInOne q (listed (a .messages))))
+    one-append q (listed (s .messages)) (allMessages (ss ++ (a ∷ []))) ∙ ap (λ x. occursInOne q (listed (s .messages)) || x) (said-last q ss a)
+    ∙ sym (or-assoc (occursInOne q (listed (s .messages))) (occursInOne q (allMessages ss)) (occursInOne q (listed (a .messages))))
     ∙ ap (λ x. x || occursInOne q (listed (a .messages))) (sym (one-append q (listed (s .messages)) (allMessages ss)))
 
 -- ---- taken, with the first k steps only
@@ -82,7 +84,8 @@ module _ (b : List ℕ) (q : ℕ) where
 
   upTo-last : (ss : List Step) (a : Step) → upTo (ss ++ (a ∷ [])) ≡ (upTo ss || occursInOne q (listed (a .messages)))
   upTo-last ss a =
-      three (ss ++ (a ∷ [])) ∙ ap (λ x. n || (m || x)) (said-last q ss a) ∙ four n m (occursInOne q (allMessages ss)) (occursInOne q (listed (a .messages)))
+      three (ss ++ (a ∷ [])) ∙ ap (λ x. n || (m || x)) (said-last q ss a)
+      ∙ four n m (occursInOne q (allMessages ss)) (occursInOne q (listed (a .messages)))
       ∙ ap (λ x. x || occursInOne q (listed (a .messages))) (sym (three ss))
     where
       n : Bool
@@ -100,7 +103,8 @@ module _ (b : List ℕ) (q : ℕ) where
 
   taken-start : (s : ℕ) → taken (cut b 0) s q ≡ occursInOne q (narration b .names ++ joined (narration b .knows))
   unfolding taken claimed cut values allMessages
-  taken-start s = ap upTo (take-more (stepAt b) 0 s 0 (omega arith)) ∙ ap (λ l. occursInOne q (narration b .names ++ l)) (append-nil (joined (narration b .knows)))
+  taken-start s =
+      ap upTo (take-more (stepAt b) 0 s 0 (omega arith)) ∙ ap (λ l. occursInOne q (narration b .names ++ l)) (append-nil (joined (narration b .knows)))
 
   taken-before : (k s : ℕ) → s ≤ k → taken (cut b (suc k)) s q ≡ taken (cut b k) s q
   unfolding taken claimed cut
@@ -116,7 +120,8 @@ module _ (b : List ℕ) (q : ℕ) where
 
 -- ---- ClaimsBefore
 -- no step is gone through: names and starting knowledge are marked with 1
-pub claims-start : (b l m n : List ℕ) → ((q : ℕ) → getD l q 0 ≡ 0) → Marked (narration b .names) 1 l m → Marked (joined (narration b .knows)) 1 m n → ClaimsBefore b 0 n
+pub claims-start : (b l m n : List ℕ) → ((q : ℕ) → getD l q 0 ≡ 0) → Marked (narration b .names) 1 l m
+    → Marked (joined (narration b .knows)) 1 m n → ClaimsBefore b 0 n
 unfolding takenIn
 claims-start b l m n z d e =
     record {
@@ -132,7 +137,8 @@ claims-start b l m n z d e =
     is q = marked-then d e .each q ∙ ap (λ x. marked x (here q) 1) (z q)
 
 -- one more step is
-pub claims-step : (b : List ℕ) (k : ℕ) (l m : List ℕ) → ClaimsBefore b k l → Marked (map (term (table b)) (messages b k)) (k + 2) l m → ClaimsBefore b (k + 1) m
+pub claims-step : (b : List ℕ) (k : ℕ) (l m : List ℕ) → ClaimsBefore b k l → Marked (map (term (table b)) (messages b k)) (k + 2) l m
+    → ClaimsBefore b (k + 1) m
 unfolding takenIn
 claims-step b k l m c d = let z : k + 1 ≡ suc k = omega arith in rw z (record { sized = d .sized; early = low; claims = λ s q. go s q (decLt k s) })
   where
@@ -141,9 +147,11 @@ claims-step b k l m c d = let z : k + 1 ≡ suc k = omega arith in rw z (record 
 
     go : (s q : ℕ) → Dec (k < s) → since (getD m q 0) s ≡ taken (cut b (suc k)) s q
     go s q (yes h) =
-        ap (λ e. since e s) (d .each q) ∙ since-after (getD l q 0) k s _ (c .early q) h ∙ ap (λ x. x || occursInOne q (map (term (table b)) (messages b k))) (c .claims s q)
+        ap (λ e. since e s) (d .each q) ∙ since-after (getD l q 0) k s _ (c .early q) h
+        ∙ ap (λ x. x || occursInOne q (map (term (table b)) (messages b k))) (c .claims s q)
         ∙ sym (taken-after b q k s h)
-    go s q (no h) = ap (λ e. since e s) (d .each q) ∙ since-before (getD l q 0) k s _ (omega arith) ∙ c .claims s q ∙ sym (taken-before b q k s (omega arith))
+    go s q (no h) =
+        ap (λ e. since e s) (d .each q) ∙ since-before (getD l q 0) k s _ (omega arith) ∙ c .claims s q ∙ sym (taken-before b q k s (omega arith))
 
 -- all steps are
 pub claims-end : (b : List ℕ) (k : ℕ) (l : List ℕ) → k ≡ steps b → ClaimsBefore b k l → Claims b l

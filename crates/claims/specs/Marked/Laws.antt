@@ -35,7 +35,8 @@ unfolding gathered occurs occursInOne
 in-gathered q [] = refl
 in-gathered q (t ∷ ts) = ap (λ x. occurs q t || x) (in-gathered q ts)
 
-occurs-form : (q r k g : ℕ) (ts : List Term) → (k ≡ 0 → ⊥) → k ≤ 4 → Shape k (length ts) → occurs q (form r k g (gathered ts)) ≡ occursInOne q ts
+occurs-form : (q r k g : ℕ) (ts : List Term) → (k ≡ 0 → ⊥) → k ≤ 4 → Shape k (length ts)
+    → occurs q (form r k g (gathered ts)) ≡ occursInOne q ts
 unfolding form occurs gathered occursInOne
 occurs-form q r zero g ts n l s = absurd (n refl)
 occurs-form q r (suc zero) g ts n l s = in-gathered q ts
@@ -83,7 +84,9 @@ pub marked-then : {ts us : List Term} {x : ℕ} {l m n : List ℕ} → Marked ts
 marked-then {ts} {us} {x} {l} d e =
     record {
       sized = e .sized;
-      each = λ q. e .each q ∙ ap (λ y. marked y (occursInOne q us) x) (d .each q) ∙ marked-twice (getD l q 0) _ _ x ∙ ap (λ o. marked (getD l q 0) o x) (sym (one-append q ts us));
+      each =
+          λ q. e .each q ∙ ap (λ y. marked y (occursInOne q us) x) (d .each q) ∙ marked-twice (getD l q 0) _ _ x
+          ∙ ap (λ o. marked (getD l q 0) o x) (sym (one-append q ts us));
     }
 
 -- the same of terms in which the same atoms occur
@@ -97,7 +100,8 @@ marked-new r x l h k z = record { sized = length-set l r x ∙ h; each = λ q. g
   where
     go : (q : ℕ) → Dec (q ≡ r) → getD (set l r x) q 0 ≡ marked (getD l q 0) (eqb r q || false) x
     go q (yes e) = rw (e, getD-set-same l r x 0 (omega arith), z, eq-eqb r r refl)
-    go q (no n) = getD-set-other l r q x 0 n ∙ sym (ap (λ o. marked (getD l q 0) (o || false) x) (ne-eqb r q (λ e. n (sym e))) ∙ marked-never (getD l q 0) x)
+    go q (no n) =
+        getD-set-other l r q x 0 n ∙ sym (ap (λ o. marked (getD l q 0) (o || false) x) (ne-eqb r q (λ e. n (sym e))) ∙ marked-never (getD l q 0) x)
 
 -- and one that has an entry keeps it
 pub marked-old : (r x : ℕ) (l : List ℕ) → length l ≡ 1024 → (getD l r 0 ≡ 0 → ⊥) → Marked (Term.atom r ∷ []) x l l
@@ -121,7 +125,8 @@ module _ (b : List ℕ) (v : Valid b) (r : ℕ) (h : r < rows b) {x : ℕ} {l m 
 pub marked-end : (b : List ℕ) (f n x : ℕ) (l : List ℕ) → n ≡ 0 → length l ≡ 1024 → Marked (map (term (table b)) (listAt b f n)) x l l
 marked-end b f n x l z h = rw (list-none b f n (omega arith)) (marked-none x l h)
 
-pub marked-more : (b : List ℕ) (f n x : ℕ) {l m k : List ℕ} → 0 < n → Marked (term (table b) (entry b f) ∷ []) x l m → Marked (map (term (table b)) (listAt b (f + 1) (n - 1))) x m k → Marked (map (term (table b)) (listAt b f n)) x l k
+pub marked-more : (b : List ℕ) (f n x : ℕ) {l m k : List ℕ} → 0 < n → Marked (term (table b) (entry b f) ∷ []) x l m
+    → Marked (map (term (table b)) (listAt b (f + 1) (n - 1))) x m k → Marked (map (term (table b)) (listAt b f n)) x l k
 marked-more b f n x h d e = rw (list-more b f n h) (marked-then d e)
 
 -- ---- one term more, as loops count
@@ -143,14 +148,16 @@ module _ {x : ℕ} {l m k : List ℕ} where
       rw (z, values-last f 0 n, y) (marked-then d e)
 
   -- knowledge of the parties
-  pub marked-joined : (f : ℕ → List Term) (n : ℕ) → Marked (joined (values f 0 n)) x l m → Marked (f n) x m k → Marked (joined (values f 0 (n + 1))) x l k
+  pub marked-joined : (f : ℕ → List Term) (n : ℕ) → Marked (joined (values f 0 n)) x l m → Marked (f n) x m k
+      → Marked (joined (values f 0 (n + 1))) x l k
   marked-joined f n d e =
       let z : n + 1 ≡ suc n = omega arith in
       let y : 0 + n ≡ n = omega arith in
       rw (z, values-last f 0 n, y, joined-last (values f 0 n) (f n)) (marked-then d e)
 
   -- knowledge of one
-  pub marked-pooled : (b : List ℕ) (f n : ℕ) → Marked (map (term (table b)) (listAt b f n)) x l m → Marked (term (table b) (pooled b f n) ∷ []) x m k → Marked (map (term (table b)) (listAt b f (n + 1))) x l k
+  pub marked-pooled : (b : List ℕ) (f n : ℕ) → Marked (map (term (table b)) (listAt b f n)) x l m → Marked (term (table b) (pooled b f n) ∷ []) x m k
+      → Marked (map (term (table b)) (listAt b f (n + 1))) x l k
   unfolding run
   marked-pooled b f n d e = rw (run-append b (begins b 3 + f) n 1, map-last (term (table b)) (listAt b f n) (pooled b f n)) (marked-then d e)
 
@@ -168,17 +175,20 @@ pub seen-marked : (b k : List ℕ) {ts : List Term} {x : ℕ} {l m : List ℕ} �
 seen-marked b k {ts} {x} {l} {m} s d r q n o z = s r q n o (sym (kept (getD l q 0) x (occursInOne q ts) (s r q n o)) ∙ sym (d .each q) ∙ z)
 
 -- a row that was marked is seen
-pub seen-more : (b k : List ℕ) (r : ℕ) {x : ℕ} {l m : List ℕ} → 0 < x → r < length k → Marked (term (table b) r ∷ []) x l m → Seen b k m → Seen b (set k r 1) m
+pub seen-more : (b k : List ℕ) (r : ℕ) {x : ℕ} {l m : List ℕ} → 0 < x → r < length k → Marked (term (table b) r ∷ []) x l m → Seen b k m
+    → Seen b (set k r 1) m
 unfolding occursInOne
 seen-more b k r {x} {l} {m} h j d s p q n o z = go (ℕ-discrete p r)
   where
     go : Dec (p ≡ r) → ⊥
     go (yes e) =
-        let w : (occurs q (term (table b) r) || false) ≡ true = or-false _ ∙ ap (λ i. occurs q (term (table b) i)) (sym e) ∙ o in filled (getD l q 0) x h (ap (λ y. marked (getD l q 0) y x) (sym w) ∙ sym (d .each q) ∙ z)
+        let w : (occurs q (term (table b) r) || false) ≡ true = or-false _ ∙ ap (λ i. occurs q (term (table b) i)) (sym e) ∙ o in
+        filled (getD l q 0) x h (ap (λ y. marked (getD l q 0) y x) (sym w) ∙ sym (d .each q) ∙ z)
     go (no e) = s p q (λ y. n (getD-set-other k r p 1 0 e ∙ y)) o z
 
 -- and need not be marked again
-pub marked-seen : (b k : List ℕ) (r x : ℕ) (l : List ℕ) → length l ≡ 1024 → Seen b k l → (getD k r 0 ≡ 0 → ⊥) → Marked (term (table b) r ∷ []) x l l
+pub marked-seen : (b k : List ℕ) (r x : ℕ) (l : List ℕ) → length l ≡ 1024 → Seen b k l → (getD k r 0 ≡ 0 → ⊥)
+    → Marked (term (table b) r ∷ []) x l l
 unfolding occursInOne
 marked-seen b k r x l h s n = record { sized = h; each = λ q. go q (occurs q (term (table b) r)) refl }
   where

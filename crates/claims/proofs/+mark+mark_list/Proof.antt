@@ -101,7 +101,7 @@ module _ (t : ℕ) (c : in-mark mark-lts.After-row-count t) where
 
 mark-mark-list-requires : (t : ℕ) → in-mark mark-lts.Need-mark-list-requires t
 mark-mark-list-requires t c κs =
-    (omega (arith, parts t c), (search needs, search needs, omega arith, parts t c, search needs))
+    (omega (arith, parts t (search)), (search needs, search needs, omega arith, parts t (search), search needs))
 
 -- the parts are marked, and the row is noted as gone through
 mark-returns-3 : (t : ℕ) → in-mark mark-lts.Need-returns-3 t

@@ -1,7 +1,9 @@
--- `sending::make` and `sending::make_list` meet their contracts: parts are rows before their row, and a list is made one row after another. Assumes nothing.
-use Rattle.sending.proofs.Laws.{held-makes, atom-makes, parts-makes, none-makes, more-makes}
-use Rattle.book.specs.Span.Laws.{span-row, span-tail}
-use Rattle.book.specs.Headed.Laws.{valid-headed}
+-- `sending::make` and `sending::make_list` meet their contracts: what is held is not made, an atom is made itself, any
+-- other row by its parts, which are rows before it; a list is made one row after another. Assumes nothing.
+use Rattle.sending.proofs.Makes.{held-makes, atom-makes, parts-makes, none-makes, more-makes}
+use Rattle.book.specs.Span.{Span}
+use Rattle.book.specs.Span.Laws.{span-row, span-rest}
+use Rattle.book.specs.Headed.Laws.{valid-headed, few-rows, small-pool}
 use Prim.Native.Nat.{_+_, _*_}
 use borrow.Author.Needs.{needs}
 use native.Mathlib.Omega.{arith}
@@ -24,6 +26,7 @@ use Rattle.words.proofs.wide.Reads as wide-reads
 use Rattle.sending.proofs.+make+make_list.{statement}
 use Rattle.sending.proofs.+make+make_list.Tie.{close}
 
+-- A row counts more than a list below it, and a list more than each of its rows: at most nine are left of it.
 abbrev μ-make : Measures 4 make-kinds.ps ℕ
 μ-make κs a = 16 * a .1 .1 .1 .1 .0 + 15
 
@@ -62,7 +65,8 @@ make-calls t = (
 )
 
 -- a place or a need of `make`, by its name
-abbrev in-make : (make-lts.Claims → In 4 make-kinds.ps → Out 4 make-kinds.ps make-kinds.r → Type 0) → ℕ → Type 0
+abbrev in-make : (make-lts.Claims → In 4 make-kinds.ps → Out 4 make-kinds.ps make-kinds.r → Type 0)
+    → ℕ → Type 0
 in-make P t = P (make-calls t) (make-at t) make.Post
 
 abbrev make-list-calls : ℕ → make-list-lts.Claims
@@ -76,81 +80,58 @@ make-list-calls t = (
 )
 
 -- a place or a need of `make_list`, by its name
-abbrev in-make-list : (make-list-lts.Claims → In 4 make-list-kinds.ps → Out 4 make-list-kinds.ps make-list-kinds.r → Type 0) → ℕ → Type 0
+abbrev in-make-list : (make-list-lts.Claims → In 4 make-list-kinds.ps → Out 4 make-list-kinds.ps make-list-kinds.r
+    → Type 0) → ℕ → Type 0
 in-make-list P t = P (make-list-calls t) (make-list-at t) make-list.Post
 
-make-mul-if1 : (t : ℕ) → in-make make-lts.Need-mul-if1 t
-make-mul-if1 t c =
+-- the row is an atom that is not held: it is made, its NEW is written, and it is asked whether it is taken
+make-returns-2 : (t : ℕ) → in-make make-lts.Need-returns-2 t
+make-returns-2 t c =
+    let after-first-taken : in-make make-lts.After-first-taken t = search in
+    let after-put2 : in-make make-lts.After-put2 t = search in
+    let after-wide2 : in-make make-lts.After-wide2 t = search in
+    let then2 : in-make make-lts.Then2 t = search in
+    let after-row-kind : in-make make-lts.After-row-kind t = search in
+    let else1 : in-make make-lts.Else1 t = search in
+    let after-wide : in-make make-lts.After-wide t = search in
     let start : in-make make-lts.Start t = search in
-    let h = valid-headed _ (start .pre .1 .0) in
-    omega arith
+    atom-makes _ (start .args .since .now) (start .args .entries .now) (start .args .step) (start .args .row)
+    (start .pre .1 .0) (start .pre .1 .1) (start .args .m) (start .pre .1 .2) _ _ _ _ _ _ _
+    (after-wide .wide .ensures .0) (else1 .if1 .left) (after-row-kind .row-kind .ensures) (then2 .if2 .taken)
+    (after-wide2 .wide2 .ensures .0) (after-put2 .put2 .ensures) (after-first-taken .first-taken .ensures)
 
-make-element-copy-out-if1 : (t : ℕ) → in-make make-lts.Need-element-copy-out-if1 t
-make-element-copy-out-if1 t c =
+-- the row is held: its entry is not 0
+make-returns : (t : ℕ) → in-make make-lts.Need-returns t
+make-returns t c =
+    let after-wide : in-make make-lts.After-wide t = search in
     let start : in-make make-lts.Start t = search in
-    let h = valid-headed _ (start .pre .1 .0) in
-    omega arith
+    let entry = c .if1 .taken in
+    held-makes _ _ (start .args .entries .now) _ _ (start .pre .1 .0) (start .pre .1 .1) _ (start .pre .1 .2) _ _
+    (after-wide .wide .ensures .0) (λ z. absurd (omega arith))
 
-make-mul-entries : (t : ℕ) → in-make make-lts.Need-mul-entries t
-make-mul-entries t c =
-    let start : in-make make-lts.Start t = search in
-    let h = valid-headed _ (start .pre .1 .0) in
-    omega arith
+-- the parts of a row are rows before it
+module _ (t : ℕ) (c : in-make make-lts.After-row-count t) where
+  abbrev start : in-make make-lts.Start t
+  start = search
 
-make-element-write-entries : (t : ℕ) → in-make make-lts.Need-element-write-entries t
-make-element-write-entries t c =
-    let start : in-make make-lts.Start t = search in
-    let h = valid-headed _ (start .pre .1 .0) in
-    omega arith
+  abbrev first : in-make make-lts.After-row-first t
+  first = search
 
-make-first-taken-requires : (t : ℕ) → in-make make-lts.Need-first-taken-requires t
-make-first-taken-requires t c κs =
-    let start : in-make make-lts.Start t = search in
-    let h = valid-headed _ (start .pre .1 .0) in
-    omega arith
+  parts : Span (start .args .book .now) (start .args .row) (first .row-first .result) (c .row-count .result)
+  parts = search span-row
 
 make-make-list-requires : (t : ℕ) → in-make make-lts.Need-make-list-requires t
 make-make-list-requires t c κs =
-    let after-row-count : in-make make-lts.After-row-count t = search in
-    let after-row-first : in-make make-lts.After-row-first t = search in
-    let start : in-make make-lts.Start t = search in
-    let s = span-row _ (start .pre .1 .0) _ _ _ (start .pre .1 .1) (after-row-first .row-first .ensures .0)
-    (after-row-count .row-count .ensures .0) in
-    (omega arith, (start .pre .1 .0, omega arith, s, start .pre .1 .2))
+    (omega (arith, parts t (search)), (search needs, omega arith, parts t (search), search needs))
 
-make-list-entry-requires : (t : ℕ) → in-make-list make-list-lts.Need-entry-requires t
-make-list-entry-requires t c κs =
-    let else1 : in-make-list make-list-lts.Else1 t = search in
-    let start : in-make-list make-list-lts.Start t = search in
-    (start .pre .1 .0, start .pre .1 .2, let n = else1 .if1 .left in omega arith)
-
-make-list-make-requires : (t : ℕ) → in-make-list make-list-lts.Need-make-requires t
-make-list-make-requires t c κs =
-    let start : in-make-list make-list-lts.Start t = search in
-    (omega arith, (start .pre .1 .0, omega arith, start .pre .1 .3))
-
-make-list-add-make-list : (t : ℕ) → in-make-list make-list-lts.Need-add-make-list t
-make-list-add-make-list t c =
-    let start : in-make-list make-list-lts.Start t = search in
-    let h = valid-headed _ (start .pre .1 .0) in
-    omega arith
+-- no row is left
+make-list-returns : (t : ℕ) → in-make-list make-list-lts.Need-returns t
+make-list-returns t c =
+    let here : in-make-list make-list-lts.Start t = search in
+    none-makes _ _ _ _ _ _ _ _ (here .pre .1 .3) (c .if1 .taken)
 
 make-list-make-list-requires : (t : ℕ) → in-make-list make-list-lts.Need-make-list-requires t
-make-list-make-list-requires t c κs =
-    let after-make : in-make-list make-list-lts.After-make t = search in
-    let else1 : in-make-list make-list-lts.Else1 t = search in
-    let start : in-make-list make-list-lts.Start t = search in
-    let s = span-tail _ _ _ _ (start .pre .1 .2) (let n = else1 .if1 .left in omega arith) in
-    (omega arith, (start .pre .1 .0, start .pre .1 .1, s, after-make .make .ensures .size))
-
-make-list-returns-2 : (t : ℕ) → in-make-list make-list-lts.Need-returns-2 t
-make-list-returns-2 t c =
-    let after-make-list : in-make-list make-list-lts.After-make-list t = search in
-    let after-make : in-make-list make-list-lts.After-make t = search in
-    let after-entry : in-make-list make-list-lts.After-entry t = search in
-    let else1 : in-make-list make-list-lts.Else1 t = search in
-    more-makes _ _ _ _ _ _ _ (let n = else1 .if1 .left in omega arith) (after-entry .entry .ensures .0)
-    (after-make .make .ensures) (after-make-list .make-list .ensures)
+make-list-make-list-requires t c κs = (omega arith, (search needs, search needs, search span-rest, search needs))
 
 pub +make+make-list-spec : {M : Type 1} → statement M
 +make+make-list-spec = close μ-make μ-make-list (λ t. make-lts.spec
@@ -158,17 +139,17 @@ pub +make+make-list-spec : {M : Type 1} → statement M
     (make-at t)
     make.Post
     (λ c κs. search needs)  -- make-wide-requires
-    (make-mul-if1 t)
-    (make-element-copy-out-if1 t)
-    (λ c. search held-makes)  -- make-returns
+    (λ c. omega (arith, few-rows))  -- make-mul-if1
+    (λ c. omega (arith, few-rows))  -- make-element-copy-out-if1
+    (make-returns t)
     (λ c κs. search (valid-headed, needs))  -- make-row-kind-requires
     (λ c κs. search needs)  -- make-wide-requires-2
-    (make-mul-entries t)
-    (make-element-write-entries t)
+    (λ c. omega (arith, few-rows))  -- make-mul-entries
+    (λ c. omega (arith, few-rows))  -- make-element-write-entries
     (λ c κs. search needs)  -- make-put2-requires
-    (make-first-taken-requires t)
+    (λ c κs. omega (arith, few-rows))  -- make-first-taken-requires
     (λ c. search needs)  -- make-same-length
-    (λ c. search atom-makes)  -- make-returns-2
+    (make-returns-2 t)
     (λ c κs. search (valid-headed, needs))  -- make-row-first-requires
     (λ c κs. search (valid-headed, needs))  -- make-row-count-requires
     (make-make-list-requires t)
@@ -178,11 +159,11 @@ pub +make+make-list-spec : {M : Type 1} → statement M
     (make-list-calls t)
     (make-list-at t)
     make-list.Post
-    (λ c. search none-makes)  -- make-list-returns
-    (make-list-entry-requires t)
-    (make-list-make-requires t)
-    (make-list-add-make-list t)
+    (make-list-returns t)
+    (λ c κs. (search needs, search needs, omega arith))  -- make-list-entry-requires
+    (λ c κs. (omega arith, (search needs, omega arith, search needs)))  -- make-list-make-requires
+    (λ c. omega (arith, small-pool))  -- make-list-add-make-list
     (λ c. search needs)  -- make-list-sub-make-list
     (make-list-make-list-requires t)
     (λ c. search needs)  -- make-list-same-length
-    (make-list-returns-2 t)
+    (λ c. search more-makes)  -- make-list-returns-2

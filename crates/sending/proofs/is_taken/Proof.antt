@@ -1,8 +1,17 @@
 -- `sending::is_taken` meets its contract: the table says from which step on. Assumes nothing.
-use Rattle.sending.proofs.Laws.{never, from-step}
+use Rattle.sending.proofs.Taken.{never, from-step}
 use borrow.Author.Needs.{needs}
 use Rattle.sending.proofs.is_taken.Statement.{statement}
 use Rattle.sending.proofs.is_taken.Tie as tie
+
+-- from one less than the entry on
+returns-2 : tie.Need-returns-2
+returns-2 c =
+    let else1 : tie.Else1 = search in
+    let after-wide : tie.After-wide = search in
+    let start : tie.Start = search in
+    from-step (start .args .since .now) (start .args .step) (start .args .row) _ (after-wide .wide .ensures .0)
+    (else1 .if1 .left)
 
 pub is-taken-spec : {M : Type 1} → statement M
 is-taken-spec =
@@ -13,4 +22,4 @@ is-taken-spec =
     (λ c. search needs)  -- element-copy-out-from
     (λ c. search never)  -- returns
     (λ c. search needs)  -- sub-result
-    (λ c. search from-step))  -- returns-2
+    returns-2)

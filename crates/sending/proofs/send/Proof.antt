@@ -1,33 +1,32 @@
--- `sending::send` meets its contract: the images afterwards are the images on the way. Assumes nothing.
-use Rattle.sending.proofs.Laws.{sends}
+-- `sending::send` meets its contract: first every NEW, then the SEND behind them; the images afterwards are those that
+-- building finds on the way. Assumes nothing.
+use Rattle.sending.proofs.Makes.{bound-span, sends}
 use Rattle.book.specs.Headed.Laws.{valid-headed}
+use mathlib.Core.Path.{refl}
 use native.Mathlib.Omega.{arith}
 use borrow.Author.Needs.{needs}
 use Rattle.sending.proofs.send.Statement.{statement}
 use Rattle.sending.proofs.send.Tie as tie
 
-make-list-requires : tie.Need-make-list-requires
-make-list-requires c κs =
-    let after-rows : tie.After-rows = search in
+returns : tie.Need-returns
+returns c =
+    let after-write-images : tie.After-write-images = search in
+    let after-put3 : tie.After-put3 = search in
+    let after-narrow : tie.After-narrow = search in
+    let after-make-list : tie.After-make-list = search in
     let start : tie.Start = search in
-    let e = after-rows .rows .ensures in
-    (start .pre .0, omega arith, rw e (start .pre .1), start .pre .2)
-
-write-images-requires : tie.Need-write-images-requires
-write-images-requires c κs =
-    let after-rows : tie.After-rows = search in
-    let start : tie.Start = search in
-    let e = after-rows .rows .ensures in
-    (start .pre .0, omega arith, rw e (start .pre .1))
+    sends _ _ (start .args .entries .now) _ _ _ _ _ _ (after-narrow .narrow .ensures)
+    (after-make-list .make-list .ensures) (after-put3 .put3 .ensures) refl
+    (after-write-images .write-images .ensures)
 
 pub send-spec : {M : Type 1} → statement M
 send-spec =
     tie.close
     (tie.spec
     (λ c κs. search valid-headed)  -- rows-requires
-    make-list-requires
+    (λ c κs. (search needs, omega arith, search bound-span, search needs))  -- make-list-requires
     (λ c κs. search needs)  -- narrow-requires
     (λ c κs. search needs)  -- put3-requires
-    write-images-requires
+    (λ c κs. (search needs, omega arith, search bound-span))  -- write-images-requires
     (λ c. search needs)  -- same-length
-    (λ c. search sends))  -- returns
+    returns)

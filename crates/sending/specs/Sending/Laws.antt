@@ -56,23 +56,28 @@ making-or (Held.placeholder x) t δ b = refl
 
 -- ---- making, of a form
 making-form : (r k g : ℕ) (ts : List Term) (δ : Dictionary) → k ≤ 4 → Shape k (length ts)
-    → making (build (form r k g (gathered ts)) δ) ≡ pick (isHeld (δ (form r k g (gathered ts)))) (nothing δ) (pick (eqb k 0) (one r δ) (allMaking (buildAll (gathered ts) δ)))
+    → making (build (form r k g (gathered ts)) δ)
+    ≡ pick (isHeld (δ (form r k g (gathered ts)))) (nothing δ) (pick (eqb k 0) (one r δ) (allMaking (buildAll (gathered ts) δ)))
 unfolding form build gathered pick
 making-form r zero g ts δ l s = making-or _ _ δ _
 making-form r (suc zero) g ts δ l s = making-or _ _ δ _
 making-form r (suc (suc zero)) g [] δ l s = absurd (omega arith)
 making-form r (suc (suc zero)) g (t ∷ ts) δ l s = making-or _ _ δ _
 making-form r (suc (suc (suc zero))) g [] δ l s = absurd (omega arith)
-making-form r (suc (suc (suc zero))) g (t ∷ []) δ l s = making-or _ _ δ _ ∙ ap (pick (isHeld (δ (Term.public t))) (nothing δ)) (both-nothing (making (build t δ)))
+making-form r (suc (suc (suc zero))) g (t ∷ []) δ l s =
+    making-or _ _ δ _ ∙ ap (pick (isHeld (δ (Term.public t))) (nothing δ)) (both-nothing (making (build t δ)))
 making-form r (suc (suc (suc zero))) g (t ∷ u ∷ ts) δ l s = absurd (omega arith)
 making-form r (suc (suc (suc (suc zero)))) g [] δ l s = absurd (omega arith)
-making-form r (suc (suc (suc (suc zero)))) g (t ∷ []) δ l s = making-or _ _ δ _ ∙ ap (pick (isHeld (δ (Term.private t))) (nothing δ)) (both-nothing (making (build t δ)))
+making-form r (suc (suc (suc (suc zero)))) g (t ∷ []) δ l s =
+    making-or _ _ δ _ ∙ ap (pick (isHeld (δ (Term.private t))) (nothing δ)) (both-nothing (making (build t δ)))
 making-form r (suc (suc (suc (suc zero)))) g (t ∷ u ∷ ts) δ l s = absurd (omega arith)
 making-form r (suc (suc (suc (suc (suc k))))) g ts δ l s = absurd (omega arith)
 
 -- ---- a row of a valid book
 module _ (b e : List ℕ) (v : Valid b) (r : ℕ) (h : r < rows b) where
-  making-row : making (build (term (table b) r) (view b e)) ≡ pick (pick (eqb (getD e r 0) 0) false true) (nothing (view b e)) (pick (eqb (kind b r) 0) (one r (view b e)) (allMaking (buildAll (terms (table b) (parts b r)) (view b e))))
+  making-row : making (build (term (table b) r) (view b e))
+      ≡ pick (pick (eqb (getD e r 0) 0) false true) (nothing (view b e))
+      (pick (eqb (kind b r) 0) (one r (view b e)) (allMaking (buildAll (terms (table b) (parts b r)) (view b e))))
   unfolding terms
   making-row =
       ap (λ t. making (build t (view b e))) (row-form b v r h) ∙ making-form r _ _ _ (view b e) (v .rowsKeep r h .kinded) (row-shape b v r h)
@@ -86,7 +91,8 @@ module _ (b e : List ℕ) (v : Valid b) (r : ℕ) (h : r < rows b) where
   unfolding pick
   making-atom n k = rw (making-row, eq-eqb (getD e r 0) 0 n, eq-eqb (kind b r) 0 k)
 
-  pub making-parts : getD e r 0 ≡ 0 → (kind b r ≡ 0 → ⊥) → making (build (term (table b) r) (view b e)) ≡ allMaking (buildAll (terms (table b) (parts b r)) (view b e))
+  pub making-parts : getD e r 0 ≡ 0 → (kind b r ≡ 0 → ⊥)
+      → making (build (term (table b) r) (view b e)) ≡ allMaking (buildAll (terms (table b) (parts b r)) (view b e))
   unfolding pick
   making-parts n k = rw (making-row, eq-eqb (getD e r 0) 0 n, ne-eqb (kind b r) 0 k)
 
@@ -101,7 +107,9 @@ unfolding build terms gathered
 making-none b f n δ z = rw (list-none b f n (omega arith))
 
 pub making-more : (b : List ℕ) (f n : ℕ) (δ : Dictionary) → 0 < n
-    → allMaking (buildAll (terms (table b) (listAt b f n)) δ) ≡ both (making (build (term (table b) (entry b f)) δ)) (allMaking (buildAll (terms (table b) (listAt b (f + 1) (n - 1))) (build (term (table b) (entry b f)) δ .dictionary)))
+    → allMaking (buildAll (terms (table b) (listAt b f n)) δ)
+    ≡ both (making (build (term (table b) (entry b f)) δ))
+    (allMaking (buildAll (terms (table b) (listAt b (f + 1) (n - 1))) (build (term (table b) (entry b f)) δ .dictionary)))
 unfolding build terms gathered
 making-more b f n δ h = rw (list-more b f n h)
 
@@ -152,8 +160,17 @@ module _ (t : ℕ → Bool) where
           let n = ap (λ y. firstIn t y rs) (or-taken (t r) 0 r refl e) ∙ first-stays (r + 1) rs (λ z. absurd (omega arith)) in
           inr (record { place = 0; within = omega arith; before = λ k h. absurd (omega arith); taken = e; noted = omega arith })
       go false e s = ⊎-elim
-          (λ (n : NoneTaken rs). inl (record { none = λ k h. later k h (n .none); zeroed = ap (λ y. firstIn t y rs) (or-untaken (t r) 0 r refl e) ∙ n .zeroed }))
-          (λ (n : OneTaken rs). inr (record { place = suc (n .place); within = let w = n .within in omega arith; before = λ k h. sooner k (n .place) h (n .before); taken = n .taken; noted = ap (λ y. firstIn t y rs) (or-untaken (t r) 0 r refl e) ∙ n .noted }))
+          (λ (n : NoneTaken rs). inl (record {
+            none = λ k h. later k h (n .none);
+            zeroed = ap (λ y. firstIn t y rs) (or-untaken (t r) 0 r refl e) ∙ n .zeroed;
+          }))
+          (λ (n : OneTaken rs). inr (record {
+            place = suc (n .place);
+            within = let w = n .within in omega arith;
+            before = λ k h. sooner k (n .place) h (n .before);
+            taken = n .taken;
+            noted = ap (λ y. firstIn t y rs) (or-untaken (t r) 0 r refl e) ∙ n .noted;
+          }))
           s
         where
           later : (k : ℕ) → k < length (r ∷ rs) → ((j : ℕ) → j < length rs → t (getD rs j 0) ≡ false) → t (getD (r ∷ rs) k 0) ≡ false
@@ -169,14 +186,18 @@ module _ (t : ℕ → Bool) where
     pub some-taken : any (λ j. t (getD rs j 0)) (length rs) ≡ true → firstIn t 0 rs ≡ 1 + getD rs (first (λ j. t (getD rs j 0)) (length rs)) 0
     some-taken a = ⊎-elim
         (λ (n : NoneTaken rs). absurd (clash a (any-none (λ j. t (getD rs j 0)) (length rs) (n .none))))
-        (λ (n : OneTaken rs). n .noted ∙ ap (λ k. 1 + getD rs k 0) (first-at (λ j. t (getD rs j 0)) (length rs) (n .place) (n .within) (n .before) (n .taken)))
+        (λ (n : OneTaken rs). n .noted
+        ∙ ap (λ k. 1 + getD rs k 0) (first-at (λ j. t (getD rs j 0)) (length rs) (n .place) (n .within) (n .before) (n .taken)))
         (none-or-one rs)
 
     -- 0 exactly if none is
     pub none-taken : (firstIn t 0 rs ≡ 0) ↔ (any (λ j. t (getD rs j 0)) (length rs) ≡ false)
     none-taken = (
-      λ z. ⊎-elim (λ (n : NoneTaken rs). any-none (λ j. t (getD rs j 0)) (length rs) (n .none)) (λ (n : OneTaken rs). let y = n .noted in absurd (omega arith)) (none-or-one rs),
-      λ a. ⊎-elim (λ (n : NoneTaken rs). n .zeroed) (λ (n : OneTaken rs). absurd (clash (any-at (λ j. t (getD rs j 0)) (length rs) (n .place) (n .within) (n .taken)) a)) (none-or-one rs),
+      λ z. ⊎-elim (λ (n : NoneTaken rs). any-none (λ j. t (getD rs j 0)) (length rs) (n .none))
+          (λ (n : OneTaken rs). let y = n .noted in absurd (omega arith)) (none-or-one rs),
+      λ a. ⊎-elim (λ (n : NoneTaken rs). n .zeroed)
+          (λ (n : OneTaken rs). absurd (clash (any-at (λ j. t (getD rs j 0)) (length rs) (n .place) (n .within) (n .taken)) a))
+          (none-or-one rs),
     )
 
 -- ---- the words of events
@@ -187,16 +208,21 @@ module _ (row : Term → ℕ) where
   news-append (r ∷ l) m = ap (λ k. 1 ∷ r ∷ k) (news-append l m)
 
 -- of a SEND in the dictionary that the entries hold
-send-words : (b e : List ℕ) (s f n : ℕ) → programWords (rowOf b) (Event.sends s (images (view b e) (terms (table b) (listAt b f n))) ∷ []) ≡ 2 ∷ s ∷ n ∷ imagesAt b e f n
+send-words : (b e : List ℕ) (s f n : ℕ)
+    → programWords (rowOf b) (Event.sends s (images (view b e) (terms (table b) (listAt b f n))) ∷ []) ≡ 2 ∷ s ∷ n ∷ imagesAt b e f n
 unfolding programWords eventWords terms imagesAt
 send-words b e s f n =
     append-nil _
-    ∙ ap₂ (λ c l. 2 ∷ s ∷ c ∷ l) (count-all (view b e) (map (term (table b)) (listAt b f n)) ∙ length-map (listAt b f n) (term (table b)) ∙ run-length b (begins b 3 + f) n)
-    (words-all (rowOf b) (view b e) (map (term (table b)) (listAt b f n)) ∙ ap concat (map-map (λ t. words (rowOf b) (image (view b e) t)) (term (table b)) (listAt b f n)))
+    ∙ ap₂ (λ c l. 2 ∷ s ∷ c ∷ l)
+    (count-all (view b e) (map (term (table b)) (listAt b f n)) ∙ length-map (listAt b f n) (term (table b))
+    ∙ run-length b (begins b 3 + f) n)
+    (words-all (rowOf b) (view b e) (map (term (table b)) (listAt b f n))
+    ∙ ap concat (map-map (λ t. words (rowOf b) (image (view b e) t)) (term (table b)) (listAt b f n)))
 
 -- a step's events: the NEWs, then the SEND with the images in the dictionary afterwards
 pub sent-words : (b e : List ℕ) (s f n : ℕ) (δ : Dictionary) → view b e ≡ buildAll (terms (table b) (listAt b f n)) δ .dictionary
-    → programWords (rowOf b) (sent s (buildAll (terms (table b) (listAt b f n)) δ) .events) ≡ programWords (rowOf b) (map Event.new (buildAll (terms (table b) (listAt b f n)) δ .made)) ++ (2 ∷ s ∷ n ∷ imagesAt b e f n)
+    → programWords (rowOf b) (sent s (buildAll (terms (table b) (listAt b f n)) δ) .events)
+    ≡ programWords (rowOf b) (map Event.new (buildAll (terms (table b) (listAt b f n)) δ .made)) ++ (2 ∷ s ∷ n ∷ imagesAt b e f n)
 sent-words b e s f n δ d =
     let ts = terms (table b) (listAt b f n) in
     program-append (rowOf b) (map Event.new (buildAll ts δ .made)) (Event.sends s (buildAll ts δ .images) ∷ [])

@@ -1,0 +1,102 @@
+-- Making the atoms of a row, of a list of rows, and sending a step's messages: what the code leaves behind. Assumes nothing.
+use Prim.Native.Nat.{ℕ, _+_, _-_, _<_}
+use mathlib.Core.List.{List, [], _∷_}
+use mathlib.Core.Path.{_≡_, refl, sym, ap, _∙_}
+use native.Mathlib.Omega.{arith}
+use lib.ListN.{length, getD, set, length-set}
+use Rattle.words.specs.Overlay.{Wrote}
+use Rattle.words.specs.Overlay.Laws.{wrote-then, wrote-as, wrote-none}
+use Rattle.terms.specs.Table.{term, terms}
+use Rattle.book.specs.Layout.{rows, kind, rowFirst, rowCount, table, listAt}
+use Rattle.book.specs.Valid.{Valid}
+use Rattle.book.specs.Headed.Laws.{few-rows}
+use Rattle.book.specs.Span.{entry, Span}
+use Rattle.translation.specs.Dictionary.{Dictionary}
+use Rattle.translation.specs.Build.{build, buildAll}
+use Rattle.translation.specs.Listing.{eventWords, programWords}
+use Rattle.claims.specs.Since.{takenIn}
+use Rattle.holding.specs.View.{rowOf, view}
+use Rattle.holding.specs.AtRow.{imagesAt}
+use Rattle.sending.specs.declared.Made.{Made}
+use Rattle.sending.specs.Sending.{Making, making, allMaking, orTaken, firstIn, Makes, Sends}
+use Rattle.sending.specs.Sending.Laws.{nothing, both, making-held, making-atom, making-parts, one-set, making-none, making-more, first-append, news-append, sent-words}
+
+-- ---- one row, of which the code reads the entry at w
+makes-as : {b l : List ℕ} {s : ℕ} {g h : Making} {m : Made} {e o p : List ℕ} {r : Made} → Makes b l s g m e o p r → h ≡ g
+    → Makes b l s h m e o p r
+makes-as x e = rw e x
+
+-- what is held is not made
+makes-nothing : (b l : List ℕ) (s : ℕ) (m : Made) (e o : List ℕ) → length e ≡ 1024 → Makes b l s (nothing (view b e)) m e o o m
+unfolding programWords firstIn
+makes-nothing b l s m e o j = record { holds = refl; wrote = wrote-none; found = refl; size = j }
+
+module _ (b l e : List ℕ) (s r : ℕ) (v : Valid b) (h : r < rows b) (m : Made) (j : length e ≡ 1024) where
+  pub held-makes : (w : ℕ) (o : List ℕ) → w ≡ r → (getD e w 0 ≡ 0 → ⊥) → Makes b l s (making (build (term (table b) r) (view b e))) m e o o m
+  held-makes w o d n = makes-as (makes-nothing b l s m e o j) (making-held b e v r h (λ z. n (ap (λ i. getD e i 0) d ∙ z)))
+
+  pub atom-makes : (w u k : ℕ) (o p : List ℕ) (i y : ℕ) → w ≡ r → getD e w 0 ≡ 0 → k ≡ kind b r → k ≡ 0 → u ≡ r
+      → Wrote (1 ∷ r ∷ []) o (m .at) p i → y ≡ orTaken (m .taken) (takenIn l s r) r
+      → Makes b l s (making (build (term (table b) r) (view b e))) m (set e u 1) o p (record { at = i; taken = y })
+  unfolding programWords eventWords firstIn
+  atom-makes w u k o p i y d z f q c x t =
+      let n = few-rows b v in
+      makes-as
+      (record {
+        holds = ap (λ a. view b (set e a 1)) c ∙ one-set b e v r h (sym f ∙ q) (omega arith);
+        wrote = x;
+        found = t;
+        size = length-set e u 1 ∙ j;
+      })
+      (making-atom b e v r h (ap (λ a. getD e a 0) (sym d) ∙ z) (sym f ∙ q))
+
+  pub parts-makes : (w k f n : ℕ) {after o p : List ℕ} {y : Made} → w ≡ r → getD e w 0 ≡ 0 → k ≡ kind b r → (k ≡ 0 → ⊥)
+      → f ≡ rowFirst b r → n ≡ rowCount b r
+      → Makes b l s (allMaking (buildAll (terms (table b) (listAt b f n)) (view b e))) m after o p y
+      → Makes b l s (making (build (term (table b) r) (view b e))) m after o p y
+  parts-makes w k f n d z c q t u x =
+      makes-as (rw (t, u) at x) (making-parts b e v r h (ap (λ a. getD e a 0) (sym d) ∙ z) (λ y. q (c ∙ y)))
+
+-- ---- a list of rows
+pub none-makes : (b l : List ℕ) (s f n : ℕ) (m : Made) (e o : List ℕ) → length e ≡ 1024 → n ≡ 0
+    → Makes b l s (allMaking (buildAll (terms (table b) (listAt b f n)) (view b e))) m e o o m
+none-makes b l s f n m e o j z = makes-as (makes-nothing b l s m e o j) (making-none b f n (view b e) z)
+
+makes-then : (b l : List ℕ) (s : ℕ) (g : Making) (f : Dictionary → Making) {e after o p q : List ℕ} {m y z : Made} → Makes b l s g m e o p y
+    → Makes b l s (f (view b e)) y after p q z → Makes b l s (both g (f (g .dictionary))) m after o q z
+makes-then b l s g f x y =
+    let w = makes-as y (ap f (sym (x .holds))) in
+    record {
+      holds = w .holds;
+      wrote = wrote-as (wrote-then (x .wrote) (w .wrote)) (news-append (rowOf b) (g .made) (f (g .dictionary) .made));
+      found = w .found ∙ rw (x .found) (sym (first-append (takenIn l s) _ (g .made) (f (g .dictionary) .made)));
+      size = w .size;
+    }
+
+pub more-makes : (b l e : List ℕ) (s f n x : ℕ) → (n ≡ 0 → ⊥) → x ≡ entry b f → {mid after o p q : List ℕ} {m y z : Made}
+    → Makes b l s (making (build (term (table b) x) (view b e))) m mid o p y
+    → Makes b l s (allMaking (buildAll (terms (table b) (listAt b (f + 1) (n - 1))) (view b mid))) y after p q z
+    → Makes b l s (allMaking (buildAll (terms (table b) (listAt b f n)) (view b e))) m after o q z
+more-makes b l e s f n x h d u w =
+    makes-as
+    (makes-then b l s (making (build (term (table b) (entry b f)) (view b e)))
+    (λ δ. allMaking (buildAll (terms (table b) (listAt b (f + 1) (n - 1))) δ)) (rw d at u) w)
+    (making-more b f n (view b e) (omega arith))
+
+-- ---- a step
+-- its messages lie below a bound that was read as the number of rows
+pub bound-span : (b : List ℕ) (bound f n : ℕ) → bound ≡ rows b → Span b (rows b) f n → Span b bound f n
+bound-span b bound f n d s = rw d s
+
+-- the SEND stands at w, which is the place behind the NEWs
+pub sends : (b l e : List ℕ) (s f n c a w : ℕ) {after o p q t : List ℕ} {m : Made} {i z : ℕ} → c ≡ n
+    → Makes b l s (allMaking (buildAll (terms (table b) (listAt b f n)) (view b e))) (record { at = a; taken = 0 }) after o p m
+    → Wrote (2 ∷ s ∷ c ∷ []) p w q i → w ≡ m .at → Wrote (imagesAt b after f n) q i t z
+    → Sends b l s (buildAll (terms (table b) (listAt b f n)) (view b e)) a after o t (record { at = z; taken = m .taken })
+sends b l e s f n c a w {after} d x y g z =
+    record {
+      holds = x .holds;
+      wrote = wrote-as (wrote-then (x .wrote) (wrote-then (rw g at y) z)) (sent-words b after s f n (view b e) (x .holds) ∙ rw d);
+      found = x .found;
+      size = x .size;
+    }

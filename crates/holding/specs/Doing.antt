@@ -12,7 +12,8 @@ pub mod Laws
 
 -- log became logAfter and out became outAfter; entries, next, kept and place are the entries, the next placeholder and the two
 -- places afterwards
-pub record Doing (b : List ℕ) (d : Did) (n k : ℕ) (log logAfter : List ℕ) (a : ℕ) (out outAfter entries : List ℕ) (next kept place : ℕ) : Type 0 where
+pub record Doing (b : List ℕ) (d : Did) (n k : ℕ) (log logAfter : List ℕ) (a : ℕ)
+    (out outAfter entries : List ℕ) (next kept place : ℕ) : Type 0 where
   pub holds : view b entries ≡ d .dictionary
   pub goes : next ≡ n + length (d .given)
   pub wrote : Wrote (programWords (rowOf b) (d .events)) out a outAfter place

@@ -1,7 +1,8 @@
--- `holding::buildable` meets its contract: what is left of the parts decides. Assumes nothing.
+-- `holding::buildable` meets its contract: a row that is held is, a lone atom isn't, else what is left of the parts
+-- decides. Assumes nothing.
 use borrow.Author.Tests.{not-true, not-false}
-use Rattle.holding.proofs.Laws.{Going, going-start, going-on, going-off, going-done, is-held, is-free, lone-atom}
-use Rattle.book.specs.Headed.Laws.{valid-headed}
+use Rattle.holding.proofs.Going.{Going, going-start, going-on, going-off, going-done, is-held, lone-atom}
+use Rattle.book.specs.Headed.Laws.{valid-headed, few-rows, small-pool}
 use borrow.Author.Needs.{needs}
 use native.Mathlib.Omega.{arith}
 use Prim.Native.Nat.{ℕ, _<_}
@@ -18,6 +19,7 @@ use Rattle.words.proofs.wide.Reads as wide-reads
 use Rattle.holding.proofs.+buildable.{statement}
 use Rattle.holding.proofs.+buildable.Tie.{close}
 
+-- a row's parts are rows before it
 abbrev μ-buildable : Measures 2 buildable-kinds.ps ℕ
 μ-buildable κs a = a .1 .1 .0
 
@@ -51,53 +53,33 @@ buildable-calls t = (
 )
 
 -- a place or a need of `buildable`, by its name
-abbrev in-buildable : (buildable-lts.Claims → In 2 buildable-kinds.ps → Out 2 buildable-kinds.ps buildable-kinds.r → buildable-lts.InvT-loop → buildable-lts.MeasureT-loop → Type 0) → ℕ → Type 0
+abbrev in-buildable : (buildable-lts.Claims → In 2 buildable-kinds.ps → Out 2 buildable-kinds.ps buildable-kinds.r
+    → buildable-lts.InvT-loop → buildable-lts.MeasureT-loop → Type 0) → ℕ → Type 0
 in-buildable P t = P (buildable-calls t) (buildable-at t) buildable.Post buildable-Inv-loop buildable-μ-loop
 
-buildable-mul-if1 : (t : ℕ) → in-buildable buildable-lts.Need-mul-if1 t
-buildable-mul-if1 t c =
-    let start : in-buildable buildable-lts.Start t = search in
-    let h = valid-headed _ (start .pre .1 .0) in
-    omega arith
-
-buildable-element-copy-out-if1 : (t : ℕ) → in-buildable buildable-lts.Need-element-copy-out-if1 t
-buildable-element-copy-out-if1 t c =
-    let start : in-buildable buildable-lts.Start t = search in
-    let h = valid-headed _ (start .pre .1 .0) in
-    omega arith
-
+-- the row is not held, and no atom
 buildable-loop-holds : (t : ℕ) → in-buildable buildable-lts.Need-loop-holds t
 buildable-loop-holds t c =
-    let after-row-first : in-buildable buildable-lts.After-row-first t = search in
+    let count : in-buildable buildable-lts.After-row-count t = search in
+    let first : in-buildable buildable-lts.After-row-first t = search in
     let else2 : in-buildable buildable-lts.Else2 t = search in
     let after-row-kind : in-buildable buildable-lts.After-row-kind t = search in
     let else1 : in-buildable buildable-lts.Else1 t = search in
     let after-wide : in-buildable buildable-lts.After-wide t = search in
     let start : in-buildable buildable-lts.Start t = search in
-    going-start _ _ _ _ _ _ (start .pre .1 .0) (start .pre .1 .1)
-    (is-free (start .args .book .now) (start .args .entries .now) _ _ (after-wide .wide .ensures .0)
-    (else1 .if1 .left)) (after-row-kind .row-kind .ensures) (else2 .if2 .left)
-    (after-row-first .row-first .ensures .0) (c .row-count .ensures .0)
+    going-start _ _ _ _ _ _ _ (start .pre .1 .0) (start .pre .1 .1) (after-wide .wide .ensures .0) (else1 .if1 .left)
+    (after-row-kind .row-kind .ensures) (else2 .if2 .left) (first .row-first .ensures .0) (count .row-count .ensures .0)
 
-buildable-buildable-requires : (t : ℕ) → in-buildable buildable-lts.Need-buildable-requires t
-buildable-buildable-requires t c κs =
-    let start : in-buildable buildable-lts.Start t = search in
-    (omega arith, (start .pre .1 .0, omega arith))
-
-buildable-add-from : (t : ℕ) → in-buildable buildable-lts.Need-add-from t
-buildable-add-from t c =
-    let start : in-buildable buildable-lts.Start t = search in
-    let h = valid-headed _ (start .pre .1 .0) in
-    omega arith
-
+-- the part asked about is buildable
 buildable-loop-again : (t : ℕ) → in-buildable buildable-lts.Need-loop-again t
 buildable-loop-again t c =
+    let else3 : in-buildable buildable-lts.Else3 t = search in
     let after-buildable : in-buildable buildable-lts.After-buildable t = search in
     let after-entry : in-buildable buildable-lts.After-entry t = search in
     let in-loop : in-buildable buildable-lts.In-loop t = search in
     let at-loop : in-buildable buildable-lts.At-loop t = search in
     going-on _ _ _ _ _ _ _ (at-loop .loop .inv) (in-loop .loop-test .taken) (after-entry .entry .ensures .0)
-    (after-buildable .buildable .ensures) (not-false _ (c .if3 .left))
+    (after-buildable .buildable .ensures) (not-false _ (else3 .if3 .left))
 
 pub +buildable-spec : {M : Type 1} → statement M
 +buildable-spec = close μ-buildable λ t. buildable-lts.spec
@@ -107,18 +89,18 @@ pub +buildable-spec : {M : Type 1} → statement M
     buildable-Inv-loop
     buildable-μ-loop
     (λ c κs. search needs)  -- buildable-wide-requires
-    (buildable-mul-if1 t)
-    (buildable-element-copy-out-if1 t)
+    (λ c. omega (arith, few-rows))  -- buildable-mul-if1
+    (λ c. omega (arith, few-rows))  -- buildable-element-copy-out-if1
     (λ c. search is-held)  -- buildable-returns
     (λ c κs. search (valid-headed, needs))  -- buildable-row-kind-requires
-    (λ c. search (lone-atom, is-free, needs))  -- buildable-returns-2
+    (λ c. search lone-atom)  -- buildable-returns-2
     (λ c κs. search (valid-headed, needs))  -- buildable-row-first-requires
     (λ c κs. search (valid-headed, needs))  -- buildable-row-count-requires
     (buildable-loop-holds t)
     (λ c κs. search needs)  -- buildable-entry-requires
-    (buildable-buildable-requires t)
+    (λ c κs. (omega arith, (search needs, omega arith)))  -- buildable-buildable-requires
     (λ c. search (going-off, not-true, needs))  -- buildable-returns-3
-    (buildable-add-from t)
+    (λ c. omega (arith, small-pool))  -- buildable-add-from
     (λ c. search needs)  -- buildable-sub-left
     (λ c. search needs)  -- buildable-loop-less
     (buildable-loop-again t)

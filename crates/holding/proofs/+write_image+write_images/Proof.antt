@@ -1,8 +1,10 @@
--- `holding::write_image`, `holding::write_images` meet their contracts: head and parts, one after another. Assumes nothing.
+-- `holding::write_image` and `holding::write_images` meet their contracts: what is held by its entry, else its head and
+-- its parts, which are rows before it; a list one row after another. Assumes nothing.
 use Prim.Native.Nat.{_+_, _*_}
-use Rattle.book.specs.Span.Laws.{span-row, span-tail}
-use Rattle.holding.proofs.Laws.{is-free, held-wrote, free-wrote, none-wrote, more-wrote}
-use Rattle.book.specs.Headed.Laws.{valid-headed}
+use Rattle.book.specs.Span.{Span}
+use Rattle.book.specs.Span.Laws.{span-row, span-rest}
+use Rattle.holding.proofs.Images.{held-wrote, free-wrote, none-wrote, more-wrote}
+use Rattle.book.specs.Headed.Laws.{valid-headed, few-rows, small-pool}
 use borrow.Author.Needs.{needs}
 use native.Mathlib.Omega.{arith}
 use Prim.Native.Nat.{ℕ, _<_}
@@ -23,6 +25,7 @@ use Rattle.words.proofs.wide.Reads as wide-reads
 use Rattle.holding.proofs.+write_image+write_images.{statement}
 use Rattle.holding.proofs.+write_image+write_images.Tie.{close}
 
+-- A row counts more than a list below it, and a list more than each of its rows: at most nine are left of it.
 abbrev μ-write-image : Measures 3 write-image-kinds.ps ℕ
 μ-write-image κs a = 16 * a .1 .1 .0 + 15
 
@@ -66,7 +69,8 @@ write-image-calls t = (
 )
 
 -- a place or a need of `write_image`, by its name
-abbrev in-write-image : (write-image-lts.Claims → In 3 write-image-kinds.ps → Out 3 write-image-kinds.ps write-image-kinds.r → Type 0) → ℕ → Type 0
+abbrev in-write-image : (write-image-lts.Claims → In 3 write-image-kinds.ps
+    → Out 3 write-image-kinds.ps write-image-kinds.r → Type 0) → ℕ → Type 0
 in-write-image P t = P (write-image-calls t) (write-image-at t) write-image.Post
 
 abbrev write-images-calls : ℕ → write-images-lts.Claims
@@ -80,61 +84,24 @@ write-images-calls t = (
 )
 
 -- a place or a need of `write_images`, by its name
-abbrev in-write-images : (write-images-lts.Claims → In 3 write-images-kinds.ps → Out 3 write-images-kinds.ps write-images-kinds.r → Type 0) → ℕ → Type 0
+abbrev in-write-images : (write-images-lts.Claims → In 3 write-images-kinds.ps
+    → Out 3 write-images-kinds.ps write-images-kinds.r → Type 0) → ℕ → Type 0
 in-write-images P t = P (write-images-calls t) (write-images-at t) write-images.Post
 
-write-image-mul-held : (t : ℕ) → in-write-image write-image-lts.Need-mul-held t
-write-image-mul-held t c =
-    let start : in-write-image write-image-lts.Start t = search in
-    let h = valid-headed _ (start .pre .1 .0) in
-    omega arith
+-- the parts of a row are rows before it
+module _ (t : ℕ) (c : in-write-image write-image-lts.After-row-count t) where
+  abbrev start : in-write-image write-image-lts.Start t
+  start = search
 
-write-image-element-copy-out-held : (t : ℕ) → in-write-image write-image-lts.Need-element-copy-out-held t
-write-image-element-copy-out-held t c =
-    let start : in-write-image write-image-lts.Start t = search in
-    let h = valid-headed _ (start .pre .1 .0) in
-    omega arith
+  abbrev first : in-write-image write-image-lts.After-row-first t
+  first = search
+
+  parts : Span (start .args .book .now) (start .args .row) (first .row-first .result) (c .row-count .result)
+  parts = search span-row
 
 write-image-write-images-requires : (t : ℕ) → in-write-image write-image-lts.Need-write-images-requires t
 write-image-write-images-requires t c κs =
-    let after-row-count : in-write-image write-image-lts.After-row-count t = search in
-    let after-row-first : in-write-image write-image-lts.After-row-first t = search in
-    let start : in-write-image write-image-lts.Start t = search in
-    let s = span-row _ (start .pre .1 .0) _ _ _ (start .pre .1 .1) (after-row-first .row-first .ensures .0)
-    (after-row-count .row-count .ensures .0) in
-    (omega arith, (start .pre .1 .0, omega arith, s))
-
-write-images-entry-requires : (t : ℕ) → in-write-images write-images-lts.Need-entry-requires t
-write-images-entry-requires t c κs =
-    let start : in-write-images write-images-lts.Start t = search in
-    (start .pre .1 .0, start .pre .1 .2, let n = c .if1 .left in omega arith)
-
-write-images-write-image-requires : (t : ℕ) → in-write-images write-images-lts.Need-write-image-requires t
-write-images-write-image-requires t c κs =
-    let start : in-write-images write-images-lts.Start t = search in
-    (omega arith, (start .pre .1 .0, omega arith))
-
-write-images-add-write-images : (t : ℕ) → in-write-images write-images-lts.Need-add-write-images t
-write-images-add-write-images t c =
-    let start : in-write-images write-images-lts.Start t = search in
-    let h = valid-headed _ (start .pre .1 .0) in
-    omega arith
-
-write-images-write-images-requires : (t : ℕ) → in-write-images write-images-lts.Need-write-images-requires t
-write-images-write-images-requires t c κs =
-    let else1 : in-write-images write-images-lts.Else1 t = search in
-    let start : in-write-images write-images-lts.Start t = search in
-    let s = span-tail _ _ _ _ (start .pre .1 .2) (let n = else1 .if1 .left in omega arith) in
-    (omega arith, (start .pre .1 .0, start .pre .1 .1, s))
-
-write-images-returns-2 : (t : ℕ) → in-write-images write-images-lts.Need-returns-2 t
-write-images-returns-2 t c =
-    let after-write-images : in-write-images write-images-lts.After-write-images t = search in
-    let after-write-image : in-write-images write-images-lts.After-write-image t = search in
-    let after-entry : in-write-images write-images-lts.After-entry t = search in
-    let else1 : in-write-images write-images-lts.Else1 t = search in
-    more-wrote _ _ _ _ _ (let n = else1 .if1 .left in omega arith) (after-entry .entry .ensures .0)
-    (after-write-image .write-image .ensures) (after-write-images .write-images .ensures)
+    (omega (arith, parts t (search)), (search needs, omega arith, parts t (search)))
 
 pub +write-image+write-images-spec : {M : Type 1} → statement M
 +write-image+write-images-spec = close μ-write-image μ-write-images (λ t. write-image-lts.spec
@@ -142,8 +109,8 @@ pub +write-image+write-images-spec : {M : Type 1} → statement M
     (write-image-at t)
     write-image.Post
     (λ c κs. search needs)  -- write-image-wide-requires
-    (write-image-mul-held t)
-    (write-image-element-copy-out-held t)
+    (λ c. omega (arith, few-rows))  -- write-image-mul-held
+    (λ c. omega (arith, few-rows))  -- write-image-element-copy-out-held
     (λ c κs. search needs)  -- write-image-put-entry-requires
     (λ c. search needs)  -- write-image-same-length
     (λ c. search held-wrote)  -- write-image-returns
@@ -152,16 +119,16 @@ pub +write-image+write-images-spec : {M : Type 1} → statement M
     (λ c κs. search (valid-headed, needs))  -- write-image-row-count-requires
     (write-image-write-images-requires t)
     (λ c. search needs)  -- write-image-same-length-2
-    (λ c. search (free-wrote, is-free, needs)))  -- write-image-returns-2
+    (λ c. search free-wrote))  -- write-image-returns-2
     λ t. write-images-lts.spec
     (write-images-calls t)
     (write-images-at t)
     write-images.Post
     (λ c. search none-wrote)  -- write-images-returns
-    (write-images-entry-requires t)
-    (write-images-write-image-requires t)
-    (write-images-add-write-images t)
+    (λ c κs. (search needs, search needs, omega arith))  -- write-images-entry-requires
+    (λ c κs. (omega arith, (search needs, omega arith)))  -- write-images-write-image-requires
+    (λ c. omega (arith, small-pool))  -- write-images-add-write-images
     (λ c. search needs)  -- write-images-sub-write-images
-    (write-images-write-images-requires t)
+    (λ c κs. (omega arith, (search needs, search needs, search span-rest)))  -- write-images-write-images-requires
     (λ c. search needs)  -- write-images-same-length
-    (write-images-returns-2 t)
+    (λ c. search more-wrote)  -- write-images-returns-2

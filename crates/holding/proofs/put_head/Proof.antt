@@ -1,9 +1,11 @@
--- `holding::put_head` meets its contract: by the row's kind. Assumes nothing.
+-- `holding::put_head` meets its contract: an image begins by its row's kind, and a row of none of the four other kinds
+-- is an atom. Assumes nothing.
 use Prim.Native.Nat.{ℕ}
 use mathlib.Core.List.{[], _∷_}
 use mathlib.Core.Path.{sym, ap, _∙_}
 use Rattle.book.specs.Span.Laws.{some-part}
 use Rattle.holding.specs.AtRow.Laws.{head-operation, head-cipher, head-public, head-private, head-atom}
+use Rattle.holding.proofs.Images.{atom-left}
 use Rattle.words.specs.Overlay.Laws.{wrote-as}
 use Rattle.book.specs.Headed.Laws.{valid-headed}
 use native.Mathlib.Omega.{arith}
@@ -20,17 +22,15 @@ returns c =
     let then1 : tie.Then1 = search in
     let after-row-kind : tie.After-row-kind = search in
     let start : tie.Start = search in
-    wrote-as (after-put3 .put3 .ensures) (head-operation (start .args .book .now) _ _
-    (after-row-kind .row-kind .ensures) _ _ (then1 .if1 .taken) (after-row-tag .row-tag .ensures)
-    (after-narrow .narrow .ensures ∙ after-row-count .row-count .ensures .0))
+    wrote-as (after-put3 .put3 .ensures)
+    (head-operation (start .args .book .now) _ _ (after-row-kind .row-kind .ensures) _ _ (then1 .if1 .taken)
+    (after-row-tag .row-tag .ensures) (after-narrow .narrow .ensures ∙ after-row-count .row-count .ensures .0))
 
+-- a cipher has a key
 sub-narrow : tie.Need-sub-narrow
 sub-narrow c =
-    let then2 : tie.Then2 = search in
-    let after-row-kind : tie.After-row-kind = search in
     let start : tie.Start = search in
-    let h = some-part _ (start .pre .0) _ (start .pre .1)
-    (let e = after-row-kind .row-kind .ensures in let f = then2 .if2 .taken in omega arith) in
+    let key = some-part _ (start .pre .0) _ (start .pre .1) (omega arith) in
     omega arith
 
 returns-2 : tie.Need-returns-2
@@ -41,9 +41,9 @@ returns-2 c =
     let then2 : tie.Then2 = search in
     let after-row-kind : tie.After-row-kind = search in
     let start : tie.Start = search in
-    wrote-as (after-put2 .put2 .ensures) (head-cipher (start .args .book .now) _ _
-    (after-row-kind .row-kind .ensures) _ (then2 .if2 .taken) (after-row-count2 .row-count2 .ensures .0) ∙ ap
-    (λ (x : ℕ). 3 ∷ x ∷ []) (sym (after-narrow2 .narrow2 .ensures)))
+    wrote-as (after-put2 .put2 .ensures)
+    (head-cipher (start .args .book .now) _ _ (after-row-kind .row-kind .ensures) _ (then2 .if2 .taken)
+    (after-row-count2 .row-count2 .ensures .0) ∙ ap (λ (x : ℕ). 3 ∷ x ∷ []) (sym (after-narrow2 .narrow2 .ensures)))
 
 returns-5 : tie.Need-returns-5
 returns-5 c =
@@ -54,10 +54,10 @@ returns-5 c =
     let else1 : tie.Else1 = search in
     let after-row-kind : tie.After-row-kind = search in
     let start : tie.Start = search in
-    wrote-as (after-put22 .put22 .ensures) (head-atom (start .args .book .now) _ _
-    (after-row-kind .row-kind .ensures) (let k = start .pre .0 .rowsKeep _ (start .pre .1) .kinded in let e =
-    after-row-kind .row-kind .ensures in let a = else1 .if1 .left in let b = else2 .if2 .left in let f
-    = else3 .if3 .left in let g = else4 .if4 .left in omega arith))
+    let kind-is = after-row-kind .row-kind .ensures in
+    wrote-as (after-put22 .put22 .ensures)
+    (head-atom (start .args .book .now) _ _ kind-is (atom-left _ (start .pre .0) _ _ (start .pre .1) kind-is
+    (else1 .if1 .left) (else2 .if2 .left) (else3 .if3 .left) (else4 .if4 .left)))
 
 pub put-head-spec : {M : Type 1} → statement M
 put-head-spec =

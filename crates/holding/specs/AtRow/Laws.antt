@@ -40,7 +40,8 @@ unfolding form buildable allTrue gathered pick
 can-form δ r zero g ts l s = same-pick _
 can-form δ r (suc zero) g ts l s = ap (pick (isHeld (δ (Term.operation g (gathered ts)))) true) (all-buildable δ ts)
 can-form δ r (suc (suc zero)) g [] l s = absurd (omega arith)
-can-form δ r (suc (suc zero)) g (t ∷ ts) l s = ap (λ x. pick (isHeld (δ (Term.cipher t (gathered ts)))) true (pick (buildable δ t) x false)) (all-buildable δ ts)
+can-form δ r (suc (suc zero)) g (t ∷ ts) l s =
+    ap (λ x. pick (isHeld (δ (Term.cipher t (gathered ts)))) true (pick (buildable δ t) x false)) (all-buildable δ ts)
 can-form δ r (suc (suc (suc zero))) g [] l s = absurd (omega arith)
 can-form δ r (suc (suc (suc zero))) g (t ∷ []) l s = ap (pick (isHeld (δ (Term.public t))) true) (same-pick _)
 can-form δ r (suc (suc (suc zero))) g (t ∷ u ∷ ts) l s = absurd (omega arith)
@@ -79,13 +80,17 @@ module _ (row : Term → ℕ) (δ : Dictionary) where
   words-all (t ∷ ts) = ap (λ l. words row (image δ t) ++ l) (words-all ts)
 
   image-form : (r k g : ℕ) (ts : List Term) → k ≤ 4 → Shape k (length ts)
-      → words row (image δ (form r k g (gathered ts))) ≡ shown (δ (form r k g (gathered ts))) (row (form r k g (gathered ts))) (headOf (row (form r k g (gathered ts))) k g (length ts) ++ concat (map (λ t. words row (image δ t)) ts))
+      → words row (image δ (form r k g (gathered ts)))
+      ≡ shown (δ (form r k g (gathered ts))) (row (form r k g (gathered ts)))
+      (headOf (row (form r k g (gathered ts))) k g (length ts) ++ concat (map (λ t. words row (image δ t)) ts))
   unfolding form image words headOf concat gathered
   image-form r zero g [] l s = words-held (δ (Term.atom r)) _ _ _ refl
   image-form r zero g (t ∷ ts) l s = absurd (omega arith)
   image-form r (suc zero) g ts l s = words-held (δ (Term.operation g (gathered ts))) _ _ _ (rw (count-all δ ts, words-all ts))
   image-form r (suc (suc zero)) g [] l s = absurd (omega arith)
-  image-form r (suc (suc zero)) g (t ∷ ts) l s = let z : suc (length ts) - 1 ≡ length ts = omega arith in words-held (δ (Term.cipher t (gathered ts))) _ _ _ (rw (count-all δ ts, words-all ts, z))
+  image-form r (suc (suc zero)) g (t ∷ ts) l s =
+      let z : suc (length ts) - 1 ≡ length ts = omega arith in
+      words-held (δ (Term.cipher t (gathered ts))) _ _ _ (rw (count-all δ ts, words-all ts, z))
   image-form r (suc (suc (suc zero))) g [] l s = absurd (omega arith)
   image-form r (suc (suc (suc zero))) g (t ∷ []) l s = words-held (δ (Term.public t)) _ _ _ (rw append-nil)
   image-form r (suc (suc (suc zero))) g (t ∷ u ∷ ts) l s = absurd (omega arith)
@@ -115,7 +120,8 @@ module _ (b e : List ℕ) (v : Valid b) (r : ℕ) (h : r < rows b) where
 
   image-row : imageAt b e r ≡ shown (rowOf b) (view b e) (heldOf (getD e r 0)) r (headWords b r ++ concat (map (imageAt b e) (parts b r)))
   image-row =
-      ap (λ t. words (rowOf b) (image (view b e) t)) (row-form b v r h) ∙ image-form (rowOf b) (view b e) r _ _ _ (v .rowsKeep r h .kinded) (row-shape b v r h)
+      ap (λ t. words (rowOf b) (image (view b e) t)) (row-form b v r h)
+      ∙ image-form (rowOf b) (view b e) r _ _ _ (v .rowsKeep r h .kinded) (row-shape b v r h)
       ∙ rw (
         ← row-form b v r h,
         view-row b v e r h,

@@ -46,7 +46,10 @@ module _ (b : List ℕ) (v : Valid b) where
   pub view-none : (e : List ℕ) (t : Term) → ((r : ℕ) → r < rows b → term (table b) r ≡ t → ⊥) → view b e t ≡ free
   unfolding view
   view-none e t n =
-      elim (decLt (rowOf b t) (rows b)) [ yes l ↦ absurd (n (rowOf b t) l (row-stands b t l)) | no l ↦ pick-false _ _ _ (le-ltb (rowOf b t) (rows b) (omega arith)) ]
+      elim (decLt (rowOf b t) (rows b)) [
+        | yes l ↦ absurd (n (rowOf b t) l (row-stands b t l))
+        | no l ↦ pick-false _ _ _ (le-ltb (rowOf b t) (rows b) (omega arith))
+      ]
 
   -- a store in the array is an entry in the dictionary
   pub view-set : (e : List ℕ) (r x : ℕ) → r < rows b → r < length e → view b (set e r x) ≡ enter (view b e) (term (table b) r) (heldOf x)
@@ -58,10 +61,15 @@ module _ (b : List ℕ) (v : Valid b) where
           let n = row-of r t h p in
           pick-true _ _ _ (lt-ltb (rowOf b t) (rows b) (omega arith)) ∙ ap (λ k. heldOf (getD (set e r x) k 0)) n ∙ ap heldOf (getD-set-same e r x 0 l)
 
-      other : (t : Term) → (term (table b) r ≡ t → ⊥) → Dec (rowOf b t < rows b) → pick (ltb (rowOf b t) (rows b)) (heldOf (getD (set e r x) (rowOf b t) 0)) free ≡ pick (ltb (rowOf b t) (rows b)) (heldOf (getD e (rowOf b t) 0)) free
-      other t q (yes k) = ap (λ y. pick (ltb (rowOf b t) (rows b)) (heldOf y) free) (getD-set-other e r (rowOf b t) x 0 (λ z. q (ap (term (table b)) (sym z) ∙ row-stands b t k)))
+      other : (t : Term) → (term (table b) r ≡ t → ⊥) → Dec (rowOf b t < rows b)
+          → pick (ltb (rowOf b t) (rows b)) (heldOf (getD (set e r x) (rowOf b t) 0)) free
+          ≡ pick (ltb (rowOf b t) (rows b)) (heldOf (getD e (rowOf b t) 0)) free
+      other t q (yes k) =
+          ap (λ y. pick (ltb (rowOf b t) (rows b)) (heldOf y) free)
+          (getD-set-other e r (rowOf b t) x 0 (λ z. q (ap (term (table b)) (sym z) ∙ row-stands b t k)))
       other t q (no k) = let m = le-ltb (rowOf b t) (rows b) (omega arith) in pick-false _ _ _ m ∙ sym (pick-false _ _ _ m)
 
-      go : (t : Term) → Dec (term (table b) r ≡ t) → pick (ltb (rowOf b t) (rows b)) (heldOf (getD (set e r x) (rowOf b t) 0)) free ≡ enter (view b e) (term (table b) r) (heldOf x) t
+      go : (t : Term) → Dec (term (table b) r ≡ t)
+          → pick (ltb (rowOf b t) (rows b)) (heldOf (getD (set e r x) (rowOf b t) 0)) free ≡ enter (view b e) (term (table b) r) (heldOf x) t
       go t (yes p) = here t p ∙ sym (ap (enter (view b e) (term (table b) r) (heldOf x)) (sym p) ∙ enter-same (view b e) (term (table b) r) (heldOf x))
       go t (no q) = other t q (decLt (rowOf b t) (rows b)) ∙ sym (enter-other (view b e) (term (table b) r) (heldOf x) t q)

@@ -5,8 +5,9 @@ use mathlib.Core.Path.{_≡_, refl, sym, ap, _∙_}
 use native.Mathlib.Omega.{arith}
 use native.Mathlib.Nat.{add-zero}
 use native.Mathlib.Decide.{decLe}
-use lib.ListN.{length, set, take, drop, length-append}
-use lib.Seq.{sets, sets-eq, length-sets, set-out, take-append-seam}
+use native.Mathlib.Numerals.{add-one}
+use lib.ListN.{length, getD, set, take, drop, length-append}
+use lib.Seq.{sets, sets-eq, length-sets, set-out, take-suc, take-append-seam}
 use Rattle.words.specs.Overlay.{cap, forward, Wrote}
 
 -- ---- sets
@@ -50,6 +51,11 @@ wrote-then {xs} {ys} {o} {m} {n} {a} {p} {r} f g =
 pub wrote-cons : {x : ℕ} {ys o m n : List ℕ} {a p r : ℕ} → Wrote (x ∷ []) o a m p → Wrote ys m p n r → Wrote (x ∷ ys) o a n r
 wrote-cons f g = wrote-then f g
 
+-- the rest at q, which is the place behind the first word
+pub wrote-next : {x : ℕ} {ys o m n : List ℕ} {a p q r : ℕ} → Wrote (x ∷ []) o a m p → Wrote ys m q n r → q ≡ p
+    → Wrote (x ∷ ys) o a n r
+wrote-next f g e = wrote-then f (rw e at g)
+
 pub wrote-none : {o : List ℕ} {a : ℕ} → Wrote [] o a o a
 wrote-none = record { list = refl; next = omega arith; room = λ z. absurd (omega arith) }
 
@@ -59,6 +65,11 @@ wrote-as f e = rw e f
 
 pub wrote-length : {ws o n : List ℕ} {a r : ℕ} → Wrote ws o a n r → length n ≡ length o
 wrote-length {ws} {o} {n} {a} f = rw (f .list) (length-sets o a ws)
+
+-- one word more of a list, written at q, which is the place behind those written so far
+pub wrote-more : (ws : List ℕ) (i : ℕ) {o m n : List ℕ} {a p q r : ℕ} → i < length ws → Wrote (take i ws) o a m p
+    → Wrote (getD ws i 0 ∷ []) m q n r → q ≡ p → Wrote (take (i + 1) ws) o a n r
+wrote-more ws i h f g e = wrote-as (wrote-then f (rw e at g)) (ap (λ k. take k ws) (add-one i) ∙ take-suc ws i 0 h)
 
 -- no two outcomes satisfy one writing
 pub wrote-one : {ws o m n : List ℕ} {a p r : ℕ} → Wrote ws o a m p → Wrote ws o a n r → (m ≡ n) × (p ≡ r)

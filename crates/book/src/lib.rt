@@ -330,6 +330,6 @@ pub fn first_part(book: &[u32], row: u32) -> u32
     requires { ⌜ Valid (now book) × (row < rowsOf (now book)) × (2 ≤ kind (now book) row) ⌝ }
     ensures { λ r. ⌜ (r ≡ entryAt (now (book .entry)) (rowFirst (now (book .entry)) row)) × (r < row) ⌝ }
 {
-    let first = row_first(book, row);
-    pooled(book, first, 0)
+    let from = row_first(book, row);
+    pooled(book, from, 0)
 }

@@ -1,30 +1,23 @@
--- `book::first_part` meets its contract: the first word of its list. Assumes nothing.
+-- `book::first_part` meets its contract: it is the first word of the row's list, and a part is a row before its row.
+-- Assumes nothing.
 use Rattle.book.specs.Span.Laws.{part-index, part-at}
 use Rattle.book.specs.Headed.Laws.{valid-headed}
+use borrow.Author.Needs.{needs}
 use Rattle.book.proofs.first_part.Statement.{statement}
 use Rattle.book.proofs.first_part.Tie as tie
 
-row-first-requires : tie.Need-row-first-requires
-row-first-requires c κs = let start : tie.Start = search in (valid-headed _ (start .pre .0), start .pre .1)
-
-pooled-requires : tie.Need-pooled-requires
-pooled-requires c κs =
-    let start : tie.Start = search in (
-      valid-headed _ (start .pre .0),
-      part-index _ (start .pre .0) _ _ (start .pre .1) (start .pre .2) (c .row-first .ensures .0),
-    )
-
 returns : tie.Need-returns
 returns c =
+    let after-pooled : tie.After-pooled = search in
     let after-row-first : tie.After-row-first = search in
     let start : tie.Start = search in
     part-at _ (start .pre .0) _ _ (start .pre .1) (start .pre .2) (after-row-first .row-first .ensures .0) _
-    (c .pooled .ensures)
+    (after-pooled .pooled .ensures)
 
 pub first-part-spec : {M : Type 1} → statement M
 first-part-spec =
     tie.close
     (tie.spec
-    row-first-requires
-    pooled-requires
+    (λ c κs. search (valid-headed, needs))  -- row-first-requires
+    (λ c κs. (search valid-headed, search part-index))  -- pooled-requires
     returns)

@@ -1,8 +1,15 @@
--- `book::row_word` meets its contract: the place is the record's. Assumes nothing.
+-- `book::row_word` meets its contract: the rows begin behind the header, and their records lie one after another.
+-- Assumes nothing.
 use Rattle.book.specs.Headed.Laws.{row-at}
 use borrow.Author.Needs.{needs}
 use Rattle.book.proofs.row_word.Statement.{statement}
 use Rattle.book.proofs.row_word.Tie as tie
+
+returns : tie.Need-returns
+returns c =
+    let after-wide : tie.After-wide = search in
+    let start : tie.Start = search in
+    row-at (start .args .book .now) (start .pre .0) (start .args .row) (start .args .k) _ (after-wide .wide .ensures .0)
 
 pub row-word-spec : {M : Type 1} → statement M
 row-word-spec =
@@ -14,4 +21,4 @@ row-word-spec =
     (λ c. search needs)  -- add-result-2
     (λ c. search needs)  -- mul-result-2
     (λ c. search needs)  -- shared-slice-read-result
-    (λ c. search row-at))  -- returns
+    returns)

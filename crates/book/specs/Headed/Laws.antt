@@ -52,10 +52,10 @@ pub longest : (b : List ℕ) → Headed b → length b ≤ 12600
 longest b h = omega arith
 
 -- ---- where code finds a record's word and a list's: `w` is the record's number and `o` the section's beginning, as it read them
-module _ (b : List ℕ) (h : Headed b) where
-  pub row-at : (r k w : ℕ) → w ≡ r → at b (8 + 4 * w + k) ≡ field b 0 r k
-  row-at r k w e = let f = h .rowsFrom in let z : 8 + 4 * w + k ≡ begins b 0 + 4 * r + k = omega arith in ap (at b) z
+pub row-at : (b : List ℕ) → Headed b → (r k w : ℕ) → w ≡ r → at b (8 + 4 * w + k) ≡ field b 0 r k
+row-at b h r k w e = let f = h .rowsFrom in let z : 8 + 4 * w + k ≡ begins b 0 + 4 * r + k = omega arith in ap (at b) z
 
+module _ (b : List ℕ) where
   pub party-at : (p k o w : ℕ) → o ≡ begins b 1 → w ≡ p → at b (o + 3 * w + k) ≡ field b 1 p k
   party-at p k o w d e = rw (d, e)
 

@@ -43,19 +43,23 @@ unfolding firstOf
 firstOf-append [] ms rest = refl
 firstOf-append (l ∷ ls) ms rest = go (applies l) refl (firstOf-append ls ms rest)
   where
-    go : (v : Bool) → applies l ≡ v → firstOf (ls ++ ms) rest ≡ firstOf ls (firstOf ms rest) → firstOf (l ∷ (ls ++ ms)) rest ≡ firstOf (l ∷ ls) (firstOf ms rest)
+    go : (v : Bool) → applies l ≡ v → firstOf (ls ++ ms) rest ≡ firstOf ls (firstOf ms rest)
+        → firstOf (l ∷ (ls ++ ms)) rest ≡ firstOf (l ∷ ls) (firstOf ms rest)
     go true e h = firstOf-here l (ls ++ ms) rest e ∙ sym (firstOf-here l ls (firstOf ms rest) e)
     go false e h = firstOf-on l (ls ++ ms) rest e ∙ h ∙ sym (firstOf-on l ls (firstOf ms rest) e)
 
 -- a table that refuses needs no more lines
-pub firstOf-stop : (ls ms : List Line) (rest last : Said) → rest .number ≡ 0 → (firstOf ls rest .number ≡ 0 → ⊥) → firstOf (ls ++ ms) last ≡ firstOf ls rest
+pub firstOf-stop : (ls ms : List Line) (rest last : Said) → rest .number ≡ 0 → (firstOf ls rest .number ≡ 0 → ⊥)
+    → firstOf (ls ++ ms) last ≡ firstOf ls rest
 unfolding firstOf
 firstOf-stop [] ms rest last z n = absurd (n z)
 firstOf-stop (l ∷ ls) ms rest last z n = go (applies l) refl (firstOf-stop ls ms rest last z)
   where
-    go : (v : Bool) → applies l ≡ v → ((firstOf ls rest .number ≡ 0 → ⊥) → firstOf (ls ++ ms) last ≡ firstOf ls rest) → firstOf (l ∷ (ls ++ ms)) last ≡ firstOf (l ∷ ls) rest
+    go : (v : Bool) → applies l ≡ v → ((firstOf ls rest .number ≡ 0 → ⊥) → firstOf (ls ++ ms) last ≡ firstOf ls rest)
+        → firstOf (l ∷ (ls ++ ms)) last ≡ firstOf (l ∷ ls) rest
     go true e h = firstOf-here l (ls ++ ms) last e ∙ sym (firstOf-here l ls rest e)
-    go false e h = firstOf-on l (ls ++ ms) last e ∙ h (λ y. n (ap (λ (s : Said). s .number) (firstOf-on l ls rest e) ∙ y)) ∙ sym (firstOf-on l ls rest e)
+    go false e h =
+        firstOf-on l (ls ++ ms) last e ∙ h (λ y. n (ap (λ (s : Said). s .number) (firstOf-on l ls rest e) ∙ y)) ∙ sym (firstOf-on l ls rest e)
 
 -- what a scan of a line's places finds: r is the smallest place that breaks the rule, or their number
 module _ (n m : ℕ) (t : ℕ → Bool) (f : ℕ → List ℕ) (ls : List Line) (rest : Said) (r : ℕ) (e : r ≡ first t m) where
@@ -139,7 +143,8 @@ unfolding gives
 passed n [] ls rest vs a e = (tt, e)
 passed n (w ∷ xs) ls rest vs a e = go (applies (w .line)) refl (passed n xs ls rest vs (a .1))
   where
-    go : (v : Bool) → applies (w .line) ≡ v → (firstOf (lines xs ++ ls) rest ≡ said n vs → AllKeep xs × (firstOf ls rest ≡ said n vs)) → (Keeps w × AllKeep xs) × (firstOf ls rest ≡ said n vs)
+    go : (v : Bool) → applies (w .line) ≡ v → (firstOf (lines xs ++ ls) rest ≡ said n vs → AllKeep xs × (firstOf ls rest ≡ said n vs))
+        → (Keeps w × AllKeep xs) × (firstOf ls rest ≡ said n vs)
     go true q h = absurd (a .0 (ap (λ (s : Said). s .number) (sym (firstOf-here (w .line) (lines xs ++ ls) rest q) ∙ e)))
     go false q h =
         let r = h (sym (firstOf-on (w .line) (lines xs ++ ls) rest q) ∙ e) in
@@ -185,7 +190,8 @@ numbered-later : (k n : ℕ) (xs : List Ruled) → Numbered n xs → k < n → A
 numbered-later k n [] a h = tt
 numbered-later k n (x ∷ xs) a h = (λ e. let z = a .0 in absurd (omega arith), numbered-later k (suc n) xs (a .1) (omega arith))
 
-numbered-apart : (k n : ℕ) (xs : List Ruled) → Numbered n xs → (i : ℕ) → i < length xs → k ≡ n + i → Apart k (above i xs) × Apart k (below i xs)
+numbered-apart : (k n : ℕ) (xs : List Ruled) → Numbered n xs → (i : ℕ) → i < length xs → k ≡ n + i → Apart k (above i xs)
+    × Apart k (below i xs)
 numbered-apart k n [] a i h e = absurd (omega arith)
 numbered-apart k n (x ∷ xs) a zero h e = (tt, numbered-later k (suc n) xs (a .1) (omega arith))
 numbered-apart k n (x ∷ xs) a (suc i) h e =

@@ -76,8 +76,17 @@ list-exact b lo hi n f before bound = (
   λ e.
       let t = none-of _ e in
       let o = outside-false _ _ _ (t .0) in
-      record { low = o .0; high = o .1; placed = differs-false _ _ (t .1 .0); inside = ltb-false _ _ (t .1 .1 .0); each = λ j h. leb-false _ _ (none-any _ _ (t .1 .1 .1 .0) j h) },
-  λ r. of-none _ (outside-in _ _ _ (r .low) (r .high), (differs-same _ _ (r .placed), (le-ltb _ _ (r .inside), (any-none _ _ (λ j h. lt-leb _ _ (r .each j h)), tt)))),
+      record {
+        low = o .0;
+        high = o .1;
+        placed = differs-false _ _ (t .1 .0);
+        inside = ltb-false _ _ (t .1 .1 .0);
+        each = λ j h. leb-false _ _ (none-any _ _ (t .1 .1 .1 .0) j h);
+      },
+  λ r. of-none _ (
+    outside-in _ _ _ (r .low) (r .high),
+    (differs-same _ _ (r .placed), (le-ltb _ _ (r .inside), (any-none _ _ (λ j h. lt-leb _ _ (r .each j h)), tt))),
+  ),
 )
 
 -- ---- a row
@@ -151,7 +160,12 @@ unfolding stepBreaks
 step-exact b s = (
   λ e.
       let t = none-of _ e in
-      record { sends = leb-false _ _ (t .0); receives = leb-false _ _ (t .1 .0); two = eqb-false _ _ (t .1 .1 .0); listed = list-exact b _ _ _ _ _ _ .0 (t .1 .1 .1 .0) },
+      record {
+        sends = leb-false _ _ (t .0);
+        receives = leb-false _ _ (t .1 .0);
+        two = eqb-false _ _ (t .1 .1 .0);
+        listed = list-exact b _ _ _ _ _ _ .0 (t .1 .1 .1 .0);
+      },
   λ o. of-none _ (lt-leb _ _ (o .sends), (lt-leb _ _ (o .receives), (ne-eqb _ _ (o .two), (list-exact b _ _ _ _ _ _ .1 (o .listed), tt)))),
 )
 

@@ -27,7 +27,12 @@ use Rattle.book.specs.Valid.{Valid}
 -- ---- the nine lines with their rules
 module _ (b : List ℕ) where
   abbrev pub short-line : Ruled
-  short-line = record { line = line 1 1 (λ i. ltb (length b) header) zero-place; rule = λ i. header ≤ length b; exact = λ i. (λ e. ltb-false _ _ e, λ h. le-ltb _ _ h) }
+  short-line = record {
+    line = line 1 1 (λ i. ltb (length b) header) zero-place;
+    rule = λ i. header ≤ length b;
+    exact =
+        λ i. (λ e. ltb-false _ _ e, λ h. le-ltb _ _ h);
+  }
 
   abbrev pub count-line : Ruled
   count-line = record { line = line 2 4 (countBreaks b) (λ i. here (2 * i)); rule = CountRule b; exact = count-exact b }
@@ -76,7 +81,19 @@ module _ (b : List ℕ) where
       }
 
   pub valid-keep : Valid b → AllKeep nine
-  valid-keep v = (λ i h. v .long, (v .counts, (v .offsets, (v .rowsKeep, (v .sizesKeep, (v .single, (v .partiesKeep, (v .stepsKeep, (λ i h. v .total, tt)))))))))
+  valid-keep v = (
+    λ i h. v .long,
+    (
+      v .counts,
+      (
+        v .offsets,
+        (
+          v .rowsKeep,
+          (v .sizesKeep, (v .single, (v .partiesKeep, (v .stepsKeep, (λ i h. v .total, tt))))),
+        ),
+      ),
+    ),
+  )
 
   pub accepted-valid : (verdict b ≡ accepted) ↔ Valid b
   unfolding verdict readingTable firstOf
@@ -103,19 +120,25 @@ module _ (b : List ℕ) where
   pub exactly-4 : (vs : List ℕ) → (verdict b ≡ said 4 vs) ↔ (AllKeep (short-line ∷ count-line ∷ offset-line ∷ []) × Cause row-line vs)
   exactly-4 = exactly 3 (omega arith)
 
-  pub exactly-5 : (vs : List ℕ) → (verdict b ≡ said 5 vs) ↔ (AllKeep (short-line ∷ count-line ∷ offset-line ∷ row-line ∷ []) × Cause size-line vs)
+  pub exactly-5 : (vs : List ℕ) → (verdict b ≡ said 5 vs)
+      ↔ (AllKeep (short-line ∷ count-line ∷ offset-line ∷ row-line ∷ []) × Cause size-line vs)
   exactly-5 = exactly 4 (omega arith)
 
-  pub exactly-6 : (vs : List ℕ) → (verdict b ≡ said 6 vs) ↔ (AllKeep (short-line ∷ count-line ∷ offset-line ∷ row-line ∷ size-line ∷ []) × Cause repeat-line vs)
+  pub exactly-6 : (vs : List ℕ) → (verdict b ≡ said 6 vs)
+      ↔ (AllKeep (short-line ∷ count-line ∷ offset-line ∷ row-line ∷ size-line ∷ []) × Cause repeat-line vs)
   exactly-6 = exactly 5 (omega arith)
 
-  pub exactly-7 : (vs : List ℕ) → (verdict b ≡ said 7 vs) ↔ (AllKeep (short-line ∷ count-line ∷ offset-line ∷ row-line ∷ size-line ∷ repeat-line ∷ []) × Cause party-line vs)
+  pub exactly-7 : (vs : List ℕ) → (verdict b ≡ said 7 vs)
+      ↔ (AllKeep (short-line ∷ count-line ∷ offset-line ∷ row-line ∷ size-line ∷ repeat-line ∷ []) × Cause party-line vs)
   exactly-7 = exactly 6 (omega arith)
 
-  pub exactly-8 : (vs : List ℕ) → (verdict b ≡ said 8 vs) ↔ (AllKeep (short-line ∷ count-line ∷ offset-line ∷ row-line ∷ size-line ∷ repeat-line ∷ party-line ∷ []) × Cause step-line vs)
+  pub exactly-8 : (vs : List ℕ) → (verdict b ≡ said 8 vs)
+      ↔ (AllKeep (short-line ∷ count-line ∷ offset-line ∷ row-line ∷ size-line ∷ repeat-line ∷ party-line ∷ []) × Cause step-line vs)
   exactly-8 = exactly 7 (omega arith)
 
-  pub exactly-9 : (vs : List ℕ) → (verdict b ≡ said 9 vs) ↔ (AllKeep (short-line ∷ count-line ∷ offset-line ∷ row-line ∷ size-line ∷ repeat-line ∷ party-line ∷ step-line ∷ []) × Cause sum-line vs)
+  pub exactly-9 : (vs : List ℕ) → (verdict b ≡ said 9 vs)
+      ↔ (AllKeep (short-line ∷ count-line ∷ offset-line ∷ row-line ∷ size-line ∷ repeat-line ∷ party-line ∷ step-line ∷ [])
+      × Cause sum-line vs)
   exactly-9 = exactly 8 (omega arith)
 
 -- ---- a valid book's rows form a table
@@ -123,7 +146,8 @@ module _ (b : List ℕ) (v : Valid b) where
   pub row-before : (r : ℕ) → r < rows b → All (λ p. p < r) (parts b r)
   row-before r l = all-run (λ p. p < r) b (begins b 3 + rowFirst b r) (rowCount b r) (v .rowsKeep r l .listed .each)
 
-  apart-rows : (r s : ℕ) → r < rows b → s < rows b → (kind b r ≡ 0 → ⊥) → kind b r ≡ kind b s → tag b r ≡ tag b s → parts b r ≡ parts b s → r ≡ s
+  apart-rows : (r s : ℕ) → r < rows b → s < rows b → (kind b r ≡ 0 → ⊥) → kind b r ≡ kind b s → tag b r ≡ tag b s → parts b r
+      ≡ parts b s → r ≡ s
   apart-rows r s l m n k g p =
       elim (decLt r s) [
         | yes h ↦ absurd (v .single s m (λ z. n (k ∙ z)) r h (record { kinds = k; tags = g; partss = p }))
@@ -139,7 +163,8 @@ module _ (b : List ℕ) (v : Valid b) where
       record {
         kinds = λ r l. v .rowsKeep r l .kinded;
         tags = λ r l. v .rowsKeep r l .tagged;
-        shapes = λ r l. (let o = v .rowsKeep r l in rw (run-length b (begins b 3 + rowFirst b r) (rowCount b r)) (record { low = o .listed .low; high = o .listed .high }));
+        shapes = λ r l. (let o = v .rowsKeep r l in rw (run-length b (begins b 3 + rowFirst b r) (rowCount b r))
+            (record { low = o .listed .low; high = o .listed .high }));
         before = row-before;
         single = apart-rows;
       }

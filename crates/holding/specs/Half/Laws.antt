@@ -49,7 +49,8 @@ module _ (b : List ℕ) (v : Valid b) where
   module _ (r k p : ℕ) (h : r < rows b) (j : p < rows b) (l : 3 ≤ k) (m : k ≤ 4) where
     pub half-kind : (x : ℕ) → x ≡ kind b r → (x ≡ k → ⊥) → false ≡ isHalf b r k p
     unfolding isHalf
-    half-kind x e n = sym (choose-no (same (term (table b) r) (half k (term (table b) p))) true false (λ u. n (e ∙ sym (row-kind b v r h) ∙ ap kindOf u ∙ kind-half k (term (table b) p) l m)))
+    half-kind x e n = sym (choose-no (same (term (table b) r) (half k (term (table b) p))) true false
+        (λ u. n (e ∙ sym (row-kind b v r h) ∙ ap kindOf u ∙ kind-half k (term (table b) p) l m)))
 
     pub half-same : (x y : ℕ) → x ≡ kind b r → x ≡ k → y ≡ entry b (rowFirst b r) → eqb y p ≡ isHalf b r k p
     unfolding isHalf
@@ -59,7 +60,8 @@ module _ (b : List ℕ) (v : Valid b) where
         is = half-row r h (omega arith) ∙ rw (← e, f, g)
 
         go : (z : Bool) → eqb y p ≡ z → z ≡ choose (same (term (table b) r) (half k (term (table b) p))) true false
-        go true z = sym (choose-yes (same (term (table b) r) (half k (term (table b) p))) true false (is ∙ ap (λ w. half k (term (table b) w)) (eqb-true y p z)))
+        go true z = sym (choose-yes (same (term (table b) r) (half k (term (table b) p))) true false
+            (is ∙ ap (λ w. half k (term (table b) w)) (eqb-true y p z)))
         go false z =
             let low = part-low b v r h (omega arith) in
             sym (choose-no (same (term (table b) r) (half k (term (table b) p))) true false
@@ -86,7 +88,8 @@ module _ (b : List ℕ) (v : Valid b) where
   unfolding partner half pick
   partner-half k t l h = elim (ℕ-discrete k 3) [ yes e ↦ rw e | no e ↦ (let z : k ≡ 4 = omega arith in rw z) ]
 
-  pub partner-other : (r k p : ℕ) → r < rows b → k ≡ kind b r → 3 ≤ k → p ≡ entry b (rowFirst b r) → partner (term (table b) r) ≡ half (7 - k) (term (table b) p)
+  pub partner-other : (r k p : ℕ) → r < rows b → k ≡ kind b r → 3 ≤ k → p ≡ entry b (rowFirst b r) → partner (term (table b) r)
+      ≡ half (7 - k) (term (table b) p)
   partner-other r k p h e l g =
       let i : term (table b) r ≡ half k (term (table b) p) = half-row r h (omega arith) ∙ rw (← e, g) in
       let m = v .rowsKeep r h .kinded in
@@ -101,7 +104,8 @@ can-half δ k t = go (eqb k 3)
     go true e = rw e
     go false e = rw e
 
-image-half : (row : Term → ℕ) (δ : Dictionary) (k : ℕ) (t : Term) → 3 ≤ k → k ≤ 4 → δ (half k t) ≡ free → words row (image δ (half k t)) ≡ (k + 1) ∷ words row (image δ t)
+image-half : (row : Term → ℕ) (δ : Dictionary) (k : ℕ) (t : Term) → 3 ≤ k → k ≤ 4 → δ (half k t) ≡ free
+    → words row (image δ (half k t)) ≡ (k + 1) ∷ words row (image δ t)
 unfolding image words half pick imageOr
 image-half row δ k t l m = elim (ℕ-discrete k 3) [ yes e ↦ rw e (λ z. rw z) | no e ↦ (let y : k ≡ 4 = omega arith in rw y (λ z. rw z)) ]
 
@@ -117,7 +121,8 @@ module _ (b e : List ℕ) (v : Valid b) (r k p o : ℕ) (h : r < rows b) (dk : k
     is = partner-other b v r k p h dk l dp
 
     stands : o < rows b → term (table b) o ≡ partner (term (table b) r)
-    stands m = let z : rowOf b (half (7 - k) (term (table b) p)) < rows b = omega arith in ap (term (table b)) dof ∙ row-stands b (half (7 - k) (term (table b) p)) z ∙ sym is
+    stands m = let z : rowOf b (half (7 - k) (term (table b) p)) < rows b =
+        omega arith in ap (term (table b)) dof ∙ row-stands b (half (7 - k) (term (table b) p)) z ∙ sym is
 
     nowhere : rows b ≤ o → view b e (half (7 - k) (term (table b) p)) ≡ free
     nowhere m = view-none b v e _ (λ s u w. let z = Rattle.holding.specs.View.Laws.row-of b v s _ u w in omega arith)
@@ -131,9 +136,11 @@ module _ (b e : List ℕ) (v : Valid b) (r k p o : ℕ) (h : r < rows b) (dk : k
     pub shows-row : o < rows b → words (rowOf b) (image (view b e) (partner (term (table b) r))) ≡ words (rowOf b) (image (view b e) (term (table b) o))
     shows-row m = ap (λ t. words (rowOf b) (image (view b e) t)) (sym (stands m))
 
-    pub shows-part : rows b ≤ o → words (rowOf b) (image (view b e) (partner (term (table b) r))) ≡ (8 - k) ∷ words (rowOf b) (image (view b e) (term (table b) p))
+    pub shows-part : rows b ≤ o → words (rowOf b) (image (view b e) (partner (term (table b) r))) ≡ (8 - k)
+        ∷ words (rowOf b) (image (view b e) (term (table b) p))
     shows-part m =
         let n = v .rowsKeep r h .kinded in
         let z : 7 - k + 1 ≡ 8 - k = omega arith in
-        ap (λ t. words (rowOf b) (image (view b e) t)) is ∙ image-half (rowOf b) (view b e) (7 - k) (term (table b) p) (omega arith) (omega arith) (nowhere m)
+        ap (λ t. words (rowOf b) (image (view b e) t)) is ∙ image-half (rowOf b) (view b e) (7 - k) (term (table b) p) (omega arith) (omega arith)
+        (nowhere m)
         ∙ ap (λ c. c ∷ words (rowOf b) (image (view b e) (term (table b) p))) z

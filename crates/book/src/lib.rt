@@ -5,6 +5,7 @@ use words::wide;
 ghost use mathlib.Core.Path.{_≡_};
 ghost use Prim.Native.Nat.{_+_, _^_, _≤_, _<_};
 ghost use Rattle.book.specs.Headed.{Headed};
+ghost use Rattle.terms.specs.Kind.{isHalf, otherHalf};
 ghost use Rattle.book.specs.Kinds.{OfKind};
 ghost use Rattle.book.specs.Span.{entry as entryAt, Span};
 ghost use Rattle.book.specs.Valid.{Valid};
@@ -115,6 +116,23 @@ impl Kind {
             code: ImageCode::PRIVATE,
         }
     }
+}
+
+// The kind is a half's.
+pub fn is_half(kind: u32) -> bool
+    ensures { λ r. ⌜ r ≡ isHalf kind ⌝ }
+{
+    Kind::PUBLIC <= kind
+}
+
+// The kind of the other half.
+pub fn other_half(kind: u32) -> u32
+    ensures { λ r. ⌜ r ≡ otherHalf kind ⌝ }
+{
+    if kind == Kind::PUBLIC {
+        return Kind::PRIVATE;
+    }
+    Kind::PUBLIC
 }
 
 // The events' codes.

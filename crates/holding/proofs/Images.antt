@@ -12,10 +12,9 @@ use Rattle.book.specs.Span.{entry}
 use Rattle.holding.specs.AtRow.{imageAt, imagesAt, headWords, entryWords}
 use Rattle.holding.specs.AtRow.Laws.{image-held, image-free, images-none, images-more}
 
--- ---- a row's kind is one of five: where four are ruled out, it is an atom
-pub atom-left : (b : List ℕ) → Valid b → (r k : ℕ) → r < rows b → k ≡ kind b r → (k ≡ 1 → ⊥) → (k ≡ 2 → ⊥) → (k ≡ 3 → ⊥)
-    → (k ≡ 4 → ⊥) → k ≡ 0
-atom-left b v r k h d n1 n2 n3 n4 = let few = v .rowsKeep r h .kinded in omega arith
+-- ---- where an operation, a cipher and the halves are ruled out, a row is an atom
+pub atom-left : (k : ℕ) → (k ≡ 1 → ⊥) → (k ≡ 2 → ⊥) → k < 3 → k ≡ 0
+atom-left k one two below = omega arith
 
 -- ---- a row, of which the code reads the entry at w
 pub held-wrote : (b e : List ℕ) (r w : ℕ) → Valid b → r < rows b → w ≡ r → (getD e w 0 ≡ 0 → ⊥) → {o s : List ℕ} {a j : ℕ}

@@ -1,9 +1,10 @@
 -- What the meaning says of a row, from what it says of its parts: the form in which code that works on rows meets it.
-use Prim.Native.Nat.{ℕ, zero, suc, _-_}
+use Prim.Native.Nat.{ℕ, _-_}
 use mathlib.Core.Bool.{Bool, true, false}
 use mathlib.Core.List.{List, [], _∷_, _++_, map}
 use lib.Dec.{eqb}
 use Rattle.words.specs.Choice.{pick}
+use Rattle.terms.specs.Kind.{Form, ofKind}
 use Rattle.terms.specs.Image.{words}
 use Rattle.terms.specs.Table.{term}
 use Rattle.book.specs.Layout.{table, kind, tag, rowCount, listAt}
@@ -31,13 +32,17 @@ concat (x ∷ xs) = x ++ concat xs
 unfoldable pub imagesAt : List ℕ → List ℕ → ℕ → ℕ → List ℕ
 imagesAt b e f n = concat (map (imageAt b e) (listAt b f n))
 
--- how an image begins that is no entry: by the row's kind, tag and number of parts
+-- how an image begins that is no entry: its kind's code, and what its form tells besides, of the row, its tag and its number of parts
+unfoldable pub told : Form → ℕ → ℕ → ℕ → List ℕ
+told Form.atom r g n = r ∷ []
+told Form.operation r g n = g ∷ n ∷ []
+told Form.cipher r g n = (n - 1) ∷ []
+told Form.public r g n = []
+told Form.private r g n = []
+
 unfoldable pub headOf : ℕ → ℕ → ℕ → ℕ → List ℕ
-headOf r zero g n = 0 ∷ r ∷ []
-headOf r (suc zero) g n = 2 ∷ g ∷ n ∷ []
-headOf r (suc (suc zero)) g n = 3 ∷ (n - 1) ∷ []
-headOf r (suc (suc (suc zero))) g n = 4 ∷ []
-headOf r (suc (suc (suc (suc k)))) g n = 5 ∷ []
+unfolding told
+headOf r k g n = ofKind k .code ∷ told (ofKind k .form) r g n
 
 abbrev pub headWords : List ℕ → ℕ → List ℕ
 headWords b r = headOf r (kind b r) (tag b r) (rowCount b r)

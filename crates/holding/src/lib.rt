@@ -1,9 +1,12 @@
 // What a party holds, an entry for each row: 0 nothing, 1 the row itself, x + 2 placeholder x. `start` answers what is known at
 // the start, `buildable` and `can_open` whether a row, and a key's partner, can be built; the `write_..` functions write images.
 // All of it is the meaning's own (translation/specs/Dictionary.antt), for a valid book.
+use book::ImageCode;
 use book::Kind;
 use book::entry;
 use book::first_part;
+use book::is_half;
+use book::other_half;
 use book::party_count;
 use book::party_first;
 use book::pooled;
@@ -72,7 +75,7 @@ pub fn buildable(book: &[u32], entries: &[u32; 1024], row: u32) -> bool
 }
 
 // The row is the half of that side of the part.
-fn is_half(book: &[u32], row: u32, side: u32, part: u32) -> bool
+fn is_half_of(book: &[u32], row: u32, side: u32, part: u32) -> bool
     requires { ⌜ Valid (now book) × (row < rowsOf (now book)) × (part < rowsOf (now book)) × (3 ≤ side) × (side ≤ 4) ⌝ }
     ensures { λ r. ⌜ r ≡ isHalf (now (book .entry)) row side part ⌝ }
 {
@@ -90,7 +93,7 @@ fn half_row(book: &[u32], side: u32, part: u32) -> u32
     let n = rows(book);
     let mut row = 0;
     while row < n {
-        if is_half(book, row, side, part) {
+        if is_half_of(book, row, side, part) {
             return row;
         }
         row += 1;
@@ -104,11 +107,11 @@ pub fn can_open(book: &[u32], entries: &[u32; 1024], key: u32) -> bool
     ensures { λ r. ⌜ r ≡ buildableFrom (view (now (book .entry)) (now (entries .entry))) (partner (term (table (now (book .entry))) key)) ⌝ }
 {
     let side = row_kind(book, key);
-    if side < Kind::PUBLIC {
+    if !is_half(side) {
         return buildable(book, entries, key);
     }
     let part = first_part(book, key);
-    let other = half_row(book, 7 - side, part);
+    let other = half_row(book, other_half(side), part);
     if other < rows(book) {
         return buildable(book, entries, other);
     }
@@ -121,19 +124,23 @@ fn put_head(book: &[u32], row: u32, out: &mut [u32], at: usize) -> usize
     ensures { λ r. ⌜ Wrote (headWords (now (book .entry)) row) (now (out .entry)) at (now (out .exit)) r ⌝ }
 {
     let kind = row_kind(book, row);
+    let head = Kind::of(kind);
     if kind == Kind::OPERATION {
-        return put3(out, at, 2, row_tag(book, row), narrow(row_count(book, row)));
+        return put3(
+            out,
+            at,
+            head.code,
+            row_tag(book, row),
+            narrow(row_count(book, row)),
+        );
     }
     if kind == Kind::CIPHER {
-        return put2(out, at, 3, narrow(row_count(book, row) - 1));
+        return put2(out, at, head.code, narrow(row_count(book, row) - 1));
     }
-    if kind == Kind::PUBLIC {
-        return put(out, at, 4);
+    if is_half(kind) {
+        return put(out, at, head.code);
     }
-    if kind == Kind::PRIVATE {
-        return put(out, at, 5);
-    }
-    put2(out, at, 0, row)
+    put2(out, at, head.code, row)
 }
 
 // The image of a row that is held: itself, or its placeholder.
@@ -142,9 +149,9 @@ fn put_entry(row: u32, held: u32, out: &mut [u32], at: usize) -> usize
     ensures { λ r. ⌜ Wrote (entryWords row held) (now (out .entry)) at (now (out .exit)) r ⌝ }
 {
     if held == 1 {
-        return put2(out, at, 0, row);
+        return put2(out, at, ImageCode::ITSELF, row);
     }
-    put2(out, at, 1, held - 2)
+    put2(out, at, ImageCode::PLACEHOLDER, held - 2)
 }
 
 // The image of a row, in prefix words.
@@ -206,14 +213,16 @@ pub fn write_partner(
     ensures { λ r. ⌜ Wrote (words (rowOf (now (book .entry))) (image (view (now (book .entry)) (now (entries .entry))) (partner (term (table (now (book .entry))) key)))) (now (out .entry)) at (now (out .exit)) r ⌝ }
 {
     let side = row_kind(book, key);
-    if side < Kind::PUBLIC {
+    if !is_half(side) {
         return write_image(book, entries, key, out, at);
     }
     let part = first_part(book, key);
-    let other = half_row(book, 7 - side, part);
+    let turned = other_half(side);
+    let other = half_row(book, turned, part);
     if other < rows(book) {
         return write_image(book, entries, other, out, at);
     }
-    let next = put(out, at, 8 - side);
+    let half = Kind::of(turned);
+    let next = put(out, at, half.code);
     write_image(book, entries, part, out, next)
 }

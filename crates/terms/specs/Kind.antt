@@ -4,6 +4,9 @@
 -- prefix words: 0, row ..; 2, tag, n, arguments; 3, n contents, key, contents; 4, image (public); 5, image (private)." What any
 -- definition asks of a kind follows from this table.
 use Prim.Native.Nat.{ℕ, zero, suc, _≤_}
+use mathlib.Core.Bool.{Bool}
+use lib.Dec.{eqb, leb}
+use Rattle.words.specs.Choice.{pick}
 
 -- the form of term that a row stands for
 pub data Form : Type 0 where
@@ -49,3 +52,10 @@ pub record Shape (k n : ℕ) : Type 0 where
 
 abbrev pub Tagged : ℕ → ℕ → Type 0
 Tagged k g = g ≤ ofKind k .tag
+
+-- ---- the halves: kind 3 public, 4 private
+abbrev pub isHalf : ℕ → Bool
+isHalf k = leb 3 k
+
+unfoldable pub otherHalf : ℕ → ℕ
+otherHalf k = pick (eqb k 3) 4 3

@@ -1,8 +1,12 @@
 -- Laws of the kinds' numbers. Assumes nothing.
-use Prim.Native.Nat.{ℕ, zero, suc, _≤_}
-use mathlib.Core.Path.{_≡_, refl}
+use Prim.Native.Nat.{ℕ, zero, suc, _≤_, _<_}
+use mathlib.Core.Bool.{Bool, true, false}
+use mathlib.Core.Path.{_≡_, refl, sym, _∙_}
 use native.Mathlib.Omega.{arith}
-use Rattle.terms.specs.Kind.{ofKind}
+use native.Mathlib.Decide.{ℕ-discrete}
+use borrow.Author.Tests.{leb-true, leb-false, ne-eqb}
+use Rattle.words.specs.Choice.{pick}
+use Rattle.terms.specs.Kind.{ofKind, isHalf, otherHalf}
 use Rattle.book.specs.declared.Kind.{Kind}
 use Rattle.book.specs.Kinds.{OfKind}
 
@@ -53,3 +57,27 @@ some-parts (suc (suc zero)) h = omega arith
 some-parts (suc (suc (suc zero))) h = omega arith
 some-parts (suc (suc (suc (suc zero)))) h = omega arith
 some-parts (suc (suc (suc (suc (suc k))))) h = omega arith
+
+-- ---- the halves
+pub a-half : (k : ℕ) {x : Bool} → x ≡ isHalf k → x ≡ true → 3 ≤ k
+a-half k e t = leb-true 3 k (sym e ∙ t)
+
+pub no-half : (k : ℕ) {x : Bool} → x ≡ isHalf k → x ≡ false → k < 3
+no-half k e t = leb-false 3 k (sym e ∙ t)
+
+pub other-private : (k : ℕ) → k ≡ 3 → 4 ≡ otherHalf k
+unfolding otherHalf pick
+other-private k e = rw e
+
+pub other-public : (k : ℕ) → (k ≡ 3 → ⊥) → 3 ≡ otherHalf k
+unfolding otherHalf pick
+other-public k n = rw (ne-eqb k 3 n)
+
+-- which is a half
+pub other-low : (k : ℕ) → 3 ≤ otherHalf k
+unfolding otherHalf pick
+other-low k = elim (ℕ-discrete k 3) [ yes e ↦ rw e (omega arith) | no n ↦ rw (ne-eqb k 3 n) (omega arith) ]
+
+pub other-high : (k : ℕ) → otherHalf k ≤ 4
+unfolding otherHalf pick
+other-high k = elim (ℕ-discrete k 3) [ yes e ↦ rw e (omega arith) | no n ↦ rw (ne-eqb k 3 n) (omega arith) ]

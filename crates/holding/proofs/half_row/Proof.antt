@@ -21,7 +21,7 @@ half-row-spec =
     μ-loop
     (λ c κs. search valid-headed)  -- rows-requires
     (λ c. (search needs, λ k h. absurd (omega arith)))  -- loop-holds
-    (λ c κs. (search needs, omega arith, search needs, search needs, search needs))  -- is-half-requires
+    (λ c κs. (search needs, omega arith, search needs, search needs, search needs))  -- is-half-of-requires
     (λ c. search half-found)  -- returns
     (λ c. search needs)  -- add-row
     (λ c. search needs)  -- loop-less

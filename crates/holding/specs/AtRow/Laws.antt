@@ -4,6 +4,7 @@ use mathlib.Core.Bool.{Bool, true, false}
 use mathlib.Core.List.{List, [], _∷_, _++_, map, map-map, append-nil}
 use mathlib.Core.Path.{_≡_, refl, ap, _∙_}
 use native.Mathlib.Omega.{arith}
+use native.Mathlib.Decide.{ℕ-discrete}
 use lib.ListN.{length, getD, length-map}
 use lib.Dec.{eqb}
 use borrow.Author.Tests.{eq-eqb, ne-eqb}
@@ -11,7 +12,9 @@ use Rattle.words.specs.Choice.{pick}
 use Rattle.words.specs.Run.Laws.{run-length}
 use Rattle.terms.specs.Term.{Term, gathered}
 use Rattle.terms.specs.Image.{Image, words, wordsOf, countImages}
-use Rattle.terms.specs.Kind.{Shape}
+use Rattle.terms.specs.Kind.{lastKind, Shape}
+use Rattle.book.specs.declared.Kind.{Kind}
+use Rattle.book.specs.Kinds.{OfKind}
 use Rattle.terms.specs.Table.{form, term}
 use Rattle.book.specs.Layout.{table, rows, begins, kind, tag, rowFirst, rowCount, parts, listAt}
 use Rattle.book.specs.Valid.{Valid}
@@ -168,25 +171,22 @@ images-more b e f n h = rw (list-more b f n h)
 
 -- ---- the words in the code's own terms
 module _ (b : List ℕ) (r k : ℕ) (e : k ≡ kind b r) where
-  pub head-operation : (t n : ℕ) → k ≡ 1 → t ≡ tag b r → n ≡ rowCount b r → headWords b r ≡ 2 ∷ t ∷ n ∷ []
-  unfolding headOf
-  head-operation t n z p q = rw (← e, z, p, q)
+  module _ {a : Kind} (o : OfKind k a) where
+    pub head-operation : {t n : ℕ} → k ≡ 1 → t ≡ tag b r → n ≡ rowCount b r → headWords b r ≡ a .code ∷ t ∷ n ∷ []
+    unfolding headOf
+    head-operation z p q = rw (o .code, ← e, z, p, q)
 
-  pub head-cipher : (n : ℕ) → k ≡ 2 → n ≡ rowCount b r → headWords b r ≡ 3 ∷ (n - 1) ∷ []
-  unfolding headOf
-  head-cipher n z q = rw (← e, z, q)
+    pub head-cipher : {n m : ℕ} → k ≡ 2 → n ≡ rowCount b r → m ≡ n - 1 → headWords b r ≡ a .code ∷ m ∷ []
+    unfolding headOf
+    head-cipher z q w = rw (o .code, ← e, z, w, q)
 
-  pub head-public : k ≡ 3 → headWords b r ≡ 4 ∷ []
-  unfolding headOf
-  head-public z = rw (← e, z)
+    pub head-half : 3 ≤ k → k ≤ lastKind → headWords b r ≡ a .code ∷ []
+    unfolding headOf
+    head-half l h = elim (ℕ-discrete k 3) [ yes z ↦ rw (o .code, ← e, z) | no n ↦ (let z : k ≡ 4 = omega arith in rw (o .code, ← e, z)) ]
 
-  pub head-private : k ≡ 4 → headWords b r ≡ 5 ∷ []
-  unfolding headOf
-  head-private z = rw (← e, z)
-
-  pub head-atom : k ≡ 0 → headWords b r ≡ 0 ∷ r ∷ []
-  unfolding headOf
-  head-atom z = rw (← e, z)
+    pub head-atom : k ≡ 0 → headWords b r ≡ a .code ∷ r ∷ []
+    unfolding headOf
+    head-atom z = rw (o .code, ← e, z)
 
 pub entry-itself : (r x : ℕ) → x ≡ 1 → entryWords r x ≡ 0 ∷ r ∷ []
 unfolding entryWords pick

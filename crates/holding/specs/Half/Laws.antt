@@ -6,15 +6,17 @@ use mathlib.Core.Path.{_≡_, refl, sym, ap, _∙_}
 use native.Mathlib.Omega.{arith}
 use native.Mathlib.Decide.{ℕ-discrete}
 use lib.Dec.{eqb}
-use borrow.Author.Tests.{eqb-true, eqb-false}
+use borrow.Author.Tests.{eqb-true, eqb-false, ne-eqb}
 use Rattle.words.specs.Choice.{pick, choose}
 use Rattle.words.specs.Choice.Laws.{choose-yes, choose-no}
 use Rattle.words.specs.First.{first}
 use Rattle.terms.specs.Term.{Term, partner, same, gathered}
+use Rattle.terms.specs.Kind.{ofKind, otherHalf}
 use Rattle.terms.specs.Image.{words}
 use Rattle.terms.specs.Table.{form, term, terms, number}
 use Rattle.terms.specs.Table.Laws.{term-row, kindOf}
 use Rattle.book.specs.Layout.{table, rows, kind, rowFirst, rowCount}
+use Rattle.book.specs.Kinds.Laws.{other-low, other-high}
 use Rattle.book.specs.Valid.{Valid}
 use Rattle.book.specs.Valid.Laws.{formed, equal-terms, row-kind}
 use Rattle.translation.specs.Dictionary.{free, Dictionary, buildable, imageOr, image}
@@ -84,16 +86,15 @@ module _ (b : List ℕ) (v : Valid b) where
   pub partner-itself : (r k : ℕ) → r < rows b → k ≡ kind b r → k < 3 → partner (term (table b) r) ≡ term (table b) r
   partner-itself r k h e l = partner-plain (term (table b) r) (rw (row-kind b v r h) (omega arith))
 
-  partner-half : (k : ℕ) (t : Term) → 3 ≤ k → k ≤ 4 → partner (half k t) ≡ half (7 - k) t
-  unfolding partner half pick
-  partner-half k t l h = elim (ℕ-discrete k 3) [ yes e ↦ rw e | no e ↦ (let z : k ≡ 4 = omega arith in rw z) ]
+  partner-half : (k : ℕ) (t : Term) → partner (half k t) ≡ half (otherHalf k) t
+  unfolding partner half otherHalf pick
+  partner-half k t = elim (ℕ-discrete k 3) [ yes e ↦ rw e | no n ↦ rw (ne-eqb k 3 n) ]
 
   pub partner-other : (r k p : ℕ) → r < rows b → k ≡ kind b r → 3 ≤ k → p ≡ entry b (rowFirst b r) → partner (term (table b) r)
-      ≡ half (7 - k) (term (table b) p)
+      ≡ half (otherHalf k) (term (table b) p)
   partner-other r k p h e l g =
       let i : term (table b) r ≡ half k (term (table b) p) = half-row r h (omega arith) ∙ rw (← e, g) in
-      let m = v .rowsKeep r h .kinded in
-      ap partner i ∙ partner-half k (term (table b) p) l (omega arith)
+      ap partner i ∙ partner-half k (term (table b) p)
 
 -- ---- a half that is not held: buildable and its image by its part
 can-half : (δ : Dictionary) (k : ℕ) (t : Term) → δ (half k t) ≡ free → buildable δ (half k t) ≡ buildable δ t
@@ -105,42 +106,48 @@ can-half δ k t = go (eqb k 3)
     go false e = rw e
 
 image-half : (row : Term → ℕ) (δ : Dictionary) (k : ℕ) (t : Term) → 3 ≤ k → k ≤ 4 → δ (half k t) ≡ free
-    → words row (image δ (half k t)) ≡ (k + 1) ∷ words row (image δ t)
+    → words row (image δ (half k t)) ≡ ofKind k .code ∷ words row (image δ t)
 unfolding image words half pick imageOr
 image-half row δ k t l m = elim (ℕ-discrete k 3) [ yes e ↦ rw e (λ z. rw z) | no e ↦ (let y : k ≡ 4 = omega arith in rw y (λ z. rw z)) ]
 
-module _ (b e : List ℕ) (v : Valid b) (r k p o : ℕ) (h : r < rows b) (dk : k ≡ kind b r) where
+module _ (b e : List ℕ) (v : Valid b) (r k : ℕ) (h : r < rows b) (dk : k ≡ kind b r) where
   pub opens-itself : k < 3 → (x : Bool) → x ≡ buildable (view b e) (term (table b) r) → x ≡ buildable (view b e) (partner (term (table b) r))
   opens-itself l x d = d ∙ ap (buildable (view b e)) (sym (partner-itself b v r k h dk l))
 
   pub shows-itself : k < 3 → words (rowOf b) (image (view b e) (partner (term (table b) r))) ≡ words (rowOf b) (image (view b e) (term (table b) r))
   shows-itself l = ap (λ t. words (rowOf b) (image (view b e) t)) (partner-itself b v r k h dk l)
 
-  module _ (l : 3 ≤ k) (dp : p ≡ entry b (rowFirst b r)) (dof : o ≡ rowOf b (half (7 - k) (term (table b) p))) where
-    is : partner (term (table b) r) ≡ half (7 - k) (term (table b) p)
+  -- the key is a half: p is its part, j the kind of the other half, and o that half's row
+  module _ (l : 3 ≤ k) {p j o : ℕ} (dp : p ≡ entry b (rowFirst b r)) (dj : j ≡ otherHalf k) (du : o ≡ rowOf b (half j (term (table b) p))) where
+    dof : o ≡ rowOf b (half (otherHalf k) (term (table b) p))
+    dof = du ∙ ap (λ i. rowOf b (half i (term (table b) p))) dj
+
+    is : partner (term (table b) r) ≡ half (otherHalf k) (term (table b) p)
     is = partner-other b v r k p h dk l dp
 
     stands : o < rows b → term (table b) o ≡ partner (term (table b) r)
-    stands m = let z : rowOf b (half (7 - k) (term (table b) p)) < rows b =
-        omega arith in ap (term (table b)) dof ∙ row-stands b (half (7 - k) (term (table b) p)) z ∙ sym is
+    stands m =
+        let q = dof in
+        ap (term (table b)) q ∙ row-stands b (half (otherHalf k) (term (table b) p)) (omega arith) ∙ sym is
 
-    nowhere : rows b ≤ o → view b e (half (7 - k) (term (table b) p)) ≡ free
-    nowhere m = view-none b v e _ (λ s u w. let z = Rattle.holding.specs.View.Laws.row-of b v s _ u w in omega arith)
+    nowhere : rows b ≤ o → view b e (half (otherHalf k) (term (table b) p)) ≡ free
+    nowhere m =
+        let q = dof in
+        view-none b v e _ (λ s u w. let z = Rattle.holding.specs.View.Laws.row-of b v s _ u w in omega arith)
 
     pub opens-row : o < rows b → (x : Bool) → x ≡ buildable (view b e) (term (table b) o) → x ≡ buildable (view b e) (partner (term (table b) r))
     opens-row m x d = d ∙ ap (buildable (view b e)) (stands m)
 
     pub opens-part : rows b ≤ o → (x : Bool) → x ≡ buildable (view b e) (term (table b) p) → x ≡ buildable (view b e) (partner (term (table b) r))
-    opens-part m x d = d ∙ sym (ap (buildable (view b e)) is ∙ can-half (view b e) (7 - k) (term (table b) p) (nowhere m))
+    opens-part m x d = d ∙ sym (ap (buildable (view b e)) is ∙ can-half (view b e) (otherHalf k) (term (table b) p) (nowhere m))
 
     pub shows-row : o < rows b → words (rowOf b) (image (view b e) (partner (term (table b) r))) ≡ words (rowOf b) (image (view b e) (term (table b) o))
     shows-row m = ap (λ t. words (rowOf b) (image (view b e) t)) (sym (stands m))
 
-    pub shows-part : rows b ≤ o → words (rowOf b) (image (view b e) (partner (term (table b) r))) ≡ (8 - k)
-        ∷ words (rowOf b) (image (view b e) (term (table b) p))
-    shows-part m =
-        let n = v .rowsKeep r h .kinded in
-        let z : 7 - k + 1 ≡ 8 - k = omega arith in
-        ap (λ t. words (rowOf b) (image (view b e) t)) is ∙ image-half (rowOf b) (view b e) (7 - k) (term (table b) p) (omega arith) (omega arith)
-        (nowhere m)
-        ∙ ap (λ c. c ∷ words (rowOf b) (image (view b e) (term (table b) p))) z
+    -- c is the code of the other half
+    pub shows-part : rows b ≤ o → {c : ℕ} → c ≡ ofKind (otherHalf k) .code
+        → words (rowOf b) (image (view b e) (partner (term (table b) r))) ≡ c ∷ words (rowOf b) (image (view b e) (term (table b) p))
+    shows-part m d =
+        ap (λ t. words (rowOf b) (image (view b e) t)) is
+        ∙ image-half (rowOf b) (view b e) (otherHalf k) (term (table b) p) (other-low k) (other-high k) (nowhere m)
+        ∙ ap (λ c. c ∷ words (rowOf b) (image (view b e) (term (table b) p))) (sym d)

@@ -16,19 +16,16 @@ use words::narrow;
 use words::put2;
 use words::wide;
 ghost use mathlib.Core.Path.{_≡_};
-ghost use Prim.Native.Nat.{_+_, _≤_, _<_};
-ghost use lib.ListN.{length};
+ghost use Prim.Native.Nat.{_<_};
 ghost use Rattle.words.specs.Overlay.{Wrote};
-ghost use Rattle.terms.specs.Table.{term, terms};
-ghost use Rattle.book.specs.Layout.{rows, kind, table, listAt};
+ghost use Rattle.terms.specs.Table.{term};
+ghost use Rattle.book.specs.Layout.{rows, kind, table};
 ghost use Rattle.book.specs.Valid.{Valid};
-ghost use Rattle.translation.specs.Receive.{canOpen, compared, receive as receiving};
+ghost use Rattle.translation.specs.Receive.{canOpen, compared};
 ghost use Rattle.translation.specs.Listing.{programWords};
 ghost use Rattle.holding.specs.View.{rowOf, view};
-ghost use Rattle.book.specs.Span.{Span};
-ghost use Rattle.receiving.specs.Bound.{limit};
-ghost use Rattle.receiving.specs.Turn.{unlocked, inTurn};
-ghost use Rattle.receiving.specs.Receiving.{Led, Settling};
+ghost use Rattle.receiving.specs.Turn.{unlocked};
+ghost use Rattle.receiving.specs.Receiving.{rowDid, listDid, SettleReady, RowReady, ListReady, Led, Settling};
 
 // What a party holds, an entry for each row; its next placeholder; the place of its next stored pair in the log.
 pub struct Dictionary {
@@ -121,7 +118,7 @@ fn settle(
     out: &mut [u32],
     at: usize,
 ) -> Settled
-    requires { ⌜ Valid (now book) × (row < rows (now book)) × (place < limit) × (length (now entries) ≡ 1024) ⌝ }
+    requires { ⌜ SettleReady (now book) row place (now entries) ⌝ }
     ensures { λ r. ⌜ Settling (now (book .entry)) row place next kept (now (entries .entry)) (now (entries .exit)) (now (log .entry)) (now (log .exit)) at (now (out .entry)) (now (out .exit)) r ⌝ }
 {
     if buildable(book, entries, row) {
@@ -164,10 +161,8 @@ pub fn receive(
     log: &mut [u32],
     out: &mut [u32],
 ) -> Received
-    requires { ⌜ Valid (now book) × (row < rows (now book)) × (place < limit)
-        × (before .dictionary .next + length (receiving (term (table (now book)) row) place (view (now book) (before .dictionary .entries)) (before .dictionary .next) .given) ≤ limit) ⌝ }
-    ensures { λ r. ⌜ Led (now (book .entry)) (receiving (term (table (now (book .entry))) row) place (view (now (book .entry)) (before .dictionary .entries)) (before .dictionary .next))
-        before (now (log .entry)) (now (log .exit)) (now (out .entry)) (now (out .exit)) r ⌝ }
+    requires { ⌜ RowReady (now book) row place before ⌝ }
+    ensures { λ r. ⌜ Led (now (book .entry)) (rowDid (now (book .entry)) row place before) before (now (log .entry)) (now (log .exit)) (now (out .entry)) (now (out .exit)) r ⌝ }
 {
     let mut here = before;
     let next = here.dictionary.next;
@@ -199,10 +194,8 @@ fn receive_list(
     log: &mut [u32],
     out: &mut [u32],
 ) -> Received
-    requires { ⌜ Valid (now book) × (bound ≤ rows (now book)) × Span (now book) bound first left
-        × (here .dictionary .next + length (inTurn (terms (table (now book)) (listAt (now book) first left)) (view (now book) (here .dictionary .entries)) (here .dictionary .next) .given) ≤ limit) ⌝ }
-    ensures { λ r. ⌜ Led (now (book .entry)) (inTurn (terms (table (now (book .entry))) (listAt (now (book .entry)) first left)) (view (now (book .entry)) (here .dictionary .entries)) (here .dictionary .next))
-        here (now (log .entry)) (now (log .exit)) (now (out .entry)) (now (out .exit)) r ⌝ }
+    requires { ⌜ ListReady (now book) bound first left here ⌝ }
+    ensures { λ r. ⌜ Led (now (book .entry)) (listDid (now (book .entry)) first left here) here (now (log .entry)) (now (log .exit)) (now (out .entry)) (now (out .exit)) r ⌝ }
 {
     let mut place = here.dictionary.next;
     let next = place + narrow(left);
@@ -229,10 +222,8 @@ pub fn receive_messages(
     log: &mut [u32],
     out: &mut [u32],
 ) -> Received
-    requires { ⌜ Valid (now book) × (bound ≤ rows (now book)) × Span (now book) bound first left
-        × (here .dictionary .next + length (inTurn (terms (table (now book)) (listAt (now book) first left)) (view (now book) (here .dictionary .entries)) (here .dictionary .next) .given) ≤ limit) ⌝ }
-    ensures { λ r. ⌜ Led (now (book .entry)) (inTurn (terms (table (now (book .entry))) (listAt (now (book .entry)) first left)) (view (now (book .entry)) (here .dictionary .entries)) (here .dictionary .next))
-        here (now (log .entry)) (now (log .exit)) (now (out .entry)) (now (out .exit)) r ⌝ }
+    requires { ⌜ ListReady (now book) bound first left here ⌝ }
+    ensures { λ r. ⌜ Led (now (book .entry)) (listDid (now (book .entry)) first left here) here (now (log .entry)) (now (log .exit)) (now (out .entry)) (now (out .exit)) r ⌝ }
 {
     let mut place = here.dictionary.next;
     let next = place + narrow(left);

@@ -1,34 +1,35 @@
--- `receiving::receive` and `receiving::receive_list` meet their contracts: a row is settled and its contents follow; in the loop, whatever ends the rest ends the whole. Assumes nothing.
-use Rattle.receiving.proofs.Laws.{small-pool, turn-room, turn-doing, going-room, Going, going-start, going-on, going-end}
-use Rattle.receiving.specs.Turn.{inTurn}
-use Rattle.holding.specs.View.{view}
-use Rattle.terms.specs.Table.{terms}
-use Rattle.book.specs.Layout.{table, listAt}
-use Rattle.book.specs.Headed.Laws.{valid-headed}
-use Prim.Native.Nat.{_*_, _+_}
-use borrow.Author.Needs.{needs}
+-- `receiving::receive` and `receiving::receive_list` meet their contracts: a row is settled and its contents follow; in
+-- the loop, whatever ends the rest ends the whole. Assumes nothing.
+use Prim.Native.Nat.{ℕ, _*_, _+_, _<_}
 use native.Mathlib.Omega.{arith}
-use Prim.Native.Nat.{ℕ, _<_}
+use borrow.Author.Needs.{needs}
 use borrow.Fn.Kinds.{In, Out}
 use borrow.Fn.PlainCycle.{Measures, is, falls, and}
+use Rattle.words.proofs.narrow.Reads as narrow-reads
+use Rattle.book.proofs.entry.Reads as entry-reads
+use Rattle.receiving.proofs.Bounds.{small-pool}
+use Rattle.receiving.proofs.Settling.{turn-fits, turn-led}
+use Rattle.receiving.proofs.Going.{withNext, Going, going-start, going-fits, going-on, going-end}
+use Rattle.receiving.proofs.settle.Reads as settle-reads
 use Rattle.receiving.proofs.receive.Reads as receive
 use Rattle.receiving.proofs.receive.Kinds as receive-kinds
 use Rattle.receiving.proofs.+receive+receive_list.Lts-receive as receive-lts
 use Rattle.receiving.proofs.receive_list.Reads as receive-list
 use Rattle.receiving.proofs.receive_list.Kinds as receive-list-kinds
 use Rattle.receiving.proofs.+receive+receive_list.Lts-receive_list as receive-list-lts
-use Rattle.book.proofs.entry.Reads as entry-reads
-use Rattle.words.proofs.narrow.Reads as narrow-reads
-use Rattle.receiving.proofs.settle.Reads as settle-reads
 use Rattle.receiving.proofs.+receive+receive_list.{statement}
 use Rattle.receiving.proofs.+receive+receive_list.Tie.{close}
 
+-- ---- why it ends: `receive` hands on its row as the bound, with at most 9 rows, and `receive_list` a row below it
+-- 16 times the row, and 15
 abbrev μ-receive : Measures 3 receive-kinds.ps ℕ
 μ-receive κs a = 16 * a .1 .1 .0 + 15
 
+-- 16 times the bound, and the rows left
 abbrev μ-receive-list : Measures 3 receive-list-kinds.ps ℕ
 μ-receive-list κs a = 16 * a .1 .1 .0 + a .1 .1 .1 .1 .0
 
+-- ---- what each asks for where its measure is t, and where it is below t
 abbrev receive-at : ℕ → In 3 receive-kinds.ps
 receive-at t = and 3 receive-kinds.ps (is 3 receive-kinds.ps μ-receive t) receive.Pre
 
@@ -41,18 +42,9 @@ receive-list-at t =
 
 abbrev receive-list-below : ℕ → In 3 receive-list-kinds.ps
 receive-list-below t =
-    and
-    3
-    receive-list-kinds.ps
-    (falls 3 receive-list-kinds.ps _<_ μ-receive-list t)
-    receive-list.Pre
+    and 3 receive-list-kinds.ps (falls 3 receive-list-kinds.ps _<_ μ-receive-list t) receive-list.Pre
 
-abbrev receive-list-Inv-loop : receive-list-lts.InvT-loop
-receive-list-Inv-loop book here₀ bound first left log₀ out₀ place₀ next i₀ k₀ here log out place i k = Going (inTurn (terms (table book) (listAt book first left)) (view book (here₀ .dictionary .entries)) place₀) place₀ (here₀ .dictionary .kept) log₀ out₀ (here₀ .at) book bound i k place here log out
-
-abbrev receive-list-μ-loop : receive-list-lts.MeasureT-loop
-receive-list-μ-loop book here₀ bound first left log₀ out₀ place₀ next i₀ k₀ here log out place i k = k
-
+-- ---- `receive`
 abbrev receive-calls : ℕ → receive-lts.Claims
 receive-calls t = (
   settle-reads.Asked,
@@ -62,8 +54,17 @@ receive-calls t = (
 )
 
 -- a place or a need of `receive`, by its name
-abbrev in-receive : (receive-lts.Claims → In 3 receive-kinds.ps → Out 3 receive-kinds.ps receive-kinds.r → Type 0) → ℕ → Type 0
+abbrev in-receive : (receive-lts.Claims → In 3 receive-kinds.ps → Out 3 receive-kinds.ps receive-kinds.r → Type 0)
+    → ℕ → Type 0
 in-receive P t = P (receive-calls t) (receive-at t) receive.Post
+
+-- ---- `receive_list`
+abbrev receive-list-Inv-loop : receive-list-lts.InvT-loop
+receive-list-Inv-loop book here₀ bound first left log₀ out₀ place₀ next i₀ k₀ here log out place i k =
+    Going book bound first left (withNext place₀ here₀) log₀ out₀ i k place here log out
+
+abbrev receive-list-μ-loop : receive-list-lts.MeasureT-loop
+receive-list-μ-loop book here₀ bound first left log₀ out₀ place₀ next i₀ k₀ here log out place i k = k
 
 abbrev receive-list-calls : ℕ → receive-list-lts.Claims
 receive-list-calls t = (
@@ -76,14 +77,17 @@ receive-list-calls t = (
 )
 
 -- a place or a need of `receive_list`, by its name
-abbrev in-receive-list : (receive-list-lts.Claims → In 3 receive-list-kinds.ps → Out 3 receive-list-kinds.ps receive-list-kinds.r → receive-list-lts.InvT-loop → receive-list-lts.MeasureT-loop → Type 0) → ℕ → Type 0
-in-receive-list P t = P (receive-list-calls t) (receive-list-at t) receive-list.Post receive-list-Inv-loop receive-list-μ-loop
+abbrev in-receive-list : (receive-list-lts.Claims → In 3 receive-list-kinds.ps
+    → Out 3 receive-list-kinds.ps receive-list-kinds.r → receive-list-lts.InvT-loop → receive-list-lts.MeasureT-loop
+    → Type 0) → ℕ → Type 0
+in-receive-list P t =
+    P (receive-list-calls t) (receive-list-at t) receive-list.Post receive-list-Inv-loop receive-list-μ-loop
 
 receive-list-loop-holds : (t : ℕ) → in-receive-list receive-list-lts.Need-loop-holds t
 receive-list-loop-holds t c =
     let after-narrow : in-receive-list receive-list-lts.After-narrow t = search in
     let start : in-receive-list receive-list-lts.Start t = search in
-    going-start _ _ _ _ _ _ _ _ _ (start .pre .1 .2) (after-narrow .narrow .ensures) (search needs) (start .pre .1 .3)
+    going-start (start .pre .1) (after-narrow .narrow .ensures) (search needs)
 
 receive-list-loop-again : (t : ℕ) → in-receive-list receive-list-lts.Need-loop-again t
 receive-list-loop-again t c =
@@ -91,8 +95,14 @@ receive-list-loop-again t c =
     let after-entry : in-receive-list receive-list-lts.After-entry t = search in
     let in-loop : in-receive-list receive-list-lts.In-loop t = search in
     let at-loop : in-receive-list receive-list-lts.At-loop t = search in
-    going-on _ _ _ _ _ _ _ _ _ _ _ _ _ _ _ _ _ _ (at-loop .loop .inv) (in-loop .loop-test .taken)
-    (after-entry .entry .ensures .0) (after-receive .receive .ensures)
+    going-on (at-loop .loop .inv) (in-loop .loop-test .taken) (after-entry .entry .ensures .0)
+    (after-receive .receive .ensures)
+
+receive-list-returns : (t : ℕ) → in-receive-list receive-list-lts.Need-returns t
+receive-list-returns t c =
+    let at-loop : in-receive-list receive-list-lts.At-loop t = search in
+    let after-loop : in-receive-list receive-list-lts.After-loop t = search in
+    going-end (at-loop .loop .inv) (after-loop .loop-test .left)
 
 pub +receive+receive-list-spec : {M : Type 1} → statement M
 +receive+receive-list-spec = close μ-receive μ-receive-list (λ t. receive-lts.spec
@@ -100,10 +110,10 @@ pub +receive+receive-list-spec : {M : Type 1} → statement M
     (receive-at t)
     receive.Post
     (λ c κs. search needs)  -- receive-settle-requires
-    (λ c κs. (omega arith, (search needs, omega arith, search needs, search turn-room)))  -- receive-receive-list-requires
+    (λ c κs. (omega arith, search (turn-fits, needs)))  -- receive-receive-list-requires
     (λ c. search needs)  -- receive-same-length
     (λ c. search needs)  -- receive-same-length-2
-    (λ c. search turn-doing))  -- receive-returns
+    (λ c. search turn-led))  -- receive-returns
     λ t. receive-list-lts.spec
     (receive-list-calls t)
     (receive-list-at t)
@@ -114,7 +124,7 @@ pub +receive+receive-list-spec : {M : Type 1} → statement M
     (λ c. search needs)  -- receive-list-add-next
     (receive-list-loop-holds t)
     (λ c κs. search needs)  -- receive-list-entry-requires
-    (λ c κs. (omega arith, (search needs, omega arith, omega arith, search going-room)))  -- receive-list-receive-requires
+    (λ c κs. (omega arith, search (going-fits, needs)))  -- receive-list-receive-requires
     (λ c. search needs)  -- receive-list-add-place
     (λ c. omega (arith, small-pool))  -- receive-list-add-i
     (λ c. search needs)  -- receive-list-sub-k
@@ -122,4 +132,4 @@ pub +receive+receive-list-spec : {M : Type 1} → statement M
     (receive-list-loop-again t)
     (λ c. search needs)  -- receive-list-same-length
     (λ c. search needs)  -- receive-list-same-length-2
-    (λ c. search going-end)  -- receive-list-returns
+    (receive-list-returns t)

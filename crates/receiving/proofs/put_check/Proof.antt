@@ -1,6 +1,6 @@
--- `receiving::put_check` meets its contract: the event's head, then the row's image. Assumes nothing.
-use Rattle.receiving.proofs.Laws.{check-wrote}
+-- `receiving::put_check` meets its contract: the event's first words, then the row's image. Assumes nothing.
 use borrow.Author.Needs.{needs}
+use Rattle.receiving.proofs.EventWords.{check-wrote}
 use Rattle.receiving.proofs.put_check.Statement.{statement}
 use Rattle.receiving.proofs.put_check.Tie as tie
 

@@ -33,7 +33,8 @@ by-turn Rule.unlock (Term.cipher k ts) p δ n = refl
 by-turn Rule.unlock (Term.public t) p δ n = refl
 by-turn Rule.unlock (Term.private t) p δ n = refl
 
-pub receive-turn : (t : Term) (p : ℕ) (δ : Dictionary) (n : ℕ) → receive t p δ n ≡ followed (settled t p δ n) (inTurn (nextTerms δ t) (settled t p δ n .dictionary) n)
+pub receive-turn : (t : Term) (p : ℕ) (δ : Dictionary) (n : ℕ)
+    → receive t p δ n ≡ followed (settled t p δ n) (inTurn (nextTerms δ t) (settled t p δ n .dictionary) n)
 unfolding settled nextTerms
 receive-turn t p δ n = receive-rule t p δ n ∙ by-turn (rule δ t) t p δ n
 
@@ -87,7 +88,8 @@ module _ (b : List ℕ) (v : Valid b) (r : ℕ) (h : r < rows b) where
   pub opens-cipher : (δ : Dictionary) → canOpen δ (term (table b) r) ≡ true → kind b r ≡ 2
   opens-cipher δ e = sym (row-kind b v r h) ∙ only-cipher δ (term (table b) r) e
 
-  pub cipher-row : kind b r ≡ 2 → term (table b) r ≡ Term.cipher (term (table b) (entry b (rowFirst b r))) (terms (table b) (listAt b (rowFirst b r + 1) (rowCount b r - 1)))
+  pub cipher-row : kind b r ≡ 2
+      → term (table b) r ≡ Term.cipher (term (table b) (entry b (rowFirst b r))) (terms (table b) (listAt b (rowFirst b r + 1) (rowCount b r - 1)))
   unfolding form terms gathered table
   cipher-row k =
       let s = list-more b (rowFirst b r) (rowCount b r) (some-part b v r h (omega arith)) in
@@ -95,7 +97,8 @@ module _ (b : List ℕ) (v : Valid b) (r : ℕ) (h : r < rows b) where
       rw (t, k, s)
 
 -- what opening leaves as it was
-pub unlocked-rest : (t : Term) (p : ℕ) (δ : Dictionary) (n : ℕ) → (unlocked t p δ n .dictionary ≡ δ) × (unlocked t p δ n .given ≡ []) × (unlocked t p δ n .stored ≡ [])
+pub unlocked-rest : (t : Term) (p : ℕ) (δ : Dictionary) (n : ℕ)
+    → (unlocked t p δ n .dictionary ≡ δ) × (unlocked t p δ n .given ≡ []) × (unlocked t p δ n .stored ≡ [])
 unfolding unlocked
 unlocked-rest (Term.atom r) p δ n = (refl, refl, refl)
 unlocked-rest (Term.operation g ts) p δ n = (refl, refl, refl)
@@ -118,6 +121,7 @@ module _ (b : List ℕ) (f n p : ℕ) (δ : Dictionary) (m : ℕ) where
   all-none h = rw (list-none b f n h)
 
   pub all-more : 0 < n → receiveAll (terms (table b) (listAt b f n)) p δ m
-      ≡ (let d = receive (term (table b) (entry b f)) p δ m in followed d (receiveAll (terms (table b) (listAt b (f + 1) (n - 1))) (p + 1) (d .dictionary) (m + length (d .given))))
+      ≡ (let d = receive (term (table b) (entry b f)) p δ m in
+      followed d (receiveAll (terms (table b) (listAt b (f + 1) (n - 1))) (p + 1) (d .dictionary) (m + length (d .given))))
   unfolding terms gathered receive
   all-more h = let z : p + 1 ≡ suc p = omega arith in rw (list-more b f n h, z)

@@ -18,8 +18,8 @@ refusedFor b p s = pick (eqb (sender b s) p) (unplayable (narration b) s) false
 abbrev pub Unrefused : List ℕ → ℕ → ℕ → Type 0
 Unrefused b p i = (k : ℕ) → k < i → refusedFor b p k ≡ false
 
--- r is the first step from i on that party p sends or receives, or the number of steps, as far as the walk needs it: before r there
--- is nothing for p to do
+-- r stands between i and the number of steps, and in the steps from i to the one before r party p neither sends nor receives. Whether
+-- step r is p's own is not said: the walk does not need it.
 pub record IdleUntil (b : List ℕ) (p i r : ℕ) : Type 0 where
   pub from : i ≤ r
   pub within : r ≤ steps b

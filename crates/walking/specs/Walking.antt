@@ -1,21 +1,43 @@
--- What a party's walk leaves behind, as its code has it.
-use Prim.Native.Nat.{ℕ, _≤_}
+-- What a party's walk asks for, and what it leaves behind, as its code has it.
+use Prim.Native.Nat.{ℕ, _≤_, _<_}
 use mathlib.Core.List.{List}
 use mathlib.Core.Path.{_≡_}
-use Rattle.book.specs.Layout.{steps}
+use Rattle.book.specs.Layout.{parties, steps}
+use Rattle.book.specs.Valid.{Valid}
+use Rattle.translation.specs.Receive.{Did}
+use Rattle.translation.specs.Steps.{stepDid, before}
 use Rattle.holding.specs.View.{view}
 use Rattle.holding.specs.Doing.{Doing}
+use Rattle.claims.specs.Claims.{Claims}
 use Rattle.receiving.specs.declared.Received.{Received}
-use Rattle.receiving.specs.Receiving.{Led}
+use Rattle.receiving.specs.Receiving.{Fits, Led}
 use Rattle.walking.specs.declared.Acted.{Acted}
 use Rattle.walking.specs.declared.Passed.{Passed}
-use Rattle.translation.specs.Steps.{stepDid, before}
 use Rattle.walking.specs.Found.{foundAt, FoundBefore}
+
+-- ---- one step
+-- what party p does in step s, from x on
+abbrev pub actDid : List ℕ → ℕ → ℕ → Received → Did
+actDid b p s x = stepDid b p s (view b (x .dictionary .entries)) (x .dictionary .next)
+
+-- party p can do its part in step s, from x on
+pub record ActReady (b : List ℕ) (p s : ℕ) (x : Received) : Type 0 where
+  pub valid : Valid b
+  pub step : s < steps b
+  pub fits : Fits x (actDid b p s x)
 
 -- party p's part in step s led from x to r
 pub record Acting (b l : List ℕ) (p s : ℕ) (x : Received) (log logAfter out outAfter : List ℕ) (r : Acted) : Type 0 where
-  pub doing : Led b (stepDid b p s (view b (x .dictionary .entries)) (x .dictionary .next)) x log logAfter out outAfter (r .here)
+  pub doing : Led b (actDid b p s x) x log logAfter out outAfter (r .here)
   pub found : r .taken ≡ foundAt b l p s (view b (x .dictionary .entries))
+
+-- ---- the steps, one after another
+-- party p can be taken through the steps before `upto`, by the table l of claims
+pub record WalkReady (b l : List ℕ) (p upto : ℕ) : Type 0 where
+  pub valid : Valid b
+  pub claims : Claims b l
+  pub party : p < parties b
+  pub within : upto ≤ steps b
 
 -- the first i steps of party p, with the places k and a at the start
 abbrev pub Along : List ℕ → ℕ → ℕ → ℕ → List ℕ → List ℕ → ℕ → List ℕ → List ℕ → Received → Type 0

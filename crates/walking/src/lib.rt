@@ -18,20 +18,17 @@ use words::put_all;
 use words::put2;
 use words::put4;
 ghost use mathlib.Core.Path.{_≡_};
-ghost use Prim.Native.Nat.{_+_, _*_, _≤_, _<_};
+ghost use Prim.Native.Nat.{_≤_, _<_};
 ghost use lib.ListN.{length};
 ghost use Rattle.words.specs.Overlay.{Wrote};
 ghost use Rattle.book.specs.Layout.{parties as partiesOf, steps as stepsOf};
 ghost use Rattle.book.specs.Valid.{Valid};
 ghost use Rattle.translation.specs.Listing.{partWords};
-ghost use Rattle.holding.specs.View.{view};
 ghost use Rattle.claims.specs.Claims.{Claims};
-ghost use Rattle.receiving.specs.Bound.{limit};
-ghost use Rattle.translation.specs.Steps.{stepDid};
 ghost use Rattle.walking.specs.Walk.{Unrefused, IdleUntil};
 ghost use Rattle.walking.specs.Found.{FoundBefore};
 ghost use Rattle.translation.specs.Long.{mostPart};
-ghost use Rattle.walking.specs.Walking.{Acting, Walking};
+ghost use Rattle.walking.specs.Walking.{ActReady, Acting, WalkReady, Walking};
 
 // What a step left: how far the party got, and one more than the first taken atom that it would make there (0 if there is none).
 pub struct Acted {
@@ -50,20 +47,19 @@ pub struct Passed {
 fn act(
     book: &[u32],
     since: &[u32; 1024],
-    before: Received,
+    from: Received,
     party: u32,
     step: u32,
     log: &mut [u32],
     out: &mut [u32],
 ) -> Acted
-    requires { ⌜ Valid (now book) × (step < stepsOf (now book))
-        × (before .dictionary .next + length (stepDid (now book) party step (view (now book) (before .dictionary .entries)) (before .dictionary .next) .given) ≤ limit) ⌝ }
-    ensures { λ r. ⌜ Acting (now (book .entry)) (now (since .entry)) party step before (now (log .entry)) (now (log .exit)) (now (out .entry)) (now (out .exit)) r ⌝ }
+    requires { ⌜ ActReady (now book) party step from ⌝ }
+    ensures { λ r. ⌜ Acting (now (book .entry)) (now (since .entry)) party step from (now (log .entry)) (now (log .exit)) (now (out .entry)) (now (out .exit)) r ⌝ }
 {
     let first = step_first(book, step);
     let n = step_count(book, step);
     if step_sender(book, step) == party {
-        let mut here = before;
+        let mut here = from;
         let at = here.at;
         let sent = send(
             book,
@@ -82,7 +78,7 @@ fn act(
         };
     }
     if step_receiver(book, step) == party {
-        let mut here = before;
+        let mut here = from;
         let at = put4(
             out,
             here.at,
@@ -102,7 +98,7 @@ fn act(
         };
     }
     Acted {
-        here: before,
+        here: from,
         taken: 0,
     }
 }
@@ -139,7 +135,7 @@ pub fn walk(
     out: &mut [u32],
     at: usize,
 ) -> Passed
-    requires { ⌜ Valid (now book) × Claims (now book) (now since) × (party < partiesOf (now book)) × (upto ≤ stepsOf (now book)) ⌝ }
+    requires { ⌜ WalkReady (now book) (now since) party upto ⌝ }
     ensures { λ r. ⌜ Walking (now (book .entry)) party upto kept (now (log .entry)) (now (log .exit)) at (now (out .entry)) (now (out .exit)) r ⌝ }
 {
     let entries = start(book, party);
@@ -175,7 +171,7 @@ pub struct Measured {
 // The walk with nothing lent to write to. Steps from `upto` on are not looked at: all are before it, or a smaller one is refused
 // already and nobody asks for the words.
 pub fn measure(book: &[u32], since: &[u32; 1024], party: u32, upto: u32) -> Measured
-    requires { ⌜ Valid (now book) × Claims (now book) (now since) × (party < partiesOf (now book)) × (upto ≤ stepsOf (now book)) ⌝ }
+    requires { ⌜ WalkReady (now book) (now since) party upto ⌝ }
     ensures { λ r. ⌜ (r .taken ≡ 0 → upto ≡ stepsOf (now (book .entry)) → r .words ≡ length (partWords (now (book .entry)) party)) × (r .words ≤ mostPart) × FoundBefore (now (book .entry)) party upto (r .step) (r .taken) ⌝ }
 {
     let mut log = [0u32; 1];

@@ -1,28 +1,27 @@
--- `walking::act` meets its contract: by who the party is in the step. Assumes nothing.
-use Rattle.book.specs.Headed.Laws.{valid-headed}
-use Rattle.book.specs.Span.Laws.{span-step}
-use Rattle.walking.proofs.Laws.{acts-send, acts-receive, acts-empty, acts-idle, step-span, step-fits}
+-- `walking::act` meets its contract: by who the party is in the step, its sender, its receiver or neither. Assumes
+-- nothing.
 use native.Mathlib.Omega.{arith}
 use borrow.Author.Needs.{needs}
+use Rattle.book.specs.Headed.Laws.{valid-headed}
+use Rattle.book.specs.Span.Laws.{span-step}
+use Rattle.walking.proofs.Acting.{step-ready, acts-send, acts-receive, acts-empty, acts-idle}
 use Rattle.walking.proofs.act.Statement.{statement}
 use Rattle.walking.proofs.act.Tie as tie
 
+-- the party receives the step: its messages hand out what the step does, and that fits
 receive-messages-requires : tie.Need-receive-messages-requires
-receive-messages-requires c κs = (
-  search needs,
-  omega arith,
-  search step-span,
-  let then2 : tie.Then2 = search in
-      let after-step-receiver : tie.After-step-receiver = search in
-      let else1 : tie.Else1 = search in
-      let after-step-sender : tie.After-step-sender = search in
-      let after-step-count : tie.After-step-count = search in
-      let after-step-first : tie.After-step-first = search in
-      let start : tie.Start = search in
-      step-fits _ _ _ (start .args .before) _ _ _ _ (after-step-first .step-first .ensures .0)
-      (after-step-count .step-count .ensures .0) (after-step-sender .step-sender .ensures) (else1 .if1 .left)
-      (after-step-receiver .step-receiver .ensures) (then2 .if2 .taken) (start .pre .2),
-)
+receive-messages-requires c κs =
+    let after-rows : tie.After-rows = search in
+    let then2 : tie.Then2 = search in
+    let after-step-receiver : tie.After-step-receiver = search in
+    let else1 : tie.Else1 = search in
+    let after-step-sender : tie.After-step-sender = search in
+    let after-step-count : tie.After-step-count = search in
+    let after-step-first : tie.After-step-first = search in
+    let start : tie.Start = search in
+    step-ready (start .pre) (after-rows .rows .ensures) (after-step-first .step-first .ensures .0)
+    (after-step-count .step-count .ensures .0) (after-step-sender .step-sender .ensures) (else1 .if1 .left)
+    (after-step-receiver .step-receiver .ensures) (then2 .if2 .taken)
 
 pub act-spec : {M : Type 1} → statement M
 act-spec =

@@ -1,33 +1,23 @@
--- `walking::measure` meets its contract: nothing is lent, and the places count. Assumes nothing.
-use Rattle.walking.proofs.Laws.{few-words, few-kept, measured}
+-- `walking::measure` meets its contract: nothing is lent, so that the places at which the walk ends are lengths.
+-- Assumes nothing.
 use native.Mathlib.Omega.{arith}
 use borrow.Author.Needs.{needs}
+use Rattle.walking.proofs.Lengths.{FewPlaces, few-places}
+use Rattle.walking.proofs.Whole.{measured}
 use Rattle.walking.proofs.measure.Statement.{statement}
 use Rattle.walking.proofs.measure.Tie as tie
 
-add-t10 : tie.Need-add-t10
-add-t10 c =
-    let after-walk : tie.After-walk = search in
-    let start : tie.Start = search in
-    let w = few-words _ (start .pre .0) _ (after-walk .walk .ensures) in
-    let k = few-kept _ (start .pre .0) _ (after-walk .walk .ensures) in
-    omega arith
+-- the places are few, wherever the walk has ended
+few : (c : tie.After-walk) → FewPlaces (c .walk .result .here)
+few c = search few-places
 
-add-t15 : tie.Need-add-t15
-add-t15 c =
-    let after-walk : tie.After-walk = search in
-    let start : tie.Start = search in
-    let w = few-words _ (start .pre .0) _ (after-walk .walk .ensures) in
-    let k = few-kept _ (start .pre .0) _ (after-walk .walk .ensures) in
-    omega arith
-
+-- the words are those of the events, two of END's, and two for each pair
 returns : tie.Need-returns
 returns c =
     let after-walk : tie.After-walk = search in
     let start : tie.Start = search in (
-      measured _ (start .pre .0) _ (start .pre .2) (after-walk .walk .ensures),
-      let w = few-words _ (start .pre .0) _ (after-walk .walk .ensures) in let k = few-kept _ (start .pre .0) _
-          (after-walk .walk .ensures) in omega arith,
+      measured (start .pre .valid) (start .pre .party) (after-walk .walk .ensures),
+      omega (arith, few after-walk),
       after-walk .walk .ensures .found,
     )
 
@@ -42,6 +32,6 @@ measure-spec =
     (λ c. search needs)  -- part-out-start
     (λ c. search needs)  -- part-out-end
     (λ c κs. search needs)  -- walk-requires
-    add-t10
-    add-t15
+    (λ c. omega (arith, few (search)))  -- add-t10
+    (λ c. omega (arith, few (search)))  -- add-t15
     returns)

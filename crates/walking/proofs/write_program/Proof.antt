@@ -1,33 +1,26 @@
--- `walking::write_program` meets its contract: the events, END's first words, and the pairs that the log has. Assumes nothing.
-use Rattle.words.specs.Overlay.Laws.{wrote-length}
+-- `walking::write_program` meets its contract: the events, END's first words, and the pairs that the log has. Assumes
+-- nothing.
+use Prim.Native.Nat.{_≤_}
 use mathlib.Core.Path.{refl}
-use Rattle.walking.proofs.Laws.{few-pairs, programmed}
-use Rattle.book.specs.Headed.Laws.{valid-headed}
 use native.Mathlib.Omega.{arith}
 use borrow.Author.Needs.{needs}
+use Rattle.words.specs.Overlay.Laws.{wrote-length}
+use Rattle.book.specs.Headed.Laws.{valid-headed}
+use Rattle.walking.proofs.Lengths.{few-pairs}
+use Rattle.walking.proofs.Whole.{programmed}
 use Rattle.walking.proofs.write_program.Statement.{statement}
 use Rattle.walking.proofs.write_program.Tie as tie
 
-walk-requires : tie.Need-walk-requires
-walk-requires c κs =
-    let after-steps : tie.After-steps = search in
-    let start : tie.Start = search in
-    (start .pre .0, start .pre .1, start .pre .2, let e = after-steps .steps .ensures in omega arith)
+-- the pairs are few, wherever the walk has ended
+few : (c : tie.After-walk) → c .walk .result .here .dictionary .kept ≤ 2048
+few c = search few-pairs
 
-narrow-requires : tie.Need-narrow-requires
-narrow-requires c κs =
-    let after-walk : tie.After-walk = search in
-    let start : tie.Start = search in
-    let f = few-pairs _ (start .pre .0) _ (after-walk .walk .ensures) in
-    omega arith
-
+-- and the log is as long as it was
 put-all-requires : tie.Need-put-all-requires
 put-all-requires c κs =
     let after-walk : tie.After-walk = search in
-    let start : tie.Start = search in
-    let f = few-pairs _ (start .pre .0) _ (after-walk .walk .ensures) in
-    let l = wrote-length (after-walk .walk .ensures .along .keeps) in
-    omega arith
+    let size = wrote-length (after-walk .walk .ensures .along .keeps) in
+    omega (arith, few after-walk)
 
 returns : tie.Need-returns
 returns c =
@@ -37,7 +30,7 @@ returns c =
     let after-walk : tie.After-walk = search in
     let after-steps : tie.After-steps = search in
     let start : tie.Start = search in
-    programmed _ (start .pre .0) _ (start .pre .2) refl (after-steps .steps .ensures) (start .pre .3)
+    programmed (start .pre .0) (start .pre .2) refl (after-steps .steps .ensures) (start .pre .3)
     (after-walk .walk .ensures) (after-narrow .narrow .ensures) (after-put2 .put2 .ensures)
     (after-put-all .put-all .ensures)
 
@@ -47,8 +40,8 @@ write-program-spec =
     (tie.spec
     (λ c κs. search valid-headed)  -- steps-requires
     (λ c. search needs)  -- slice-aggregate-walk
-    walk-requires
-    narrow-requires
+    (λ c κs. search needs)  -- walk-requires
+    (λ c κs. omega (arith, few (search)))  -- narrow-requires
     (λ c κs. search needs)  -- put2-requires
     (λ c. search needs)  -- slice-aggregate-put-all
     put-all-requires

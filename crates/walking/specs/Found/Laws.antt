@@ -28,7 +28,8 @@ use Rattle.walking.specs.Walk.Laws.{refused-idle}
 use Rattle.walking.specs.Found.{foundAt, FoundBefore}
 
 module _ (b : List ℕ) (s : ℕ) (h : s < steps b) where
-  made-here : (p : ℕ) → p < parties b → sender b s ≡ p → madeAt (narration b) s ≡ buildAll (terms (table b) (messages b s)) (before b p s .dictionary) .made
+  made-here : (p : ℕ) → p < parties b → sender b s ≡ p
+      → madeAt (narration b) s ≡ buildAll (terms (table b) (messages b s)) (before b p s .dictionary) .made
   unfolding madeAt stepAt
   made-here p l e =
       ap (λ a. buildAll (a .messages) (holdsBefore (narration b) (a .sender) s) .made) (step-is b s h)
@@ -36,11 +37,13 @@ module _ (b : List ℕ) (s : ℕ) (h : s < steps b) where
       ∙ ap (λ δ. buildAll (terms (table b) (messages b s)) δ .made) (before-holds b p l s (omega arith))
 
   -- what code finds is what refusal 10 says
-  found-first : (t : ℕ → Bool) → t ≡ taken (narration b) s → firstIn t 0 (madeAt (narration b) s) ≡ pick (unplayable (narration b) s) (firstTaken (narration b) s + 1) 0
+  found-first : (t : ℕ → Bool) → t ≡ taken (narration b) s
+      → firstIn t 0 (madeAt (narration b) s) ≡ pick (unplayable (narration b) s) (firstTaken (narration b) s + 1) 0
   unfolding unplayable takenAt firstTaken pick
   found-first t d = ap (λ u. firstIn u 0 (madeAt (narration b) s)) d ∙ go (unplayable (narration b) s) refl
     where
-      go : (x : Bool) → unplayable (narration b) s ≡ x → firstIn (taken (narration b) s) 0 (madeAt (narration b) s) ≡ pick x (firstTaken (narration b) s + 1) 0
+      go : (x : Bool) → unplayable (narration b) s ≡ x
+          → firstIn (taken (narration b) s) 0 (madeAt (narration b) s) ≡ pick x (firstTaken (narration b) s + 1) 0
       go true e = let z = some-taken (taken (narration b) s) (madeAt (narration b) s) e in omega arith
       go false e = none-taken (taken (narration b) s) (madeAt (narration b) s) .1 e
 
@@ -49,7 +52,9 @@ module _ (b : List ℕ) (s : ℕ) (h : s < steps b) where
   unfolding foundAt refusedFor pick
   found-exact l p δ c j d = go (eqb (sender b s) p) refl
     where
-      go : (x : Bool) → eqb (sender b s) p ≡ x → pick x (firstIn (takenIn l s) 0 (buildAll (terms (table b) (messages b s)) δ .made)) 0 ≡ pick (pick x (unplayable (narration b) s) false) (firstTaken (narration b) s + 1) 0
+      go : (x : Bool) → eqb (sender b s) p ≡ x
+          → pick x (firstIn (takenIn l s) 0 (buildAll (terms (table b) (messages b s)) δ .made)) 0
+          ≡ pick (pick x (unplayable (narration b) s) false) (firstTaken (narration b) s + 1) 0
       go true e =
           ap (firstIn (takenIn l s) 0) (ap (λ ε. buildAll (terms (table b) (messages b s)) ε .made) d ∙ sym (made-here p j (eqb-true (sender b s) p e)))
           ∙ found-first (takenIn l s) (fun-ext (λ q. c s q))

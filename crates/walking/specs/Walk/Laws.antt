@@ -16,12 +16,14 @@ use Rattle.walking.specs.Walk.{refusedFor, IdleUntil}
 
 -- ---- steps in which the party has no part
 module _ (b : List ℕ) (p : ℕ) where
-  before-idle : (i d : ℕ) → ((k : ℕ) → i ≤ k → k < i + d → (sender b k ≡ p → ⊥) × (receiver b k ≡ p → ⊥)) → before b p (i + d) ≡ before b p i
+  before-idle : (i d : ℕ) → ((k : ℕ) → i ≤ k → k < i + d → (sender b k ≡ p → ⊥) × (receiver b k ≡ p → ⊥))
+      → before b p (i + d) ≡ before b p i
   before-idle i zero h = ap (before b p) (add-zero i)
   before-idle i (suc d) h =
       let n = h (i + d) (omega arith) (omega arith) in
       let g = before b p (i + d) in
-      ap (before b p) (add-suc i d) ∙ before-more b p (i + d) ∙ ap (followed g) (step-idle b p (i + d) (g .dictionary) (length (g .given)) (n .0) (n .1)) ∙ followed-nothing g
+      ap (before b p) (add-suc i d) ∙ before-more b p (i + d)
+      ∙ ap (followed g) (step-idle b p (i + d) (g .dictionary) (length (g .given)) (n .0) (n .1)) ∙ followed-nothing g
       ∙ before-idle i d (λ k x y. h k x (omega arith))
 
   pub before-skip : {i r : ℕ} → IdleUntil b p i r → before b p r ≡ before b p i

@@ -1,0 +1,128 @@
+-- Laws of `Acting`: a party's part in one step, by who it is in the step. Of the step, code has read f and n, where its messages
+-- stand and how many they are, z, its sender, and y, its receiver. Assumes nothing.
+use Prim.Native.Nat.{ℕ, _<_}
+use native.Mathlib.Nat.{add-zero}
+use native.Mathlib.Omega.{arith}
+use mathlib.Core.List.{List, [], _∷_, map}
+use mathlib.Core.Path.{_≡_, refl, sym, ap, _∙_}
+use lib.ListN.{length, length-map}
+use borrow.Author.Tests.{eq-eqb, ne-eqb}
+use Rattle.words.specs.Choice.Laws.{pick-true, pick-false}
+use Rattle.words.specs.Run.{run}
+use Rattle.words.specs.Run.Laws.{run-length}
+use Rattle.words.specs.Overlay.{Wrote}
+use Rattle.words.specs.Overlay.Laws.{wrote-none, wrote-as}
+use Rattle.terms.specs.Term.{count, gathered, listed}
+use Rattle.terms.specs.Term.Laws.{count-gathered}
+use Rattle.terms.specs.Table.{term, terms}
+use Rattle.book.specs.Layout.{table, rows, steps, sender, receiver, stepFirst, stepCount, messages, listAt}
+use Rattle.book.specs.Span.Laws.{span-step}
+use Rattle.translation.specs.Build.{buildAll}
+use Rattle.translation.specs.Receive.{Did, Event, nothing, followed, receiveAll}
+use Rattle.translation.specs.Program.{sent}
+use Rattle.translation.specs.Listing.{programWords, pairWords, eventWords}
+use Rattle.translation.specs.Steps.Laws.{step-sends, step-receives, step-idle}
+use Rattle.holding.specs.View.{rowOf, view}
+use Rattle.holding.specs.Doing.Laws.{doing-none, doing-then, doing-as}
+use Rattle.sending.specs.Sending.{Sends}
+use Rattle.sending.specs.declared.Made.{Made}
+use Rattle.receiving.specs.declared.Received.{Received}
+use Rattle.receiving.specs.Turn.{inTurn}
+use Rattle.receiving.specs.Receiving.{listDid, ListReady, Led}
+use Rattle.walking.specs.declared.Acted.{Acted}
+use Rattle.walking.specs.Found.{foundAt}
+use Rattle.walking.specs.Walking.{actDid, ActReady, Acting}
+
+-- ---- the step's messages, where code has read that they stand
+said : (b : List ℕ) (s f n : ℕ) → f ≡ stepFirst b s → n ≡ stepCount b s → terms (table b) (listAt b f n) ≡ terms (table b) (messages b s)
+said b s f n df dn = rw (df, dn)
+
+-- ---- the party sends the step
+pub acts-send : {b l : List ℕ} {p s : ℕ} {x : Received} {f n z : ℕ} {e out outAfter log : List ℕ} {m : Made}
+    → f ≡ stepFirst b s → n ≡ stepCount b s → z ≡ sender b s → z ≡ p
+    → Sends b l s (buildAll (terms (table b) (listAt b f n)) (view b (x .dictionary .entries))) (x .at) e out outAfter m
+    → Acting b l p s x log log out outAfter
+    (record { here = record { dictionary = record { entries = e; next = x .dictionary .next; kept = x .dictionary .kept }; at = m .at }; taken = m .taken })
+unfolding pairWords foundAt
+acts-send {b} {p = p} {s = s} {x = x} df dn dz e w =
+    let same = said b s _ _ df dn in
+    let δ = view b (x .dictionary .entries) in
+    let is : sender b s ≡ p = sym dz ∙ e in
+    record {
+      doing = doing-as (record {
+        holds = w .holds ∙ ap (λ ts. buildAll ts δ .dictionary) same;
+        goes = sym (add-zero _);
+        wrote = wrote-as (w .wrote) (ap (λ ts. programWords (rowOf b) (sent s (buildAll ts δ) .events)) (sym same));
+        keeps = wrote-none;
+      }) (step-sends b p s δ (x .dictionary .next) is);
+      found = w .found ∙ sym (pick-true _ _ _ (eq-eqb (sender b s) p is) ∙ rw (← same));
+    }
+
+-- ---- it receives the step: RECEIVE, and then the messages in turn
+-- RECEIVE alone
+abbrev announced : List ℕ → ℕ → ℕ → Received → Did
+announced b s n x =
+    record { dictionary = view b (x .dictionary .entries); given = []; events = Event.receives s (x .dictionary .next) n ∷ []; stored = [] }
+
+module _ (b : List ℕ) (p s : ℕ) {f n z y : ℕ} (df : f ≡ stepFirst b s) (dn : n ≡ stepCount b s)
+    (dz : z ≡ sender b s) (e : z ≡ p → ⊥) (dy : y ≡ receiver b s) (h : y ≡ p) where
+  many : count (terms (table b) (messages b s)) ≡ n
+  unfolding terms
+  many =
+      count-gathered (map (term (table b)) (messages b s)) ∙ length-map (messages b s) (term (table b))
+      ∙ run-length b _ (stepCount b s) ∙ sym dn
+
+  step-turns : (x : Received) → actDid b p s x ≡ followed (announced b s n x) (listDid b f n x)
+  unfolding inTurn
+  step-turns x =
+      step-receives b p s (view b (x .dictionary .entries)) (x .dictionary .next) (λ q. e (dz ∙ q)) (sym dy ∙ h)
+      ∙ rw (said b s f n df dn, many)
+
+  turns-none : (x : Received) → n ≡ 0 → listDid b f n x ≡ nothing (view b (x .dictionary .entries))
+  unfolding inTurn terms run gathered listed receiveAll count
+  turns-none x o = ap (λ m. listDid b f m x) o
+
+module _ {b : List ℕ} {p s : ℕ} {x : Received} {f n z y : ℕ} where
+  -- the messages hand out what the step does, and that fits
+  pub step-ready : {d a : ℕ} → ActReady b p s x → d ≡ rows b → f ≡ stepFirst b s → n ≡ stepCount b s
+      → z ≡ sender b s → (z ≡ p → ⊥) → y ≡ receiver b s → y ≡ p → ListReady b d f n (record { dictionary = x .dictionary; at = a })
+  step-ready {d} ready dd df dn dz e dy h =
+      record {
+        valid = ready .valid;
+        bounded = omega arith;
+        span = rw dd (span-step b (ready .valid) f n s (ready .step) df dn);
+        fits = let fits = ready .fits in let same = ap (λ (g : Did). length (g .given)) (step-turns b p s df dn dz e dy h x) in omega arith;
+      }
+
+  pub acts-receive : {l log logAfter out middle outAfter : List ℕ} {a c : ℕ} {r : Received}
+      → f ≡ stepFirst b s → n ≡ stepCount b s → z ≡ sender b s → (z ≡ p → ⊥) → y ≡ receiver b s → y ≡ p → c ≡ n
+      → Wrote (3 ∷ s ∷ x .dictionary .next ∷ c ∷ []) out (x .at) middle a
+      → Led b (listDid b f n x) (record { dictionary = x .dictionary; at = a }) log logAfter middle outAfter r
+      → Acting b l p s x log logAfter out outAfter (record { here = r; taken = 0 })
+  unfolding pairWords programWords eventWords foundAt
+  acts-receive {log = log} {out = out} {middle = middle} {a = a} df dn dz e dy h dc w t =
+      let head : Led b (announced b s n x) x log log out middle (record { dictionary = x .dictionary; at = a }) =
+      record { holds = refl; goes = sym (add-zero _); wrote = wrote-as w (rw dc); keeps = wrote-none } in
+      record {
+        doing = doing-as (doing-then b _ _ head t) (step-turns b p s df dn dz e dy h x);
+        found = sym (pick-false _ _ _ (ne-eqb (sender b s) p (λ q. e (dz ∙ q))));
+      }
+
+  -- with no messages RECEIVE is all
+  pub acts-empty : {l log out middle : List ℕ} {a c : ℕ}
+      → f ≡ stepFirst b s → n ≡ stepCount b s → z ≡ sender b s → (z ≡ p → ⊥) → y ≡ receiver b s → y ≡ p → c ≡ n → n ≡ 0
+      → Wrote (3 ∷ s ∷ x .dictionary .next ∷ c ∷ []) out (x .at) middle a
+      → Acting b l p s x log log out middle (record { here = record { dictionary = x .dictionary; at = a }; taken = 0 })
+  acts-empty df dn dz e dy h dc o w = acts-receive df dn dz e dy h dc w (doing-as doing-none (turns-none b p s df dn dz e dy h x o))
+
+-- ---- it has no part in the step
+pub acts-idle : {b l : List ℕ} {p s : ℕ} {x : Received} {z y : ℕ} {log out : List ℕ}
+    → z ≡ sender b s → (z ≡ p → ⊥) → y ≡ receiver b s → (y ≡ p → ⊥)
+    → Acting b l p s x log log out out (record { here = x; taken = 0 })
+unfolding foundAt
+acts-idle {b} {p = p} {s = s} {x = x} dz e dy h =
+    let no : sender b s ≡ p → ⊥ = λ q. e (dz ∙ q) in
+    record {
+      doing = doing-as doing-none (step-idle b p s (view b (x .dictionary .entries)) (x .dictionary .next) no (λ q. h (dy ∙ q)));
+      found = sym (pick-false _ _ _ (ne-eqb (sender b s) p no));
+    }

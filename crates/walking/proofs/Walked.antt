@@ -1,0 +1,114 @@
+-- The walk, step by step: `Walked` says how far it got, and its laws are the loop's. Assumes nothing.
+use Prim.Native.Nat.{ℕ, _+_, _≤_, _<_}
+use native.Mathlib.Numerals.{add-one}
+use native.Mathlib.Omega.{arith}
+use mathlib.Core.List.{List, map}
+use mathlib.Core.Path.{_≡_, sym, ap, ap₂, _∙_}
+use lib.ListN.{length, length-append}
+use Rattle.words.specs.Choice.{pick}
+use Rattle.words.specs.Overlay.Laws.{wrote-length}
+use Rattle.terms.specs.Table.{term}
+use Rattle.book.specs.Layout.{table, steps, known}
+use Rattle.translation.specs.Dictionary.{start}
+use Rattle.translation.specs.Receive.{Did, followed}
+use Rattle.translation.specs.Narration.{narration}
+use Rattle.translation.specs.Taken.{firstTaken}
+use Rattle.translation.specs.Steps.{stepDid, before}
+use Rattle.translation.specs.Steps.Laws.{before-none, before-more}
+use Rattle.translation.specs.Long.Laws.{all-within}
+use Rattle.holding.specs.View.{rowOf, view}
+use Rattle.holding.specs.Doing.Laws.{doing-none, doing-then, doing-as}
+use Rattle.receiving.specs.declared.Dictionary.{Dictionary}
+use Rattle.receiving.specs.declared.Received.{Received}
+use Rattle.receiving.specs.Receiving.{Fits}
+use Rattle.walking.specs.declared.Acted.{Acted}
+use Rattle.walking.specs.Walk.{refusedFor, Unrefused, IdleUntil}
+use Rattle.walking.specs.Walk.Laws.{before-skip}
+use Rattle.walking.specs.Found.{FoundBefore}
+use Rattle.walking.specs.Found.Laws.{found-exact, found-here, unrefused-on, unrefused-skip}
+use Rattle.walking.specs.Walking.{actDid, Acting, WalkReady, Along, Walking}
+
+-- party p came through the first i steps, with the places k and a at the start, and none of them is refused for it
+pub record Walked (b : List ℕ) (p i k : ℕ) (log₀ log : List ℕ) (a : ℕ) (out₀ out : List ℕ) (x : Received) : Type 0 where
+  pub within : i ≤ steps b
+  pub along : Along b p i k log₀ log a out₀ out x
+  pub unrefused : Unrefused b p i
+
+-- steps in which the party has no part add nothing
+walked-skip : {b : List ℕ} {p i j k a : ℕ} {log₀ log out₀ out : List ℕ} {x : Received}
+    → IdleUntil b p i j → Along b p i k log₀ log a out₀ out x → Unrefused b p i → Walked b p j k log₀ log a out₀ out x
+walked-skip {b} {p} w g u = record { within = w .within; along = doing-as g (before-skip b p w); unrefused = unrefused-skip w u }
+
+-- ---- at the start the party holds what it knows
+pub walked-start : {b : List ℕ} {p i k a : ℕ} {log out e : List ℕ} {d : Dictionary}
+    → view b e ≡ start (map (term (table b)) (known b p)) → (d .entries ≡ e) × (d .next ≡ 0) × (d .kept ≡ k) → IdleUntil b p 0 i
+    → Walked b p i k log log a out out (record { dictionary = d; at = a })
+walked-start {b} {p} {e = e} h w idle =
+    walked-skip idle (rw (w .0, w .1, w .2) (doing-as (rw (← h) (doing-none {b = b} {x = e})) (before-none b p))) (λ k l. absurd (omega arith))
+
+module _ {b l : List ℕ} {p upto i k a : ℕ} {log₀ log out₀ out : List ℕ} {x : Received}
+    (ready : WalkReady b l p upto) (h : i < upto) (g : Walked b p i k log₀ log a out₀ out x) where
+  in-book : i < steps b
+  in-book = let u = ready .within in omega arith
+
+  -- what the party does in step i, from where it stands, is what it does there
+  same-did : actDid b p i x ≡ stepDid b p i (before b p i .dictionary) (length (before b p i .given))
+  same-did = let n = g .along .goes in ap₂ (stepDid b p i) (g .along .holds) (omega arith)
+
+  one-more : before b p (i + 1) ≡ followed (before b p i) (actDid b p i x)
+  one-more = ap (before b p) (add-one i) ∙ before-more b p i ∙ ap (followed (before b p i)) (sym same-did)
+
+  -- ---- there is room for the placeholders of one step more
+  pub walked-fits : Fits x (actDid b p i x)
+  walked-fits =
+      let n = g .along .goes in
+      let j = in-book in
+      let w = all-within b (ready .valid) (rowOf b) p (i + 1) (omega arith) .given in
+      let e = ap (λ (d : Did). length (d .given)) one-more in
+      let c = length-append (before b p i .given) (actDid b p i x .given) in
+      omega arith
+
+  module _ {logAfter outAfter : List ℕ} {r : Acted} (w : Acting b l p i x log logAfter out outAfter r) where
+    further : Along b p (i + 1) k log₀ logAfter a out₀ outAfter (r .here)
+    further = doing-as (doing-then b _ _ (g .along) (w .doing)) one-more
+
+    -- what the step found is what refusal 10 says of it
+    exact : r .taken ≡ pick (refusedFor b p i) (firstTaken (narration b) i + 1) 0
+    exact = w .found ∙ found-exact b i in-book l p _ (ready .claims) (ready .party) (g .along .holds)
+
+    -- ---- a step at which something was found is the last
+    pub walked-stops : (r .taken ≡ 0 → ⊥) → Walking b p upto k log₀ logAfter a out₀ outAfter (record { here = r .here; step = i; taken = r .taken })
+    walked-stops z =
+        let j = in-book in
+        record {
+          far = i + 1;
+          within = omega arith;
+          along = further;
+          found = found-here b p i (r .taken) exact h (g .unrefused) z;
+          whole = λ e m. absurd (z e);
+        }
+
+    -- ---- else the walk goes on to the party's next step
+    pub walked-on : {j : ℕ} → r .taken ≡ 0 → IdleUntil b p (i + 1) j → Walked b p j k log₀ logAfter a out₀ outAfter (r .here)
+    walked-on z idle = walked-skip idle further (unrefused-on b p i (r .taken) exact (g .unrefused) z)
+
+-- ---- what was lent keeps its length
+module _ {b l : List ℕ} {p i k a : ℕ} {log₀ log logAfter out₀ out outAfter : List ℕ} {x : Received} {r : Acted}
+    (g : Walked b p i k log₀ log a out₀ out x) (w : Acting b l p i x log logAfter out outAfter r) where
+  pub acted-log : length logAfter ≡ length log₀
+  acted-log = wrote-length (w .doing .keeps) ∙ wrote-length (g .along .keeps)
+
+  pub acted-out : length outAfter ≡ length out₀
+  acted-out = wrote-length (w .doing .wrote) ∙ wrote-length (g .along .wrote)
+
+-- ---- nothing was found
+pub walked-ends : {b : List ℕ} {p upto i k s a : ℕ} {log₀ log out₀ out : List ℕ} {x : Received}
+    → Walked b p i k log₀ log a out₀ out x → upto ≤ i → Walking b p upto k log₀ log a out₀ out (record { here = x; step = s; taken = 0 })
+walked-ends {i = i} g h =
+    record {
+      far = i;
+      within = g .within;
+      along = g .along;
+      found = FoundBefore.none (λ k l. g .unrefused k (omega arith));
+      whole = λ e z. let m = g .within in omega arith;
+    }

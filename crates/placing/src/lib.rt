@@ -16,12 +16,12 @@ use sending::make_list;
 use words::narrow;
 use words::wide;
 ghost use mathlib.Core.Path.{_≡_};
-ghost use Prim.Native.Nat.{_+_, _<_};
+ghost use Prim.Native.Nat.{_+_};
 ghost use lib.ListN.{length};
-ghost use Rattle.book.specs.Layout.{parties as partiesOf, steps as stepsOf, sender, receiver};
+ghost use Rattle.book.specs.Layout.{sender, receiver};
 ghost use Rattle.book.specs.Valid.{Valid};
 ghost use Rattle.placing.specs.Placed.{Placed};
-ghost use Rattle.placing.specs.Through.{Through, StepNoted, PartyNoted};
+ghost use Rattle.placing.specs.Through.{Through, StepReady, PlaceStepReady, PlacePartyReady, StepNoted, PartyNoted};
 
 // How far a party got: what it holds, and how many events it has had.
 struct Counted {
@@ -30,13 +30,13 @@ struct Counted {
 }
 
 // A step that the party sends: a NEW for each atom that has to be made, then the SEND.
-fn make_step(book: &[u32], before: Counted, step: u32) -> Counted
-    requires { ⌜ Valid (now book) × (step < stepsOf (now book)) × Through (now book) (sender (now book) step) step before ⌝ }
+fn make_step(book: &[u32], from: Counted, step: u32) -> Counted
+    requires { ⌜ StepReady (now book) (sender (now book) step) step from ⌝ }
     ensures { λ r. ⌜ Through (now (book .entry)) (sender (now (book .entry)) step) (step + 1) r ⌝ }
 {
     let since = [0u32; 1024];
     let mut out = [0u32; 1];
-    let mut here = before;
+    let mut here = from;
     let made = make_list(
         book,
         &since,
@@ -48,18 +48,18 @@ fn make_step(book: &[u32], before: Counted, step: u32) -> Counted
         Made { at: 0, taken: 0 },
         &mut out[0..0],
     );
-    here.events = before.events + narrow(made.at / 2) + 1;
+    here.events = from.events + narrow(made.at / 2) + 1;
     here
 }
 
 // A step that it receives: the RECEIVE, then a CHECK or an OPEN for each placeholder handed out under which nothing is stored.
-fn take_step(book: &[u32], before: Counted, step: u32) -> Counted
-    requires { ⌜ Valid (now book) × (step < stepsOf (now book)) × Through (now book) (receiver (now book) step) step before ⌝ }
+fn take_step(book: &[u32], from: Counted, step: u32) -> Counted
+    requires { ⌜ StepReady (now book) (receiver (now book) step) step from ⌝ }
     ensures { λ r. ⌜ Through (now (book .entry)) (receiver (now (book .entry)) step) (step + 1) r ⌝ }
 {
     let mut log = [0u32; 1];
     let mut out = [0u32; 1];
-    let held = before.dictionary;
+    let held = from.dictionary;
     let there = receive_messages(
         book,
         Received {
@@ -73,43 +73,42 @@ fn take_step(book: &[u32], before: Counted, step: u32) -> Counted
         &mut out[0..0],
     );
     let dictionary = there.dictionary;
-    let given = dictionary.next - before.dictionary.next;
-    let stored = narrow((dictionary.kept - before.dictionary.kept) / 2);
+    let given = dictionary.next - from.dictionary.next;
+    let stored = narrow((dictionary.kept - from.dictionary.kept) / 2);
     Counted {
         dictionary,
-        events: before.events + 1 + given - stored,
+        events: from.events + 1 + given - stored,
     }
 }
 
 // A party's part in one step. The SEND is the last event of its step, the RECEIVE the first.
 fn place_step(
     book: &[u32],
-    before: Counted,
+    from: Counted,
     party: u32,
     step: u32,
     sends: &mut [u32; 64],
     receives: &mut [u32; 64],
 ) -> Counted
-    requires { ⌜ Valid (now book) × (step < stepsOf (now book)) × (party < partiesOf (now book)) × Through (now book) party step before
-        × (length (now sends) ≡ 64) × (length (now receives) ≡ 64) ⌝ }
+    requires { ⌜ PlaceStepReady (now book) party step from (now sends) (now receives) ⌝ }
     ensures { λ r. ⌜ Through (now (book .entry)) party (step + 1) r
         × StepNoted (now (book .entry)) party step (now (sends .entry)) (now (sends .exit)) (now (receives .entry)) (now (receives .exit)) ⌝ }
 {
     if step_sender(book, step) == party {
-        let sent = make_step(book, before, step);
+        let sent = make_step(book, from, step);
         sends[wide(step)] = sent.events - 1;
         return sent;
     }
     if step_receiver(book, step) == party {
-        receives[wide(step)] = before.events;
-        return take_step(book, before, step);
+        receives[wide(step)] = from.events;
+        return take_step(book, from, step);
     }
-    before
+    from
 }
 
 // All steps, for one party. Gives the place of its END.
 fn place_party(book: &[u32], party: u32, sends: &mut [u32; 64], receives: &mut [u32; 64]) -> u32
-    requires { ⌜ Valid (now book) × (party < partiesOf (now book)) × (length (now sends) ≡ 64) × (length (now receives) ≡ 64) ⌝ }
+    requires { ⌜ PlacePartyReady (now book) party (now sends) (now receives) ⌝ }
     ensures { λ r. ⌜ PartyNoted (now (book .entry)) party (now (sends .entry)) (now (sends .exit)) (now (receives .entry)) (now (receives .exit)) r ⌝ }
 {
     let n = steps(book);

@@ -1,19 +1,20 @@
--- `placing::take_step` meets its contract: each placeholder handed out is compared, opened or stored. Assumes nothing.
-use Prim.Native.Nat.{ℕ}
+-- `placing::take_step` meets its contract: each placeholder handed out is compared, opened or stored, so that the events
+-- are the placeholders less what is stored, and RECEIVE. Assumes nothing.
 use native.Mathlib.Omega.{arith}
 use borrow.Author.Needs.{needs}
 use Rattle.book.specs.Headed.Laws.{valid-headed}
-use Rattle.book.specs.Span.Laws.{span-step}
-use Rattle.placing.proofs.Laws.{Took, took, took-counts, turn-fits}
+use Rattle.placing.proofs.Took.{Took, took-ready, took, took-counts}
 use Rattle.placing.proofs.take_step.Statement.{statement}
 use Rattle.placing.proofs.take_step.Tie as tie
 
 receive-messages-requires : tie.Need-receive-messages-requires
 receive-messages-requires c κs =
-    let start : tie.Start = search in
     let after-rows : tie.After-rows = search in
-    let e = after-rows .rows .ensures in
-    (start .pre .0, omega arith, rw e (search span-step), search turn-fits)
+    let after-step-count : tie.After-step-count = search in
+    let after-step-first : tie.After-step-first = search in
+    let start : tie.Start = search in
+    took-ready (start .pre) (after-step-first .step-first .ensures .0) (after-step-count .step-count .ensures .0)
+    (after-rows .rows .ensures)
 
 -- what the messages took, wherever they have been received
 module _ (c : tie.After-receive-messages) where
@@ -26,9 +27,12 @@ module _ (c : tie.After-receive-messages) where
   abbrev count : tie.After-step-count
   count = search
 
-  taken : Took (start .args .book .now) (start .args .before) (first .step-first .result) (count .step-count .result) (c .receive-messages .result)
-  taken = search took
+  taken : Took (start .args .book .now) (start .args .from) (first .step-first .result) (count .step-count .result)
+      (c .receive-messages .result)
+  taken =
+      took (start .pre) (first .step-first .ensures .0) (count .step-count .ensures .0) (c .receive-messages .ensures)
 
+-- a stored term took two words of the log
 returns : tie.Need-returns
 returns c =
     let after-narrow : tie.After-narrow = search in
@@ -36,9 +40,8 @@ returns c =
     let after-step-count : tie.After-step-count = search in
     let after-step-first : tie.After-step-first = search in
     let here : tie.Start = search in
-    took-counts _ (here .pre .0) _ (here .pre .1) _ _ _ (after-step-first .step-first .ensures .0)
-    (after-step-count .step-count .ensures .0) (here .pre .2) (after-receive-messages .receive-messages .ensures) _
-    (after-narrow .narrow .ensures)
+    took-counts (here .pre) (after-step-first .step-first .ensures .0) (after-step-count .step-count .ensures .0)
+    (after-receive-messages .receive-messages .ensures) (after-narrow .narrow .ensures)
 
 pub take-step-spec : {M : Type 1} → statement M
 take-step-spec =

@@ -32,11 +32,13 @@ step-span b v d s f n e h df dn = rw e (span-step b v f n s h df dn)
 pub said : (b : List ℕ) (s f n : ℕ) → f ≡ stepFirst b s → n ≡ stepCount b s → terms (table b) (listAt b f n) ≡ terms (table b) (messages b s)
 said b s f n df dn = rw (df, dn)
 
-pub few-said : (b : List ℕ) → Valid b → (s f n : ℕ) → s < steps b → f ≡ stepFirst b s → n ≡ stepCount b s → sizes (terms (table b) (listAt b f n)) ≤ stepSize
+pub few-said : (b : List ℕ) → Valid b → (s f n : ℕ) → s < steps b → f ≡ stepFirst b s → n ≡ stepCount b s
+    → sizes (terms (table b) (listAt b f n)) ≤ stepSize
 few-said b v s f n h df dn = rw (said b s f n df dn) (step-sizes b v s h)
 
 -- ---- one step more
-pub step-more : (b : List ℕ) (p s : ℕ) → before b p (s + 1) ≡ followed (before b p s) (stepDid b p s (before b p s .dictionary) (length (before b p s .given)))
+pub step-more : (b : List ℕ) (p s : ℕ)
+    → before b p (s + 1) ≡ followed (before b p s) (stepDid b p s (before b p s .dictionary) (length (before b p s .given)))
 step-more b p s = ap (before b p) (add-one s) ∙ before-more b p s
 
 -- the doing may be named otherwise

@@ -1,5 +1,5 @@
--- `placing::place_party` meets its contract: one step more, and what was noted stays; END comes behind the events of all
--- steps. Assumes nothing.
+-- `placing::place_party` meets its contract: one step more, and what was noted stays; END comes behind the events of
+-- all steps. Assumes nothing.
 use Prim.Native.Nat.{_-_}
 use native.Mathlib.Omega.{arith}
 use borrow.Author.Needs.{needs}

@@ -1,5 +1,5 @@
--- `placing::place_step` meets its contract: by who the party is in the step, its sender, its receiver or neither. Assumes
--- nothing.
+-- `placing::place_step` meets its contract: by who the party is in the step, its sender, its receiver or neither.
+-- Assumes nothing.
 use native.Mathlib.Omega.{arith}
 use borrow.Author.Needs.{needs}
 use Rattle.book.specs.Headed.Laws.{valid-headed}

@@ -1,5 +1,5 @@
--- `placing::take_step` meets its contract: each placeholder handed out is compared, opened or stored, so that the events
--- are the placeholders less what is stored, and RECEIVE. Assumes nothing.
+-- `placing::take_step` meets its contract: each placeholder handed out is compared, opened or stored, so that the
+-- events are RECEIVE and the placeholders less what is stored. Assumes nothing.
 use native.Mathlib.Omega.{arith}
 use borrow.Author.Needs.{needs}
 use Rattle.book.specs.Headed.Laws.{valid-headed}

@@ -35,37 +35,48 @@ pub record Quiet (t : Event → Bool) : Type 0 where
   pub opens : (x f n : ℕ) (i : Image) → t (Event.opens x f n i) ≡ false
 
 module _ (t : Event → Bool) (q : Quiet t) (b : List ℕ) (p : ℕ) where
-  quiet-step : (i : ℕ) (δ : Dictionary) (n : ℕ) → ((is : Images) → t (Event.sends i is) ≡ false) → ((f c : ℕ) → t (Event.receives i f c) ≡ false) → None t (stepDid b p i δ n .events)
-  quiet-step i δ n h k = go (ℕ-discrete (sender b i) p) (ℕ-discrete (receiver b i) p)
+  -- t passes neither the SEND nor the RECEIVE of step i
+  abbrev QuietAt : ℕ → Type 0
+  QuietAt i = ((is : Images) → t (Event.sends i is) ≡ false) × ((f c : ℕ) → t (Event.receives i f c) ≡ false)
+
+  quiet-step : (i : ℕ) (δ : Dictionary) (n : ℕ) → QuietAt i → None t (stepDid b p i δ n .events)
+  quiet-step i δ n h = go (ℕ-discrete (sender b i) p) (ℕ-discrete (receiver b i) p)
     where
       go : Dec (sender b i ≡ p) → Dec (receiver b i ≡ p) → None t (stepDid b p i δ n .events)
       go (yes e) r =
           let g = buildAll (terms (table b) (messages b i)) δ in
-          rw (step-sends b p i δ n e) (none-append t (map Event.new (g .made)) (Event.sends i (g .images) ∷ []) (none-news t (q .news) (g .made)) (h (g .images), tt))
-      go (no e) (yes r) = rw (step-receives b p i δ n e r) (k n (count (terms (table b) (messages b i))), none-receiveAll t (q .checks) (q .opens) (terms (table b) (messages b i)) n δ (n + count (terms (table b) (messages b i))))
+          rw (step-sends b p i δ n e)
+          (none-append t (map Event.new (g .made)) (Event.sends i (g .images) ∷ []) (none-news t (q .news) (g .made)) (h .0 (g .images), tt))
+      go (no e) (yes r) =
+          let ts = terms (table b) (messages b i) in
+          rw (step-receives b p i δ n e r) (h .1 n (count ts), none-receiveAll t (q .checks) (q .opens) ts n δ (n + count ts))
       go (no e) (no r) = rw (step-idle b p i δ n e r) tt
 
-  quiet-before : (i : ℕ) → ((j : ℕ) → j < i → (is : Images) → t (Event.sends j is) ≡ false) → ((j : ℕ) → j < i → (f c : ℕ) → t (Event.receives j f c) ≡ false) → None t (before b p i .events)
-  quiet-before zero h k = rw (before-none b p) tt
-  quiet-before (suc i) h k =
-      rw (before-more b p i) (none-append t (before b p i .events) _ (quiet-before i (λ j l. h j (omega arith)) (λ j l. k j (omega arith)))
-      (quiet-step i (before b p i .dictionary) (length (before b p i .given)) (h i (omega arith)) (k i (omega arith))))
+  quiet-before : (i : ℕ) → ((j : ℕ) → j < i → QuietAt j) → None t (before b p i .events)
+  quiet-before zero h = rw (before-none b p) tt
+  quiet-before (suc i) h =
+      rw (before-more b p i) (none-append t (before b p i .events) _ (quiet-before i (λ j l. h j (omega arith)))
+      (quiet-step i (before b p i .dictionary) (length (before b p i .given)) (h i (omega arith))))
 
   -- ---- what stands in the events of some steps stands there, whatever comes later
-  stays : (i m : ℕ) → ((fs : List Event) → placeOf t (before b p i .events ++ fs) ≡ m) → (k : ℕ) (fs : List Event) → placeOf t (before b p (i + k) .events ++ fs) ≡ m
+  stays : (i m : ℕ) → ((fs : List Event) → placeOf t (before b p i .events ++ fs) ≡ m)
+      → (k : ℕ) (fs : List Event) → placeOf t (before b p (i + k) .events ++ fs) ≡ m
   stays i m h zero fs = rw add-zero (h fs)
   stays i m h (suc k) fs =
       let d = stepDid b p (i + k) (before b p (i + k) .dictionary) (length (before b p (i + k) .given)) in
       let e : before b p (i + suc k) ≡ followed (before b p (i + k)) d = ap (before b p) (omega arith) ∙ before-more b p (i + k) in
-      ap (λ (x : Did). placeOf t (x .events ++ fs)) e ∙ ap (placeOf t) (append-assoc (before b p (i + k) .events) (d .events) fs) ∙ stays i m h k (d .events ++ fs)
+      ap (λ (x : Did). placeOf t (x .events ++ fs)) e ∙ ap (placeOf t) (append-assoc (before b p (i + k) .events) (d .events) fs)
+      ∙ stays i m h k (d .events ++ fs)
 
-  stands : (i m : ℕ) → i ≤ steps b → p < parties b → ((fs : List Event) → placeOf t (before b p i .events ++ fs) ≡ m) → placeOf t (programOf (narration b) p) ≡ m
+  stands : (i m : ℕ) → i ≤ steps b → p < parties b → ((fs : List Event) → placeOf t (before b p i .events ++ fs) ≡ m)
+      → placeOf t (programOf (narration b) p) ≡ m
   stands i m l g h =
       let z : i + (steps b - i) ≡ steps b = omega arith in
       ap (placeOf t) (before-all b p g) ∙ (rw z at (stays i m h (steps b - i) (Event.ends (before b p (steps b) .stored) ∷ [])))
 
 -- an event that passes, behind others that do not
-place-in : (t : Event → Bool) (xs ys zs fs : List Event) (e : Event) → None t xs → None t ys → t e ≡ true → placeOf t ((xs ++ (ys ++ e ∷ zs)) ++ fs) ≡ length xs + length ys
+place-in : (t : Event → Bool) (xs ys zs fs : List Event) (e : Event) → None t xs → None t ys → t e ≡ true
+    → placeOf t ((xs ++ (ys ++ e ∷ zs)) ++ fs) ≡ length xs + length ys
 place-in t xs ys zs fs e n m h =
     let g : (xs ++ (ys ++ e ∷ zs)) ++ fs ≡ (xs ++ ys) ++ e ∷ (zs ++ fs) = simp append-assoc in
     ap (placeOf t) g ∙ place-first t (xs ++ ys) (zs ++ fs) e (none-append t xs ys n m) h ∙ length-append xs ys
@@ -93,13 +104,18 @@ module _ (b : List ℕ) (v : Valid b) where
         let d = before b p s in
         let g = buildAll (terms (table b) (messages b s)) (d .dictionary) in
         let news = map Event.new (g .made) in
-        let e : before b p (s + 1) ≡ followed d (sent s g) = ap (before b p) (add-one s) ∙ before-more b p s ∙ ap (followed d) (step-sends b p s (d .dictionary) (length (d .given)) refl) in
-        let n : None (isSend s) (d .events) = quiet-before (isSend s) (quiet-send s) b p s (λ j l is. ne-eqb j s (λ z. absurd (omega arith))) (λ j l f c. refl) in
+        let send = Event.sends s (g .images) in
+        let e : before b p (s + 1) ≡ followed d (sent s g) =
+        ap (before b p) (add-one s) ∙ before-more b p s ∙ ap (followed d) (step-sends b p s (d .dictionary) (length (d .given)) refl) in
+        let n : None (isSend s) (d .events) =
+        quiet-before (isSend s) (quiet-send s) b p s (λ j l. (λ is. ne-eqb j s (λ z. absurd (omega arith)), λ f c. refl)) in
         let m : placesOf b .sends s ≡ length (d .events) + length news =
         stands (isSend s) (quiet-send s) b p (s + 1) (length (d .events) + length news) (omega arith) (v .stepsKeep s h .sends)
-        (λ fs. ap (λ (x : Did). placeOf (isSend s) (x .events ++ fs)) e ∙ place-in (isSend s) (d .events) news [] fs (Event.sends s (g .images)) n (none-news (isSend s) (λ r. refl) (g .made)) (eq-eqb s s refl)) in
+        (λ fs. ap (λ (x : Did). placeOf (isSend s) (x .events ++ fs)) e
+        ∙ place-in (isSend s) (d .events) news [] fs send n (none-news (isSend s) (λ r. refl) (g .made)) (eq-eqb s s refl)) in
         let c : length (before b p (s + 1) .events) ≡ length (d .events) + (length news + 1) =
-        ap (λ (x : Did). length (x .events)) e ∙ length-append (d .events) (news ++ Event.sends s (g .images) ∷ []) ∙ ap (λ k. length (d .events) + k) (length-append news (Event.sends s (g .images) ∷ [])) in
+        ap (λ (x : Did). length (x .events)) e ∙ length-append (d .events) (news ++ send ∷ [])
+        ∙ ap (λ k. length (d .events) + k) (length-append news (send ∷ [])) in
         omega arith
 
     -- the RECEIVE is the first
@@ -113,16 +129,19 @@ module _ (b : List ℕ) (v : Valid b) where
         let r = receiveAll ts n (d .dictionary) (n + count ts) in
         let e : before b p (s + 1) ≡ followed d (followed (arrived s ts (d .dictionary) n) r) =
         ap (before b p) (add-one s) ∙ before-more b p s ∙ ap (followed d) (step-receives b p s (d .dictionary) n (v .stepsKeep s h .two) refl) in
-        let q : None (isReceive s) (d .events) = quiet-before (isReceive s) (quiet-receive s) b p s (λ j l is. refl) (λ j l f c. ne-eqb j s (λ z. absurd (omega arith))) in
+        let q : None (isReceive s) (d .events) =
+        quiet-before (isReceive s) (quiet-receive s) b p s (λ j l. (λ is. refl, λ f c. ne-eqb j s (λ z. absurd (omega arith)))) in
         stands (isReceive s) (quiet-receive s) b p (s + 1) (length (d .events)) (omega arith) (v .stepsKeep s h .receives)
-        (λ fs. ap (λ (x : Did). placeOf (isReceive s) (x .events ++ fs)) e ∙ place-in (isReceive s) (d .events) [] (r .events) fs (Event.receives s n (count ts)) q tt (eq-eqb s s refl) ∙ add-zero _)
+        (λ fs. ap (λ (x : Did). placeOf (isReceive s) (x .events ++ fs)) e
+        ∙ place-in (isReceive s) (d .events) [] (r .events) fs (Event.receives s n (count ts)) q tt (eq-eqb s s refl) ∙ add-zero _)
 
   -- END comes last
   pub end-place : (p : ℕ) → p < parties b → placesOf b .ends p ≡ length (before b p (steps b) .events)
   unfolding placesOf isEnd standingAt ifEnded
   end-place p h =
       ap (placeOf isEnd) (before-all b p h)
-      ∙ place-first isEnd (before b p (steps b) .events) [] (Event.ends (before b p (steps b) .stored)) (quiet-before isEnd quiet-end b p (steps b) (λ j l is. refl) (λ j l f c. refl)) refl
+      ∙ place-first isEnd (before b p (steps b) .events) [] (Event.ends (before b p (steps b) .stored))
+      (quiet-before isEnd quiet-end b p (steps b) (λ j l. (λ is. refl, λ f c. refl))) refl
 
 -- ---- how many events a party has at most
 event-some : (row : Term → ℕ) (e : Event) → 1 ≤ length (eventWords row e)

@@ -17,7 +17,7 @@ use Rattle.holding.specs.View.{view}
 use Rattle.receiving.specs.declared.Dictionary.{Dictionary}
 use Rattle.placing.specs.declared.Counted.{Counted}
 use Rattle.placing.specs.Placed.Laws.{send-place, receive-place, end-place}
-use Rattle.placing.specs.Through.{Through, StepReady, PlaceStepReady, PlacePartyReady, ThisStep, EarlierSteps, StepNoted, StepsNoted, PartyNoted}
+use Rattle.placing.specs.Through.{Through, StepReady, PlaceStepReady, PlacePartyReady, ThisStep, EarlierSteps, StepPlaced, StepsNoted, PartyNoted}
 use Rattle.placing.specs.Through.Laws.{noted-none, noted-set, noted-then}
 use Rattle.placing.proofs.Messages.{few-steps, step-more, counts-as}
 
@@ -34,49 +34,52 @@ module _ {b : List ℕ} {p i : ℕ} {g : Counted} {x y : List ℕ} (ready : Plac
 
   -- it sends: the SEND is the step's last event
   pub step-sent : {r : Counted} {z w v : ℕ} → z ≡ sender b i → z ≡ p → Through b (sender b i) (i + 1) r → w ≡ i → v ≡ r .events - 1
-      → Through b p (i + 1) r × StepNoted b p i x (set x w v) y y
+      → StepPlaced b p i x (set x w v) y y r
   step-sent {r} dz e t dw dv =
       let m = few-steps b (ready .valid) in
       let h = ready .step in
       let l = ready .sends-size in
       let k = t .events in
-      let q = send-place b (ready .valid) i h in (
-        rw (sym dz ∙ e) at t,
-        record {
+      let q = send-place b (ready .valid) i h in
+      record {
+        through = rw (sym dz ∙ e) at t;
+        noted = record {
           sends = rw (dw, dv) (noted-set (placesOf b .sends) (ThisStep (sender b) p i) x i (r .events - 1) (omega arith) (omega arith) (λ s k. k .0));
           receives = noted-none (placesOf b .receives) (ThisStep (receiver b) p i) y
               (λ s k. ready .valid .stepsKeep i h .two (sym dz ∙ e ∙ sym (k .1) ∙ ap (receiver b) (k .0)));
-        },
-      )
+        };
+      }
 
   -- it receives: the RECEIVE is the step's first event
   pub step-received : {r : Counted} {z c w : ℕ} → z ≡ sender b i → (z ≡ p → ⊥) → c ≡ receiver b i → c ≡ p → w ≡ i
-      → Through b (receiver b i) (i + 1) r → Through b p (i + 1) r × StepNoted b p i x x y (set y w (g .events))
+      → Through b (receiver b i) (i + 1) r → StepPlaced b p i x x y (set y w (g .events)) r
   step-received dz n dc e dw u =
       let m = few-steps b (ready .valid) in
       let h = ready .step in
       let l = ready .receives-size in
       let place : g .events ≡ placesOf b .receives i =
-      ready .through .events ∙ ap (λ q. length (before b q i .events)) (sym e ∙ dc) ∙ sym (receive-place b (ready .valid) i h) in (
-        rw (sym dc ∙ e) at u,
-        record {
+      ready .through .events ∙ ap (λ q. length (before b q i .events)) (sym e ∙ dc) ∙ sym (receive-place b (ready .valid) i h) in
+      record {
+        through = rw (sym dc ∙ e) at u;
+        noted = record {
           sends = noted-none (placesOf b .sends) (ThisStep (sender b) p i) x (λ s k. n (dz ∙ ap (sender b) (sym (k .0)) ∙ k .1));
           receives = rw dw (noted-set (placesOf b .receives) (ThisStep (receiver b) p i) y i (g .events) (omega arith) place (λ s k. k .0));
-        },
-      )
+        };
+      }
 
   -- it has no part
   pub step-idles : {z c : ℕ} → z ≡ sender b i → (z ≡ p → ⊥) → c ≡ receiver b i → (c ≡ p → ⊥)
-      → Through b p (i + 1) g × StepNoted b p i x x y y
+      → StepPlaced b p i x x y y g
   step-idles dz n dc m =
       let d = before b p i in
-      let idle = step-idle b p i (d .dictionary) (length (d .given)) (λ q. n (dz ∙ q)) (λ q. m (dc ∙ q)) in (
-        counts-as (ready .through) (step-more b p i ∙ ap (followed d) idle ∙ followed-nothing d),
-        record {
+      let idle = step-idle b p i (d .dictionary) (length (d .given)) (λ q. n (dz ∙ q)) (λ q. m (dc ∙ q)) in
+      record {
+        through = counts-as (ready .through) (step-more b p i ∙ ap (followed d) idle ∙ followed-nothing d);
+        noted = record {
           sends = noted-none (placesOf b .sends) (ThisStep (sender b) p i) x (λ s k. n (dz ∙ ap (sender b) (sym (k .0)) ∙ k .1));
           receives = noted-none (placesOf b .receives) (ThisStep (receiver b) p i) y (λ s k. m (dc ∙ ap (receiver b) (sym (k .0)) ∙ k .1));
-        },
-      )
+        };
+      }
 
 -- ---- all steps
 -- of n steps, party p is through the first i and has noted its part in them
@@ -117,16 +120,16 @@ module _ {b : List ℕ} {p n i : ℕ} {x l y m : List ℕ} {g : Counted} (f : Pa
         receives-size = f .noted .receives .size ∙ ready .receives-size;
       }
 
-  pub passing-on : {k o : List ℕ} {r : Counted} → i < n → Through b p (i + 1) r × StepNoted b p i l k m o → Passing b p n (i + 1) x k y o r
+  pub passing-on : {k o : List ℕ} {r : Counted} → i < n → StepPlaced b p i l k m o r → Passing b p n (i + 1) x k y o r
   passing-on h w =
       record {
         within = omega arith;
-        through = w .0;
+        through = w .through;
         noted = record {
           sends = noted-then (placesOf b .sends) (EarlierSteps (sender b) p i) (ThisStep (sender b) p i) (EarlierSteps (sender b) p (i + 1))
-              (f .noted .sends) (w .1 .sends) (λ s. or-last i s (sender b s ≡ p));
+              (f .noted .sends) (w .noted .sends) (λ s. or-last i s (sender b s ≡ p));
           receives = noted-then (placesOf b .receives) (EarlierSteps (receiver b) p i) (ThisStep (receiver b) p i) (EarlierSteps (receiver b) p (i + 1))
-              (f .noted .receives) (w .1 .receives) (λ s. or-last i s (receiver b s ≡ p));
+              (f .noted .receives) (w .noted .receives) (λ s. or-last i s (receiver b s ≡ p));
         };
       }
 

@@ -1,5 +1,5 @@
 -- What a party's counting walk asks for, and what it leaves behind, as its code has it.
-use Prim.Native.Nat.{ℕ, _*_, _<_}
+use Prim.Native.Nat.{ℕ, _+_, _*_, _<_}
 use mathlib.Core.List.{List}
 use mathlib.Core.Path.{_≡_}
 use lib.ListN.{length, getD}
@@ -65,7 +65,12 @@ pub record StepNoted (b : List ℕ) (p i : ℕ) (x xAfter y yAfter : List ℕ) :
   pub sends : Noted (placesOf b .sends) (ThisStep (sender b) p i) x xAfter
   pub receives : Noted (placesOf b .receives) (ThisStep (receiver b) p i) y yAfter
 
--- and its part in the first i
+-- and is through it
+pub record StepPlaced (b : List ℕ) (p i : ℕ) (x xAfter y yAfter : List ℕ) (r : Counted) : Type 0 where
+  pub through : Through b p (i + 1) r
+  pub noted : StepNoted b p i x xAfter y yAfter
+
+-- party p noted its part in each of the first i steps
 pub record StepsNoted (b : List ℕ) (p i : ℕ) (x xAfter y yAfter : List ℕ) : Type 0 where
   pub sends : Noted (placesOf b .sends) (EarlierSteps (sender b) p i) x xAfter
   pub receives : Noted (placesOf b .receives) (EarlierSteps (receiver b) p i) y yAfter

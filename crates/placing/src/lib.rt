@@ -21,7 +21,7 @@ ghost use lib.ListN.{length};
 ghost use Rattle.book.specs.Layout.{sender, receiver};
 ghost use Rattle.book.specs.Valid.{Valid};
 ghost use Rattle.placing.specs.Placed.{Placed};
-ghost use Rattle.placing.specs.Through.{Through, StepReady, PlaceStepReady, PlacePartyReady, StepNoted, PartyNoted};
+ghost use Rattle.placing.specs.Through.{Through, StepReady, PlaceStepReady, PlacePartyReady, StepPlaced, PartyNoted};
 
 // How far a party got: what it holds, and how many events it has had.
 struct Counted {
@@ -91,8 +91,7 @@ fn place_step(
     receives: &mut [u32; 64],
 ) -> Counted
     requires { ⌜ PlaceStepReady (now book) party step from (now sends) (now receives) ⌝ }
-    ensures { λ r. ⌜ Through (now (book .entry)) party (step + 1) r
-        × StepNoted (now (book .entry)) party step (now (sends .entry)) (now (sends .exit)) (now (receives .entry)) (now (receives .exit)) ⌝ }
+    ensures { λ r. ⌜ StepPlaced (now (book .entry)) party step (now (sends .entry)) (now (sends .exit)) (now (receives .entry)) (now (receives .exit)) r ⌝ }
 {
     if step_sender(book, step) == party {
         let sent = make_step(book, from, step);

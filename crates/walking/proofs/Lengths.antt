@@ -16,6 +16,7 @@ use Rattle.receiving.specs.declared.Received.{Received}
 use Rattle.walking.specs.declared.Passed.{Passed}
 use Rattle.walking.specs.Walking.{Along, Walking}
 
+-- ---- the book is small
 pub few-steps : (b : List ℕ) → Valid b → steps b ≤ 64
 few-steps b v = valid-headed b v .fewSteps
 

@@ -26,6 +26,7 @@ loop-holds c =
     let after-start : in-place-party tie.After-start = search in
     passing-start (after-start .start .ensures) (after-new .new .ensures)
 
+-- the lists are as long as they were
 place-step-requires : in-place-party tie.Need-place-step-requires
 place-step-requires c κs =
     let in-loop : in-place-party tie.In-loop = search in

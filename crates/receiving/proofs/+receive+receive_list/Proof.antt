@@ -53,11 +53,6 @@ receive-calls t = (
   receive-list.Post,
 )
 
--- a place or a need of `receive`, by its name
-abbrev in-receive : (receive-lts.Claims → In 3 receive-kinds.ps → Out 3 receive-kinds.ps receive-kinds.r → Type 0)
-    → ℕ → Type 0
-in-receive P t = P (receive-calls t) (receive-at t) receive.Post
-
 -- ---- `receive_list`
 abbrev receive-list-Inv-loop : receive-list-lts.InvT-loop
 receive-list-Inv-loop book here₀ bound first left log₀ out₀ place₀ next i₀ k₀ here log out place i k =
@@ -83,12 +78,14 @@ abbrev in-receive-list : (receive-list-lts.Claims → In 3 receive-list-kinds.ps
 in-receive-list P t =
     P (receive-list-calls t) (receive-list-at t) receive-list.Post receive-list-Inv-loop receive-list-μ-loop
 
+-- the list's placeholders are handed out, and no row is received yet
 receive-list-loop-holds : (t : ℕ) → in-receive-list receive-list-lts.Need-loop-holds t
 receive-list-loop-holds t c =
     let after-narrow : in-receive-list receive-list-lts.After-narrow t = search in
     let start : in-receive-list receive-list-lts.Start t = search in
     going-start (start .pre .1) (after-narrow .narrow .ensures) (search needs)
 
+-- one row more is received at its placeholder
 receive-list-loop-again : (t : ℕ) → in-receive-list receive-list-lts.Need-loop-again t
 receive-list-loop-again t c =
     let after-receive : in-receive-list receive-list-lts.After-receive t = search in
@@ -98,6 +95,7 @@ receive-list-loop-again t c =
     going-on (at-loop .loop .inv) (in-loop .loop-test .taken) (after-entry .entry .ensures .0)
     (after-receive .receive .ensures)
 
+-- no row is left
 receive-list-returns : (t : ℕ) → in-receive-list receive-list-lts.Need-returns t
 receive-list-returns t c =
     let at-loop : in-receive-list receive-list-lts.At-loop t = search in

@@ -14,12 +14,14 @@ Inv-loop book here₀ bound first left log₀ out₀ place₀ next i₀ k₀ her
 abbrev μ-loop : tie.MeasureT-loop
 μ-loop book here₀ bound first left log₀ out₀ place₀ next i₀ k₀ here log out place i k = k
 
+-- the messages' placeholders are handed out, and none is received yet
 loop-holds : tie.Need-loop-holds Inv-loop μ-loop
 loop-holds c =
     let after-narrow : tie.After-narrow Inv-loop μ-loop = search in
     let start : tie.Start Inv-loop μ-loop = search in
     going-start (start .pre) (after-narrow .narrow .ensures) (search needs)
 
+-- one message more is received at its placeholder
 loop-again : tie.Need-loop-again Inv-loop μ-loop
 loop-again c =
     let after-receive : tie.After-receive Inv-loop μ-loop = search in
@@ -29,6 +31,7 @@ loop-again c =
     going-on (at-loop .loop .inv) (in-loop .loop-test .taken) (after-entry .entry .ensures .0)
     (after-receive .receive .ensures)
 
+-- none is left
 returns : tie.Need-returns Inv-loop μ-loop
 returns c =
     let at-loop : tie.At-loop Inv-loop μ-loop = search in

@@ -15,6 +15,7 @@ Inv-loop book party from n i₀ i = IdleUntil book party from i
 abbrev μ-loop : tie.MeasureT-loop
 μ-loop book party from n i₀ i = n - i
 
+-- the step at i is not the party's
 loop-again : tie.Need-loop-again Inv-loop μ-loop
 loop-again c =
     let after-step-receiver : tie.After-step-receiver Inv-loop μ-loop = search in

@@ -20,12 +20,14 @@ abbrev μ-loop : tie.MeasureT-loop
 abbrev in-walk : (tie.InvT-loop → tie.MeasureT-loop → Type 0) → Type 0
 in-walk P = P Inv-loop μ-loop
 
+-- before its first step the party holds what it knows
 loop-holds : in-walk tie.Need-loop-holds
 loop-holds c =
     let after-new : in-walk tie.After-new = search in
     let after-start : in-walk tie.After-start = search in
     walked-start (after-start .start .ensures) (after-new .new .ensures) (c .next-own .ensures)
 
+-- there is room for the placeholders of all steps, so for those of this one
 act-requires : in-walk tie.Need-act-requires
 act-requires c κs =
     let in-loop : in-walk tie.In-loop = search in
@@ -47,6 +49,7 @@ returns c =
     walked-stops (start .pre) (in-loop .loop-test .taken) (at-loop .loop .inv) (after-act .act .ensures)
     (c .if1 .taken)
 
+-- nothing was found, and nothing is to do before the party's next step
 loop-again : in-walk tie.Need-loop-again
 loop-again c =
     let start : in-walk tie.Start = search in

@@ -22,6 +22,7 @@ put-all-requires c κs =
     let size = wrote-length (after-walk .walk .ensures .along .keeps) in
     omega (arith, few after-walk)
 
+-- END has half as many pairs as words were stored
 returns : tie.Need-returns
 returns c =
     let after-put-all : tie.After-put-all = search in

@@ -1,5 +1,5 @@
 -- Laws of `Settling`: by which rule a row was settled, and that what is received after it completes the row. Assumes nothing.
-use Prim.Native.Nat.{ℕ, suc, _+_, _-_, _<_}
+use Prim.Native.Nat.{ℕ, suc, _+_, _-_}
 use native.Mathlib.Omega.{arith}
 use mathlib.Core.Bool.{Bool, true, false}
 use mathlib.Core.List.{List, [], _∷_}
@@ -7,21 +7,19 @@ use mathlib.Core.Path.{_≡_, refl, sym, ap, ap₂, _∙_}
 use lib.ListN.{length, length-append, length-set, set}
 use Rattle.words.specs.Overlay.{Wrote}
 use Rattle.words.specs.Overlay.Laws.{wrote-as, wrote-none}
-use Rattle.terms.specs.Term.{Term}
-use Rattle.terms.specs.Table.{term, terms}
-use Rattle.book.specs.Layout.{table, rows, kind, rowFirst, rowCount, listAt}
+use Rattle.terms.specs.Table.{term}
+use Rattle.book.specs.Layout.{table, kind, rowFirst, rowCount}
 use Rattle.book.specs.Span.{Span}
 use Rattle.book.specs.Span.Laws.{list-none, span-row, span-tail}
 use Rattle.translation.specs.Dictionary.{buildable, enter}
-use Rattle.translation.specs.Receive.{Did, followed, canOpen, compared, receive}
+use Rattle.translation.specs.Receive.{Did, followed, canOpen, compared}
 use Rattle.translation.specs.Listing.{pairWords, programWords}
 use Rattle.holding.specs.View.{heldOf, rowOf, view}
 use Rattle.holding.specs.View.Laws.{row-of, view-set}
-use Rattle.holding.specs.Doing.{Doing}
 use Rattle.holding.specs.Doing.Laws.{doing-as, doing-then}
 use Rattle.receiving.specs.declared.Received.{Received}
 use Rattle.receiving.specs.declared.Settled.{Settled}
-use Rattle.receiving.specs.Turn.{inTurn, unlocked, settled, contentsOf, nextTerms}
+use Rattle.receiving.specs.Turn.{inTurn, unlocked, settled, contentsOf}
 use Rattle.receiving.specs.Turn.Laws.{receive-turn, settled-compare, settled-unlock, settled-store, contents-compare, contents-unlock, contents-store, cipher-row, unlocked-rest, terms-none}
 use Rattle.receiving.specs.Receiving.{rowDid, listDid, Fits, SettleReady, Led, Settling}
 use Rattle.receiving.proofs.Bounds.{few-rows, some-key}
@@ -94,9 +92,10 @@ module _ {b e : List ℕ} {r p : ℕ} (ready : SettleReady b r p e) {t : Bool} (
           size = length-set e w x ∙ z;
         }
 
--- ---- and then what is received after it, in turn; y is where the row was left
+-- ---- from x on, the row itself was settled; what is received after it, in turn, completes it
 module _ {b : List ℕ} {r p : ℕ} {x : Received} {e l m o s : List ℕ} {q : Settled}
     (w : Settling b r p (x .dictionary .next) (x .dictionary .kept) (x .dictionary .entries) e l m (x .at) o s q) where
+  -- what the rule did with the row itself, where that led, and what is still to do
   abbrev itself : Did
   itself = settled (term (table b) r) p (view b (x .dictionary .entries)) (x .dictionary .next)
 

@@ -1,6 +1,6 @@
 -- Laws of `Acting`: a party's part in one step, by who it is in the step. Of the step, code has read f and n, where its messages
 -- stand and how many they are, z, its sender, and y, its receiver. Assumes nothing.
-use Prim.Native.Nat.{ℕ, _<_}
+use Prim.Native.Nat.{ℕ}
 use native.Mathlib.Nat.{add-zero}
 use native.Mathlib.Omega.{arith}
 use mathlib.Core.List.{List, [], _∷_, map}
@@ -15,7 +15,7 @@ use Rattle.words.specs.Overlay.Laws.{wrote-none, wrote-as}
 use Rattle.terms.specs.Term.{count, gathered, listed}
 use Rattle.terms.specs.Term.Laws.{count-gathered}
 use Rattle.terms.specs.Table.{term, terms}
-use Rattle.book.specs.Layout.{table, rows, steps, sender, receiver, stepFirst, stepCount, messages, listAt}
+use Rattle.book.specs.Layout.{table, rows, sender, receiver, stepFirst, stepCount, messages, listAt}
 use Rattle.book.specs.Span.Laws.{span-step}
 use Rattle.translation.specs.Build.{buildAll}
 use Rattle.translation.specs.Receive.{Did, Event, nothing, followed, receiveAll}
@@ -29,7 +29,6 @@ use Rattle.sending.specs.declared.Made.{Made}
 use Rattle.receiving.specs.declared.Received.{Received}
 use Rattle.receiving.specs.Turn.{inTurn}
 use Rattle.receiving.specs.Receiving.{listDid, ListReady, Led}
-use Rattle.walking.specs.declared.Acted.{Acted}
 use Rattle.walking.specs.Found.{foundAt}
 use Rattle.walking.specs.Walking.{actDid, ActReady, Acting}
 

@@ -1,7 +1,6 @@
 -- `placing::place_party` meets its contract: one step more, and what was noted stays; END comes behind the events of
 -- all steps. Assumes nothing.
 use Prim.Native.Nat.{_-_}
-use native.Mathlib.Omega.{arith}
 use borrow.Author.Needs.{needs}
 use Rattle.book.specs.Headed.Laws.{valid-headed}
 use Rattle.placing.proofs.Steps.{Passing, passing-start, passing-ready, passing-on, passing-end}

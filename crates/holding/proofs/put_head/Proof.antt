@@ -33,7 +33,8 @@ returns c =
     let after-row-kind : tie.After-row-kind = search in
     wrote-as (after-put3 .put3 .ensures)
     (head-operation (start after-row-kind .args .book .now) _ _ (after-row-kind .row-kind .ensures) (after-of .of .ensures)
-    (then1 .if1 .taken) (after-row-tag .row-tag .ensures) (after-narrow .narrow .ensures ∙ after-row-count .row-count .ensures .0))
+    (then1 .if1 .taken) (after-row-tag .row-tag .ensures)
+    (after-narrow .narrow .ensures ∙ after-row-count .row-count .ensures .0))
 
 -- a cipher has a key
 sub-narrow : tie.Need-sub-narrow

@@ -27,15 +27,15 @@ pub record Going (b e : List ℕ) (r f n : ℕ) : Type 0 where
   pub span : Span b r f n
   pub rest : canAt b e r ≡ allTrue (map (canAt b e) (listAt b f n))
 
-pub going-start : (b e : List ℕ) (r w k f n : ℕ) → Valid b → r < rows b → w ≡ r → getD e w 0 ≡ 0 → k ≡ kind b r → (k ≡ 0 → ⊥)
+pub going-start : {b e : List ℕ} {r w k f n : ℕ} → Valid b → r < rows b → w ≡ r → getD e w 0 ≡ 0 → k ≡ kind b r → (k ≡ 0 → ⊥)
     → f ≡ rowFirst b r → n ≡ rowCount b r → Going b e r f n
-going-start b e r w k f n v h d z c nz p q =
+going-start {b} {e} {r} {w} {k} {f} {n} v h d z c nz p q =
     record { span = span-row b v f n r h p q; rest = can-parts b e v r h (is-free e r w d z) (λ o. nz (c ∙ o)) ∙ rw (p, q) }
 
 -- the next part is buildable: the rest decides
-pub going-on : (b e : List ℕ) (r f n x : ℕ) (y : Bool) → Going b e r f n → 0 < n → x ≡ entry b f → y ≡ canAt b e x → y ≡ true
+pub going-on : {b e : List ℕ} {r f n x : ℕ} {y : Bool} → Going b e r f n → 0 < n → x ≡ entry b f → y ≡ canAt b e x → y ≡ true
     → Going b e r (f + 1) (n - 1)
-going-on b e r f n x y g h d p q =
+going-on {b} {e} {r} {f} {n} g h d p q =
     record {
       span = span-tail b r f n (g .span) h;
       rest = g .rest ∙ all-on (canAt b e) b f n h (ap (canAt b e) (sym d) ∙ sym p ∙ q);

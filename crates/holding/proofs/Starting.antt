@@ -58,10 +58,10 @@ starting-start b p f n d =
     }
 
 -- the last row that is left is entered as itself, at w
-pub starting-on : (b e : List ℕ) (v : Valid b) (p f left w r : ℕ) → p < parties b → f ≡ partyFirst b p → Starting b e p f left
+pub starting-on : {b e : List ℕ} {p f left w r : ℕ} → Valid b → p < parties b → f ≡ partyFirst b p → Starting b e p f left
     → 0 < left → r ≡ pooled b f (left - 1) → w ≡ r → Starting b (set e w 1) p f (left - 1)
 unfolding start heldOf
-starting-on b e v p f left w r j q g h d dw =
+starting-on {b} {e} {p} {f} {left} {w} {r} v j q g h d dw =
     let l = known-row b v p f left r j q g h d in
     let m = few-rows b v in
     let k = g .few in

@@ -27,19 +27,20 @@ makes-as : {b l : List ℕ} {s : ℕ} {g h : Making} {m : Made} {e o p : List �
 makes-as x e = rw e x
 
 -- what is held is not made
-makes-nothing : (b l : List ℕ) (s : ℕ) (m : Made) (e o : List ℕ) → length e ≡ 1024 → Makes b l s (nothing (view b e)) m e o o m
+makes-nothing : {b l : List ℕ} {s : ℕ} {m : Made} {e o : List ℕ} → length e ≡ 1024 → Makes b l s (nothing (view b e)) m e o o m
 unfolding programWords firstIn
-makes-nothing b l s m e o j = record { holds = refl; wrote = wrote-none; found = refl; size = j }
+makes-nothing j = record { holds = refl; wrote = wrote-none; found = refl; size = j }
 
-module _ (b l e : List ℕ) (s r : ℕ) (v : Valid b) (h : r < rows b) (m : Made) (j : length e ≡ 1024) where
-  pub held-makes : (w : ℕ) (o : List ℕ) → w ≡ r → (getD e w 0 ≡ 0 → ⊥) → Makes b l s (making (build (term (table b) r) (view b e))) m e o o m
-  held-makes w o d n = makes-as (makes-nothing b l s m e o j) (making-held b e v r h (λ z. n (ap (λ i. getD e i 0) d ∙ z)))
+module _ {b l : List ℕ} (e : List ℕ) {s r : ℕ} (v : Valid b) (h : r < rows b) {m : Made} (j : length e ≡ 1024) where
+  pub held-makes : {w : ℕ} {o : List ℕ} → w ≡ r → (getD e w 0 ≡ 0 → ⊥)
+      → Makes b l s (making (build (term (table b) r) (view b e))) m e o o m
+  held-makes d n = makes-as (makes-nothing j) (making-held b e v r h (λ z. n (ap (λ i. getD e i 0) d ∙ z)))
 
-  pub atom-makes : (w u k : ℕ) (o p : List ℕ) (i y : ℕ) → w ≡ r → getD e w 0 ≡ 0 → k ≡ kind b r → k ≡ 0 → u ≡ r
+  pub atom-makes : {w u k : ℕ} {o p : List ℕ} {i y : ℕ} → w ≡ r → getD e w 0 ≡ 0 → k ≡ kind b r → k ≡ 0 → u ≡ r
       → Wrote (1 ∷ r ∷ []) o (m .at) p i → y ≡ orTaken (m .taken) (takenIn l s r) r
       → Makes b l s (making (build (term (table b) r) (view b e))) m (set e u 1) o p (record { at = i; taken = y })
   unfolding programWords eventWords firstIn
-  atom-makes w u k o p i y d z f q c x t =
+  atom-makes {u = u} d z f q c x t =
       let n = few-rows b v in
       makes-as
       (record {
@@ -50,17 +51,17 @@ module _ (b l e : List ℕ) (s r : ℕ) (v : Valid b) (h : r < rows b) (m : Made
       })
       (making-atom b e v r h (ap (λ a. getD e a 0) (sym d) ∙ z) (sym f ∙ q))
 
-  pub parts-makes : (w k f n : ℕ) {after o p : List ℕ} {y : Made} → w ≡ r → getD e w 0 ≡ 0 → k ≡ kind b r → (k ≡ 0 → ⊥)
+  pub parts-makes : {w k f n : ℕ} {after o p : List ℕ} {y : Made} → w ≡ r → getD e w 0 ≡ 0 → k ≡ kind b r → (k ≡ 0 → ⊥)
       → f ≡ rowFirst b r → n ≡ rowCount b r
       → Makes b l s (allMaking (buildAll (terms (table b) (listAt b f n)) (view b e))) m after o p y
       → Makes b l s (making (build (term (table b) r) (view b e))) m after o p y
-  parts-makes w k f n d z c q t u x =
+  parts-makes d z c q t u x =
       makes-as (rw (t, u) at x) (making-parts b e v r h (ap (λ a. getD e a 0) (sym d) ∙ z) (λ y. q (c ∙ y)))
 
 -- ---- a list of rows
-pub none-makes : (b l : List ℕ) (s f n : ℕ) (m : Made) (e o : List ℕ) → length e ≡ 1024 → n ≡ 0
+pub none-makes : {b l : List ℕ} {s : ℕ} (f : ℕ) {n : ℕ} {m : Made} {e o : List ℕ} → length e ≡ 1024 → n ≡ 0
     → Makes b l s (allMaking (buildAll (terms (table b) (listAt b f n)) (view b e))) m e o o m
-none-makes b l s f n m e o j z = makes-as (makes-nothing b l s m e o j) (making-none b f n (view b e) z)
+none-makes {b} f {n} {e = e} j z = makes-as (makes-nothing j) (making-none b f n (view b e) z)
 
 makes-then : (b l : List ℕ) (s : ℕ) (g : Making) (f : Dictionary → Making) {e after o p q : List ℕ} {m y z : Made} → Makes b l s g m e o p y
     → Makes b l s (f (view b e)) y after p q z → Makes b l s (both g (f (g .dictionary))) m after o q z
@@ -89,11 +90,11 @@ pub bound-span : (b : List ℕ) (bound f n : ℕ) → bound ≡ rows b → Span 
 bound-span b bound f n d s = rw d s
 
 -- the SEND stands at w, which is the place behind the NEWs
-pub sends : (b l e : List ℕ) (s f n c a w : ℕ) {after o p q t : List ℕ} {m : Made} {i z : ℕ} → c ≡ n
+pub sends : {b l : List ℕ} (e : List ℕ) {s : ℕ} (f : ℕ) {n c a w : ℕ} {after o p q t : List ℕ} {m : Made} {i z : ℕ} → c ≡ n
     → Makes b l s (allMaking (buildAll (terms (table b) (listAt b f n)) (view b e))) (record { at = a; taken = 0 }) after o p m
     → Wrote (2 ∷ s ∷ c ∷ []) p w q i → w ≡ m .at → Wrote (imagesAt b after f n) q i t z
     → Sends b l s (buildAll (terms (table b) (listAt b f n)) (view b e)) a after o t (record { at = z; taken = m .taken })
-sends b l e s f n c a w {after} d x y g z =
+sends {b} e {s} f {n} {after = after} d x y g z =
     record {
       holds = x .holds;
       wrote = wrote-as (wrote-then (x .wrote) (wrote-then (rw g at y) z)) (sent-words b after s f n (view b e) (x .holds) ∙ rw d);

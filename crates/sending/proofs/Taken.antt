@@ -24,8 +24,8 @@ from-step l s r w d n = let z = ap (λ i. getD l i 0) d in ap (λ x. leb (x - 1)
 pub stays : (t : Bool) (x r : ℕ) → (x ≡ 0 → ⊥) → x ≡ orTaken x t r
 stays t x r n = sym (or-stays t x r n)
 
-pub taken : (t y : Bool) (x r : ℕ) → x ≡ 0 → y ≡ t → y ≡ true → r + 1 ≡ orTaken x t r
-taken t y x r z d e = sym (or-taken t x r z (sym d ∙ e))
+pub taken : {t y : Bool} {x : ℕ} (r : ℕ) → x ≡ 0 → y ≡ t → y ≡ true → r + 1 ≡ orTaken x t r
+taken {t} {x = x} r z d e = sym (or-taken t x r z (sym d ∙ e))
 
 pub untaken : (t y : Bool) (x r : ℕ) → x ≡ 0 → y ≡ t → y ≡ false → 0 ≡ orTaken x t r
 untaken t y x r z d e = sym (or-untaken t x r z (sym d ∙ e))

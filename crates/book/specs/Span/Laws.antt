@@ -60,9 +60,12 @@ module _ (b : List ℕ) (v : Valid b) where
   pub part-low : (r : ℕ) → r < rows b → 2 ≤ kind b r → entry b (rowFirst b r) < r
   part-low r h k = span-head b r (rowFirst b r) (rowCount b r) (span-row b v _ _ r h refl refl) (some-part r h k)
 
-module _ (b : List ℕ) (v : Valid b) (r f : ℕ) (h : r < rows b) (k : 2 ≤ kind b r) (d : f ≡ rowFirst b r) where
+module _ {b : List ℕ} (v : Valid b) {r f : ℕ} (h : r < rows b) (k : 2 ≤ kind b r) (d : f ≡ rowFirst b r) where
   pub part-index : f + 0 < pool b
   part-index = span-index b r f (rowCount b r) (span-row b v f (rowCount b r) r h d refl) (some-part b v r h k)
 
-  pub part-at : (p : ℕ) → p ≡ pooled b f 0 → (p ≡ entry b (rowFirst b r)) × (p < r)
-  part-at p e = let l = part-low b v r h k in let z : p ≡ entry b (rowFirst b r) = e ∙ ap (entry b) d in (z, omega arith)
+  pub part-at : {p : ℕ} → p ≡ pooled b f 0 → (p ≡ entry b (rowFirst b r)) × (p < r)
+  part-at {p} e =
+      let l = part-low b v r h k in
+      let z : p ≡ entry b (rowFirst b r) = e ∙ ap (entry b) d in
+      (z, omega arith)

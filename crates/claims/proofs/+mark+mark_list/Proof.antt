@@ -86,7 +86,7 @@ mark-returns-2 : (t : ℕ) → in-mark mark-lts.Need-returns-2 t
 mark-returns-2 t c =
     let after-wide : in-mark mark-lts.After-wide t = search in
     let start : in-mark mark-lts.Start t = search in
-    seen-done _ _ _ (start .args .row) _ _ (after-wide .wide .ensures .0) (start .pre .1 .1) (c .if2 .taken)
+    seen-done {r = start .args .row} (after-wide .wide .ensures .0) (start .pre .1 .1) (c .if2 .taken)
 
 -- the parts of a row are rows before it
 module _ (t : ℕ) (c : in-mark mark-lts.After-row-count t) where
@@ -112,7 +112,7 @@ mark-returns-3 t c =
     let else1 : in-mark mark-lts.Else1 t = search in
     let after-row-kind : in-mark mark-lts.After-row-kind t = search in
     let start : in-mark mark-lts.Start t = search in
-    row-done _ (start .pre .1 .0) _ _ (start .pre .1 .2) (after-row-kind .row-kind .ensures) _ _ _ (else1 .if1 .left)
+    row-done (start .pre .1 .0) (start .pre .1 .2) (after-row-kind .row-kind .ensures) (else1 .if1 .left)
     (first .row-first .ensures .0) (count .row-count .ensures .0) (c .wide2 .ensures .0) (start .pre .1 .3)
     (after-mark-list .mark-list .ensures .0) (after-mark-list .mark-list .ensures .1)
 
@@ -120,7 +120,7 @@ mark-returns-3 t c =
 mark-list-returns : (t : ℕ) → in-mark-list mark-list-lts.Need-returns t
 mark-list-returns t c =
     let here : in-mark-list mark-list-lts.Start t = search in
-    none-done _ _ _ _ _ _ (c .if1 .taken) (here .pre .1 .1)
+    none-done _ (c .if1 .taken) (here .pre .1 .1)
 
 mark-list-mark-list-requires : (t : ℕ) → in-mark-list mark-list-lts.Need-mark-list-requires t
 mark-list-mark-list-requires t c κs =

@@ -21,7 +21,7 @@ loop-again c =
     let after-mark-known : tie.After-mark-known Inv-loop μ-loop = search in
     let in-loop : tie.In-loop Inv-loop μ-loop = search in
     let at-loop : tie.At-loop Inv-loop μ-loop = search in (
-      knowledge-on _ _ _ _ (in-loop .loop-test .taken) (at-loop .loop .inv .0)
+      knowledge-on (in-loop .loop-test .taken) (at-loop .loop .inv .0)
           (after-mark-known .mark-known .ensures .0) refl,
       after-mark-known .mark-known .ensures .1,
     )

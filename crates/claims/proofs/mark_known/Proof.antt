@@ -19,7 +19,7 @@ abbrev μ-loop : tie.MeasureT-loop
 loop-holds : tie.Need-loop-holds Inv-loop μ-loop
 loop-holds c =
     let start : tie.Start Inv-loop μ-loop = search in
-    (knows-start _ _ _ _ (start .pre .1 .sized), start .pre .1)
+    (knows-start (start .pre .1 .sized), start .pre .1)
 
 -- what a party knows is a row
 mark-requires : tie.Need-mark-requires Inv-loop μ-loop
@@ -31,8 +31,8 @@ mark-requires c κs = (
       let count : tie.After-party-count Inv-loop μ-loop = search in
       let first : tie.After-party-first Inv-loop μ-loop = search in
       let start : tie.Start Inv-loop μ-loop = search in
-      known-low _ _ _ _ (first .party-first .ensures .0) (count .party-count .ensures .0) (start .pre .0)
-      (start .pre .2) _ _ (in-loop .loop-test .taken) (after-pooled .pooled .ensures),
+      known-low (first .party-first .ensures .0) (count .party-count .ensures .0) (start .pre .0) (start .pre .2)
+      (in-loop .loop-test .taken) (after-pooled .pooled .ensures),
   omega arith,
 )
 
@@ -43,7 +43,7 @@ loop-again c =
     let after-pooled : tie.After-pooled Inv-loop μ-loop = search in
     let in-loop : tie.In-loop Inv-loop μ-loop = search in
     let at-loop : tie.At-loop Inv-loop μ-loop = search in (
-      knows-on _ _ _ _ _ _ (in-loop .loop-test .taken) (after-pooled .pooled .ensures) (at-loop .loop .inv .0)
+      knows-on (in-loop .loop-test .taken) (after-pooled .pooled .ensures) (at-loop .loop .inv .0)
           (after-mark .mark .ensures .0) refl,
       after-mark .mark .ensures .1,
     )

@@ -25,7 +25,7 @@ loop-again c = (
       let after-step-count : tie.After-step-count Inv-loop μ-loop = search in
       let after-step-first : tie.After-step-first Inv-loop μ-loop = search in
       let at-loop : tie.At-loop Inv-loop μ-loop = search in
-      step-claimed _ _ _ _ _ _ _ (after-step-first .step-first .ensures .0) (after-step-count .step-count .ensures .0)
+      step-claimed (after-step-first .step-first .ensures .0) (after-step-count .step-count .ensures .0)
       (at-loop .loop .inv .1) (after-mark-list .mark-list .ensures .0) refl,
   search needs,
 )

@@ -67,7 +67,7 @@ buildable-loop-holds t c =
     let else1 : in-buildable buildable-lts.Else1 t = search in
     let after-wide : in-buildable buildable-lts.After-wide t = search in
     let start : in-buildable buildable-lts.Start t = search in
-    going-start _ _ _ _ _ _ _ (start .pre .1 .0) (start .pre .1 .1) (after-wide .wide .ensures .0) (else1 .if1 .left)
+    going-start (start .pre .1 .0) (start .pre .1 .1) (after-wide .wide .ensures .0) (else1 .if1 .left)
     (after-row-kind .row-kind .ensures) (else2 .if2 .left) (first .row-first .ensures .0) (count .row-count .ensures .0)
 
 -- the part asked about is buildable
@@ -78,7 +78,7 @@ buildable-loop-again t c =
     let after-entry : in-buildable buildable-lts.After-entry t = search in
     let in-loop : in-buildable buildable-lts.In-loop t = search in
     let at-loop : in-buildable buildable-lts.At-loop t = search in
-    going-on _ _ _ _ _ _ _ (at-loop .loop .inv) (in-loop .loop-test .taken) (after-entry .entry .ensures .0)
+    going-on (at-loop .loop .inv) (in-loop .loop-test .taken) (after-entry .entry .ensures .0)
     (after-buildable .buildable .ensures) (not-false _ (else3 .if3 .left))
 
 pub +buildable-spec : {M : Type 1} → statement M

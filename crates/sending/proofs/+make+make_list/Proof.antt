@@ -95,10 +95,10 @@ make-returns-2 t c =
     let else1 : in-make make-lts.Else1 t = search in
     let after-wide : in-make make-lts.After-wide t = search in
     let start : in-make make-lts.Start t = search in
-    atom-makes _ (start .args .since .now) (start .args .entries .now) (start .args .step) (start .args .row)
-    (start .pre .1 .0) (start .pre .1 .1) (start .args .m) (start .pre .1 .2) _ _ _ _ _ _ _
-    (after-wide .wide .ensures .0) (else1 .if1 .left) (after-row-kind .row-kind .ensures) (then2 .if2 .taken)
-    (after-wide2 .wide2 .ensures .0) (after-put2 .put2 .ensures) (after-first-taken .first-taken .ensures)
+    atom-makes {l = start .args .since .now} (start .args .entries .now) {s = start .args .step} (start .pre .1 .0)
+    (start .pre .1 .1) {m = start .args .m} (start .pre .1 .2) (after-wide .wide .ensures .0) (else1 .if1 .left)
+    (after-row-kind .row-kind .ensures) (then2 .if2 .taken) (after-wide2 .wide2 .ensures .0) (after-put2 .put2 .ensures)
+    (after-first-taken .first-taken .ensures)
 
 -- the row is held: its entry is not 0
 make-returns : (t : ℕ) → in-make make-lts.Need-returns t
@@ -106,7 +106,7 @@ make-returns t c =
     let after-wide : in-make make-lts.After-wide t = search in
     let start : in-make make-lts.Start t = search in
     let entry = c .if1 .taken in
-    held-makes _ _ (start .args .entries .now) _ _ (start .pre .1 .0) (start .pre .1 .1) _ (start .pre .1 .2) _ _
+    held-makes (start .args .entries .now) (start .pre .1 .0) (start .pre .1 .1) (start .pre .1 .2)
     (after-wide .wide .ensures .0) (λ z. absurd (omega arith))
 
 -- the parts of a row are rows before it
@@ -128,7 +128,7 @@ make-make-list-requires t c κs =
 make-list-returns : (t : ℕ) → in-make-list make-list-lts.Need-returns t
 make-list-returns t c =
     let here : in-make-list make-list-lts.Start t = search in
-    none-makes _ _ _ _ _ _ _ _ (here .pre .1 .3) (c .if1 .taken)
+    none-makes _ (here .pre .1 .3) (c .if1 .taken)
 
 make-list-make-list-requires : (t : ℕ) → in-make-list make-list-lts.Need-make-list-requires t
 make-list-make-list-requires t c κs = (omega arith, (search needs, search needs, search span-rest, search needs))

@@ -9,7 +9,7 @@ returns-2 : tie.Need-returns-2
 returns-2 c =
     let after-is-taken : tie.After-is-taken = search in
     let else1 : tie.Else1 = search in
-    taken _ _ _ _ (else1 .if1 .left) (after-is-taken .is-taken .ensures) (c .if2 .taken)
+    taken _ (else1 .if1 .left) (after-is-taken .is-taken .ensures) (c .if2 .taken)
 
 pub first-taken-spec : {M : Type 1} → statement M
 first-taken-spec =

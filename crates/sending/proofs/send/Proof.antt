@@ -15,7 +15,7 @@ returns c =
     let after-narrow : tie.After-narrow = search in
     let after-make-list : tie.After-make-list = search in
     let start : tie.Start = search in
-    sends _ _ (start .args .entries .now) _ _ _ _ _ _ (after-narrow .narrow .ensures)
+    sends (start .args .entries .now) _ (after-narrow .narrow .ensures)
     (after-make-list .make-list .ensures) (after-put3 .put3 .ensures) refl
     (after-write-images .write-images .ensures)
 

@@ -99,6 +99,7 @@ module _ (t : ℕ) (c : in-mark mark-lts.After-row-count t) where
   parts : Span (start .args .book .now) (start .args .row) (first .row-first .result) (c .row-count .result)
   parts = search span-row
 
+-- its parts lie below the row
 mark-mark-list-requires : (t : ℕ) → in-mark mark-lts.Need-mark-list-requires t
 mark-mark-list-requires t c κs =
     (omega (arith, parts t (search)), (search needs, search needs, omega arith, parts t (search), search needs))
@@ -122,6 +123,7 @@ mark-list-returns t c =
     let here : in-mark-list mark-list-lts.Start t = search in
     none-done _ (c .if1 .taken) (here .pre .1 .1)
 
+-- one row less is left
 mark-list-mark-list-requires : (t : ℕ) → in-mark-list mark-list-lts.Need-mark-list-requires t
 mark-list-mark-list-requires t c κs =
     (omega arith, (search needs, search needs, search needs, search span-rest, search needs))

@@ -99,6 +99,7 @@ module _ (t : ℕ) (c : in-write-image write-image-lts.After-row-count t) where
   parts : Span (start .args .book .now) (start .args .row) (first .row-first .result) (c .row-count .result)
   parts = search span-row
 
+-- its parts lie below the row
 write-image-write-images-requires : (t : ℕ) → in-write-image write-image-lts.Need-write-images-requires t
 write-image-write-images-requires t c κs =
     (omega (arith, parts t (search)), (search needs, omega arith, parts t (search)))

@@ -120,6 +120,7 @@ module _ (t : ℕ) (c : in-make make-lts.After-row-count t) where
   parts : Span (start .args .book .now) (start .args .row) (first .row-first .result) (c .row-count .result)
   parts = search span-row
 
+-- its parts lie below the row
 make-make-list-requires : (t : ℕ) → in-make make-lts.Need-make-list-requires t
 make-make-list-requires t c κs =
     (omega (arith, parts t (search)), (search needs, omega arith, parts t (search), search needs))
@@ -130,6 +131,7 @@ make-list-returns t c =
     let here : in-make-list make-list-lts.Start t = search in
     none-makes _ (here .pre .1 .3) (c .if1 .taken)
 
+-- one row less is left
 make-list-make-list-requires : (t : ℕ) → in-make-list make-list-lts.Need-make-list-requires t
 make-list-make-list-requires t c κs = (omega arith, (search needs, search needs, search span-rest, search needs))
 

@@ -19,7 +19,7 @@ abbrev μ-loop : tie.MeasureT-loop
 loop-holds : tie.Need-loop-holds Inv-loop μ-loop
 loop-holds c =
     let start : tie.Start Inv-loop μ-loop = search in
-    (knows-start (start .pre .1 .sized), start .pre .1)
+    (knows-start {l = start .args .since .now} (start .pre .1 .sized), start .pre .1)
 
 -- what a party knows is a row
 mark-requires : tie.Need-mark-requires Inv-loop μ-loop

@@ -22,6 +22,7 @@ module _ (c : tie.After-row-kind) where
   kinded : c .row-kind .result ≤ lastKind
   kinded = let is = c .row-kind .ensures in let k = start .pre .0 .rowsKeep _ (start .pre .1) .kinded in omega arith
 
+-- an operation, with its tag and how many arguments it has
 returns : tie.Need-returns
 returns c =
     let after-put3 : tie.After-put3 = search in
@@ -43,6 +44,7 @@ sub-narrow c =
     let key = some-part _ (here .pre .0) _ (here .pre .1) (omega arith) in
     omega arith
 
+-- a cipher, with how many contents it has
 returns-2 : tie.Need-returns-2
 returns-2 c =
     let after-put2 : tie.After-put2 = search in
@@ -55,6 +57,7 @@ returns-2 c =
     (head-cipher (start after-row-kind .args .book .now) _ _ (after-row-kind .row-kind .ensures) (after-of .of .ensures)
     (then2 .if2 .taken) (after-row-count2 .row-count2 .ensures .0) (after-narrow2 .narrow2 .ensures))
 
+-- a half: its code alone
 returns-3 : tie.Need-returns-3
 returns-3 c =
     let after-put : tie.After-put = search in
@@ -66,6 +69,7 @@ returns-3 c =
     (head-half (start after-row-kind .args .book .now) _ _ (after-row-kind .row-kind .ensures) (after-of .of .ensures)
     (a-half _ (after-is-half .is-half .ensures) (then3 .if3 .taken)) (kinded after-row-kind))
 
+-- an atom, itself
 returns-4 : tie.Need-returns-4
 returns-4 c =
     let after-put22 : tie.After-put22 = search in

@@ -4,7 +4,6 @@ use mathlib.Core.List.{List}
 use lib.ListN.{getD}
 use Rattle.input.specs.declared.Input.{Input}
 use Rattle.input.specs.declared.Input.the-variants.{Bytes, Failed}
-pub mod Laws
 
 -- the word of four bytes
 abbrev pub wordOf : ℕ → ℕ → ℕ → ℕ → ℕ

@@ -1,4 +1,5 @@
--- `input::fill` meets its contract: a turn that goes on leaves less room; no more bytes came than there is room for. Assumes nothing.
+-- `input::fill` meets its contract: a turn that goes on leaves less room; no more bytes came than there is room
+-- for. Assumes nothing.
 use Prim.Native.Nat.{_-_, _≤_}
 use mathlib.Core.Path.{_≡_}
 use lib.ListN.{length}

@@ -1,33 +1,40 @@
--- `input::load` meets its contract: the words of the bytes that were passed stand in out (`loaded-more`). Assumes nothing.
-use Prim.Native.Nat.{ℕ, _-_, _≤_, _<_}
+-- `input::load` meets its contract: the words of the bytes that were passed stand in out, and each turn adds one
+-- (`filled-more`). Assumes nothing.
+use Prim.Native.Nat.{_-_, _≤_}
 use mathlib.Core.Path.{_≡_}
 use native.Mathlib.Omega.{arith}
-use lib.ListN.{length, getD}
+use lib.ListN.{length}
 use borrow.Author.Needs.{needs}
+use Rattle.input.specs.Filled.{Filled}
+use Rattle.input.specs.Filled.Laws.{filled-more}
 use Rattle.input.specs.Input.{wordAt}
-use Rattle.input.specs.Input.Laws.{loaded-more}
 use Rattle.input.proofs.load.Statement.{statement}
 use Rattle.input.proofs.load.Tie as tie
 
 abbrev Inv-loop : tie.InvT-loop
-Inv-loop bytes out₀ n i₀ out i = (i ≤ n) × (length out ≡ length out₀) × ((k : ℕ) → k < i → getD out k 0 ≡ wordAt bytes k)
+Inv-loop bytes out₀ n i₀ out i = (i ≤ n) × (length out ≡ length out₀) × Filled (wordAt bytes) out i
 
 abbrev μ-loop : tie.MeasureT-loop
 μ-loop bytes out₀ n i₀ out i = n - i
 
+-- what `word` makes of the four bytes is the word that is due
 loop-again : tie.Need-loop-again Inv-loop μ-loop
 unfolding wordAt
 loop-again c =
+    let after-word : tie.After-word Inv-loop μ-loop = search in
     let at-loop : tie.At-loop Inv-loop μ-loop = search in
     let start : tie.Start Inv-loop μ-loop = search in (
       search needs,
       search needs,
-      loaded-more (start .args .bytes .now) (at-loop .loop .out) _ _ (omega arith) (c .word .ensures)
-          (at-loop .loop .inv .2),
+      filled-more (wordAt (start .args .bytes .now)) (at-loop .loop .out) _ _ (omega arith)
+          (after-word .word .ensures) (at-loop .loop .inv .2),
     )
 
+-- the loop ends at n, so that every word was passed
 returns : tie.Need-returns Inv-loop μ-loop
-returns c = let at-loop : tie.At-loop Inv-loop μ-loop = search in λ i h. at-loop .loop .inv .2 i (omega arith)
+returns c =
+    let at-loop : tie.At-loop Inv-loop μ-loop = search in
+    λ i h. at-loop .loop .inv .2 i (omega arith)
 
 pub load-spec : {M : Type 1} → statement M
 load-spec =

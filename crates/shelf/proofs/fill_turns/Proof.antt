@@ -1,36 +1,43 @@
--- `shelf::fill_turns` meets its contract: the moves that were passed are those of the turns (`filled-more`, `filled-all`). Assumes nothing.
-use Prim.Native.Nat.{ℕ, _-_, _≤_, _<_}
+-- `shelf::fill_turns` meets its contract: the moves that were passed are those of the turns, and each turn of the
+-- loop adds one (`filled-more`); at the end they are all (`filled-all`). Assumes nothing.
+use Prim.Native.Nat.{_-_, _≤_}
 use mathlib.Core.Path.{_≡_}
 use native.Mathlib.Omega.{arith}
-use lib.ListN.{length, getD}
+use lib.ListN.{length}
 use borrow.Author.Needs.{needs}
-use Rattle.shelf.specs.Turns.Laws.{filled-more, filled-all}
+use Rattle.input.specs.Filled.{Filled}
+use Rattle.input.specs.Filled.Laws.{filled-more}
 use Rattle.shelf.specs.Turns.{turn}
+use Rattle.shelf.specs.Turns.Laws.{filled-all}
 use Rattle.shelf.proofs.fill_turns.Statement.{statement}
 use Rattle.shelf.proofs.fill_turns.Tie as tie
 
 abbrev Inv-loop : tie.InvT-loop
-Inv-loop out₀ parties times back i₀ out i = (i ≤ length out₀) × (length out ≡ length out₀) × ((k : ℕ) → k < i → getD out k 0 ≡ turn parties times back k)
+Inv-loop out₀ parties times back i₀ out i =
+    (i ≤ length out₀) × (length out ≡ length out₀) × Filled (turn parties times back) out i
 
 abbrev μ-loop : tie.MeasureT-loop
 μ-loop out₀ parties times back i₀ out i = length out₀ - i
 
+-- the move that `turn_of` answers is the turn's
 loop-again : tie.Need-loop-again Inv-loop μ-loop
 loop-again c =
+    let after-turn-of : tie.After-turn-of Inv-loop μ-loop = search in
     let at-loop : tie.At-loop Inv-loop μ-loop = search in
-    let start : tie.Start Inv-loop μ-loop = search in (
+    let start : tie.Start Inv-loop μ-loop = search in
+    let due = turn (start .args .parties) (start .args .times) (start .args .back) in (
       search needs,
       search needs,
-      filled-more (turn (start .args .parties) (start .args .times) (start .args .back)) (at-loop .loop .out) _ _
-          (omega arith) (c .turn-of .ensures) (at-loop .loop .inv .2),
+      filled-more due (at-loop .loop .out) _ _ (omega arith) (after-turn-of .turn-of .ensures) (at-loop .loop .inv .2),
     )
 
+-- the loop ends behind the last place
 returns : tie.Need-returns Inv-loop μ-loop
 returns c =
     let at-loop : tie.At-loop Inv-loop μ-loop = search in
     let start : tie.Start Inv-loop μ-loop = search in
-    filled-all (turn (start .args .parties) (start .args .times) (start .args .back)) (at-loop .loop .out)
-    (length (start .args .out .now)) (at-loop .loop .inv .1) (λ k l. at-loop .loop .inv .2 k (omega arith))
+    let due = turn (start .args .parties) (start .args .times) (start .args .back) in
+    filled-all due (at-loop .loop .out) _ (at-loop .loop .inv .1) (λ k l. at-loop .loop .inv .2 k (omega arith))
 
 pub fill-turns-spec : {M : Type 1} → statement M
 fill-turns-spec =

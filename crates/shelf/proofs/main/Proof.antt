@@ -1,4 +1,5 @@
--- `shelf::main` meets its contract: a turn that goes on leaves fewer books; what came has room in the words. Assumes nothing.
+-- `shelf::main` meets its contract: a turn that goes on leaves fewer books; what came has room in the words.
+-- Assumes nothing.
 use Prim.Native.Nat.{_-_, _≤_}
 use mathlib.Core.Path.{_≡_}
 use native.Mathlib.Omega.{arith}
@@ -13,17 +14,11 @@ Inv-loop words₀ books₀ t4 words books = (books ≤ 65536) × (length words �
 abbrev μ-loop : tie.MeasureT-loop
 μ-loop words₀ books₀ t4 words books = 65536 - books
 
-array-share-prefix-words : tie.Need-array-share-prefix-words Inv-loop μ-loop
-array-share-prefix-words c =
-    let after-n : tie.After-n Inv-loop μ-loop = search in
+-- where a book came, it has as many words as `read_book` says: no more than there is room for
+few : (c : tie.After-n Inv-loop μ-loop) → c .n .given .0 .0 ≤ 12601
+few c =
     let after-read-book : tie.After-read-book Inv-loop μ-loop = search in
-    omega (arith, rw (after-n .n .given .1) at (after-read-book .read-book .ensures))
-
-slice-aggregate-seven-lines : tie.Need-slice-aggregate-seven-lines Inv-loop μ-loop
-slice-aggregate-seven-lines c =
-    let after-n : tie.After-n Inv-loop μ-loop = search in
-    let after-read-book : tie.After-read-book Inv-loop μ-loop = search in
-    simp length-take (omega (arith, rw (after-n .n .given .1) at (after-read-book .read-book .ensures)))
+    rw (c .n .given .1) at (after-read-book .read-book .ensures)
 
 pub main-spec : {M : Type 1} → statement M
 main-spec =
@@ -37,9 +32,9 @@ main-spec =
     (λ c. search needs)  -- enum-known-n
     (λ c. search needs)  -- enum-told
     (λ c. search needs)  -- returns
-    array-share-prefix-words
-    slice-aggregate-seven-lines
-    (λ c κs. search needs)  -- seven-lines-requires
+    (λ c. omega (arith, few (search)))  -- array-share-prefix-words
+    (λ c. simp length-take (omega (arith, few (search))))  -- slice-aggregate-trial
+    (λ c κs. search needs)  -- trial-requires
     (λ c. search needs)  -- add-books
     (λ c. search needs)  -- loop-less
     (λ c. search needs)  -- loop-again

@@ -1,4 +1,5 @@
--- `shelf::read_book` meets its contract: the words that are asked for have room in the bytes, and in the words. Assumes nothing.
+-- `shelf::read_book` meets its contract: the words that are asked for have room in the bytes, and in the words.
+-- Assumes nothing.
 use native.Mathlib.Omega.{arith}
 use lib.ListN.{length-take}
 use borrow.Author.Needs.{needs}

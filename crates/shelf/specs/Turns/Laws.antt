@@ -1,14 +1,14 @@
--- Laws of turns: who moves, one move more, and how many parties there are. Assumes nothing.
+-- Laws of turns: who moves, what a schedule holds in the end, and how many parties there are. Assumes nothing.
 use Prim.Native.Nat.{ℕ, zero, suc, _+_, _-_, _/_, _%_, _≤_, _<_}
 use mathlib.Core.Bool.{Bool, true, false}
 use mathlib.Core.Path.{_≡_, refl, sym, _∙_, ap}
 use mathlib.Core.List.{List, [], _∷_}
 use native.Mathlib.Omega.{arith}
 use native.Mathlib.Nat.{mod-lt, zero-add}
-use native.Mathlib.Decide.{ℕ-discrete}
-use lib.ListN.{length, getD, set}
-use lib.Seq.{ext-getD, getD-set-same, getD-set-other}
+use lib.ListN.{length, getD}
+use lib.Seq.{ext-getD}
 use borrow.Author.Tests.{lt-ltb, le-ltb}
+use Rattle.input.specs.Filled.{Filled}
 use Rattle.words.specs.Choice.Laws.{pick-true, pick-false}
 use Rattle.words.specs.Run.{values}
 use Rattle.words.specs.Run.Laws.{values-length, values-getD}
@@ -33,16 +33,11 @@ module _ (q times i : ℕ) (back : Bool) (w p : ℕ) (same : w ≡ q) (e : p ≡
   unfolding turn
   turn-back y = ap (λ (k : ℕ). q - 1 - k) asked ∙ sym (pick-true back (q - 1 - i / times % q) (i / times % q) y)
 
--- ---- values, one more and all
-pub filled-more : (f : ℕ → ℕ) (out : List ℕ) (i w : ℕ) → i < length out → w ≡ f i → ((k : ℕ) → k < i → getD out k 0 ≡ f k) → (k : ℕ) → k < i + 1 → getD (set out i w) k 0 ≡ f k
-filled-more f out i w h e inv k l = elim (ℕ-discrete k i) [
-  | yes p ↦ rw p (getD-set-same out i w 0 h ∙ e)
-  | no q ↦ getD-set-other out i k w 0 q ∙ inv k (omega arith)
-]
-
-pub filled-all : (f : ℕ → ℕ) (out : List ℕ) (n : ℕ) → length out ≡ n → ((k : ℕ) → k < n → getD out k 0 ≡ f k) → out ≡ values f 0 n
-filled-all f out n e h =
-    ext-getD 0 out (values f 0 n) (e ∙ sym (values-length f 0 n)) (λ k l. h k (omega arith) ∙ sym (values-getD f 0 n k 0 (omega arith) ∙ ap f (zero-add k)))
+-- ---- a list that is filled with a function's values has them all
+pub filled-all : (f : ℕ → ℕ) (out : List ℕ) (n : ℕ) → length out ≡ n → Filled f out n → out ≡ values f 0 n
+filled-all f out n e filled =
+    ext-getD 0 out (values f 0 n) (e ∙ sym (values-length f 0 n))
+    (λ k l. filled k (omega arith) ∙ sym (values-getD f 0 n k 0 (omega arith) ∙ ap f (zero-add k)))
 
 -- ---- seats
 pub no-word : (l : List ℕ) (k : ℕ) → length l ≤ k → getD l k 0 ≡ 0

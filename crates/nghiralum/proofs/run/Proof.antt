@@ -1,21 +1,16 @@
 -- `nghiralum::run` meets its contract: the words are a quarter of the bytes that came. Assumes nothing.
+use Prim.Native.Nat.{_≤_}
 use native.Mathlib.Omega.{arith}
 use lib.ListN.{length-take}
 use borrow.Author.Needs.{needs}
 use Rattle.nghiralum.proofs.run.Statement.{statement}
 use Rattle.nghiralum.proofs.run.Tie as tie
 
-array-share-prefix-words : tie.Need-array-share-prefix-words
-array-share-prefix-words c =
-    let after-input : tie.After-input = search in
+-- where bytes came, they are as many as `read_words` says
+few : (c : tie.After-input) → c .input .given .0 .0 ≤ 50404
+few c =
     let after-read-words : tie.After-read-words = search in
-    omega (arith, rw (after-input .input .given .1) at (after-read-words .read-words .ensures))
-
-slice-aggregate-answer : tie.Need-slice-aggregate-answer
-slice-aggregate-answer c =
-    let after-input : tie.After-input = search in
-    let after-read-words : tie.After-read-words = search in
-    simp length-take (omega (arith, rw (after-input .input .given .1) at (after-read-words .read-words .ensures)))
+    rw (c .input .given .1) at (after-read-words .read-words .ensures)
 
 pub run-spec : {M : Type 1} → statement M
 run-spec =
@@ -24,8 +19,8 @@ run-spec =
     (λ c. search needs)  -- slice-aggregate-read-words
     (λ c κs. search needs)  -- read-words-requires
     (λ c. search needs)  -- enum-known-input
-    array-share-prefix-words
-    slice-aggregate-answer
+    (λ c. omega (arith, few (search)))  -- array-share-prefix-words
+    (λ c. simp length-take (omega (arith, few (search))))  -- slice-aggregate-answer
     (λ c κs. search needs)  -- answer-requires
     (λ c κs. search needs)  -- print-refusal-requires
     (λ c. search needs)  -- enum-told

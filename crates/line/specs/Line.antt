@@ -38,8 +38,12 @@ listingLine words = ended (spacedAll words)
 abbrev pub refused : List ℕ
 refused = 114 ∷ 101 ∷ 102 ∷ 117 ∷ 115 ∷ 101 ∷ 100 ∷ 32 ∷ []
 
+-- and then number and values
+abbrev pub refusalText : Said → List ℕ
+refusalText s = refused ++ spacedAll (s .number ∷ s .values)
+
 unfoldable pub refusalLine : Said → List ℕ
-refusalLine s = ended (refused ++ spacedAll (s .number ∷ s .values))
+refusalLine s = ended (refusalText s)
 
 -- a refusal as the program prints it
 abbrev pub toldSays : Told → Said

@@ -4,12 +4,11 @@ use book::Refusal;
 use libc::STDOUT_FILENO;
 use translation::Answer;
 ghost use mathlib.Core.Path.{_≡_};
-ghost use mathlib.Core.List.{_∷_, _++_};
 ghost use Prim.Native.Nat.{_+_, _*_, _^_, _<_, _≤_};
 ghost use lib.ListN.{length, take};
 ghost use Rattle.io.specs.Counts.{Counts};
 ghost use Rattle.book.specs.Said.{refusalSays};
-ghost use Rattle.line.specs.Line.{spaced, spacedAll, ended, refused, toldSays, listingLine, refusalLine, Put};
+ghost use Rattle.line.specs.Line.{spaced, spacedAll, ended, toldSays, listingLine, refusalText, refusalLine, Put};
 
 // What a line takes at most: of a listing of 16,384 words, and of a refusal.
 struct Most {}
@@ -89,7 +88,7 @@ fn put_words(line: &mut [u8], words: &[u32]) -> usize
 // The same for a refusal.
 fn put_told(line: &mut [u8], told: Told) -> usize
     requires { ⌜ 71 ≤ length (now line) ⌝ }
-    ensures { λ r. ⌜ (take r (now (line .exit)) ≡ refused ++ spacedAll (toldSays told .number ∷ toldSays told .values)) × (r ≤ 71) ⌝ }
+    ensures { λ r. ⌜ (take r (now (line .exit)) ≡ refusalText (toldSays told)) × (r ≤ 71) ⌝ }
 {
     let start = put_text(line, 0, b"refused ");
     match told {

@@ -1,40 +1,25 @@
--- `line::put_number` meets its contract: a number below 2^64 takes up to twenty digits, a word up to ten (`put-spaced`). Assumes nothing.
+-- `line::put_number` meets its contract: a number below 2^64 takes up to twenty digits, a word up to ten, and a space
+-- stands behind them (`put-spaced`). Assumes nothing.
+use Prim.Native.Nat.{_≤_}
 use native.Mathlib.Omega.{arith}
 use borrow.Author.Needs.{needs}
 use Rattle.line.specs.Line.Laws.{word-digits, all-digits, put-spaced}
 use Rattle.line.proofs.put_number.Statement.{statement}
 use Rattle.line.proofs.put_number.Tie as tie
 
-put-text-requires : tie.Need-put-text-requires
-put-text-requires c κs =
-    let after-decimal : tie.After-decimal = search in
-    let said = after-decimal .decimal .ensures in
-    omega (arith, all-digits _ _ (said .1 .0) (said .1 .1) (omega arith))
-
-slice-write-line : tie.Need-slice-write-line
-slice-write-line c =
-    let after-put-text : tie.After-put-text = search in
-    let after-decimal : tie.After-decimal = search in
-    let said = after-decimal .decimal .ensures in
-    omega (arith, after-put-text .put-text .ensures .next, all-digits _ _ (said .1 .0) (said .1 .1) (omega arith))
-
-add-result : tie.Need-add-result
-add-result c =
-    let after-put-text : tie.After-put-text = search in
-    let after-decimal : tie.After-decimal = search in
-    let said = after-decimal .decimal .ensures in
-    omega (arith, after-put-text .put-text .ensures .next, all-digits _ _ (said .1 .0) (said .1 .1) (omega arith))
+-- the digits of any number that is put
+most : (c : tie.After-decimal) → c .decimal .result ≤ 20
+most c = all-digits _ _ (c .decimal .ensures .1 .0) (omega arith)
 
 returns : tie.Need-returns
 returns c =
     let after-put-text : tie.After-put-text = search in
     let after-decimal : tie.After-decimal = search in
-    let said = after-decimal .decimal .ensures in
-    let put = after-put-text .put-text .ensures in
-    let most = all-digits _ _ (said .1 .0) (said .1 .1) (omega arith) in (
-      put-spaced _ _ (said .1 .0) (omega arith) (said .1 .1) put (omega (arith, put .next, most)),
-      omega (arith, put .next, most),
-      λ h. omega (arith, put .next, word-digits _ _ (said .1 .0) (said .1 .1) h),
+    let said = after-decimal .decimal .ensures .1 in
+    let few = most after-decimal in (
+      put-spaced _ _ (said .0) (omega arith) (said .1) (after-put-text .put-text .ensures) (omega arith),
+      omega arith,
+      λ word. let fewer = word-digits _ _ (said .0) word in omega arith,
     )
 
 pub put-number-spec : {M : Type 1} → statement M
@@ -44,8 +29,8 @@ put-number-spec =
     (λ c κs. search needs)  -- decimal-requires
     (λ c. search needs)  -- array-share-prefix-digits
     (λ c. search needs)  -- slice-aggregate-put-text
-    put-text-requires
-    slice-write-line
-    add-result
+    (λ c κs. omega (arith, most (search)))  -- put-text-requires
+    (λ c. omega (arith, most (search)))  -- slice-write-line
+    (λ c. omega (arith, most (search)))  -- add-result
     (λ c. search needs)  -- same-length
     returns)

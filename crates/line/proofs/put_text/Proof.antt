@@ -1,4 +1,5 @@
--- `line::put_text` meets its contract: as many bytes of the text as were passed stand in the line (`put-paste`). Assumes nothing.
+-- `line::put_text` meets its contract: as many bytes of the text as were passed stand in the line, and each turn adds
+-- one (`paste-suc`); in the end it is all of it (`put-paste`). Assumes nothing.
 use Prim.Native.Nat.{ℕ, _+_, _-_, _≤_}
 use mathlib.Core.Path.{_≡_, _∙_, ap}
 use mathlib.Core.List.{List}
@@ -12,7 +13,8 @@ use Rattle.line.proofs.put_text.Statement.{statement}
 use Rattle.line.proofs.put_text.Tie as tie
 
 abbrev Inv-loop : tie.InvT-loop
-Inv-loop line₀ at text i₀ line i = (i ≤ length text) × (length line ≡ length line₀) × (line ≡ paste line₀ at text i)
+Inv-loop line₀ at text i₀ line i =
+    (i ≤ length text) × (length line ≡ length line₀) × (line ≡ paste line₀ at text i)
 
 abbrev μ-loop : tie.MeasureT-loop
 μ-loop line₀ at text i₀ line i = length text - i
@@ -22,21 +24,18 @@ loop-again c =
     let at-loop : tie.At-loop Inv-loop μ-loop = search in
     let start : tie.Start Inv-loop μ-loop = search in
     let text = start .args .text .now in
-    let old = start .args .line .now in
     let at = start .args .at in
     let i = at-loop .loop .i in (
       search needs,
       search needs,
-      ap (λ (l : List ℕ). set l (at + i) (getD text i 0)) (at-loop .loop .inv .2) ∙ rw add-one
-          (paste-suc old at text i 0 (omega arith) (omega arith)),
+      ap (λ (l : List ℕ). set l (at + i) (getD text i 0)) (at-loop .loop .inv .2)
+          ∙ rw add-one (paste-suc _ at text i 0 (omega arith) (omega arith)),
     )
 
 returns : tie.Need-returns Inv-loop μ-loop
 returns c =
     let at-loop : tie.At-loop Inv-loop μ-loop = search in
-    let start : tie.Start Inv-loop μ-loop = search in
-    put-paste (start .args .line .now) (start .args .text .now) (at-loop .loop .line) (start .args .at)
-    (at-loop .loop .i) (omega arith) (omega arith) (at-loop .loop .inv .2)
+    put-paste {i = at-loop .loop .i} (at-loop .loop .inv .2) (omega arith) (omega arith)
 
 pub put-text-spec : {M : Type 1} → statement M
 put-text-spec =

@@ -1,9 +1,7 @@
 -- `line::refusal_line` meets its contract: the text of what the refusal tells, and then the newline. Assumes nothing.
 use mathlib.Core.Path.{_∙_, ap}
 use borrow.Author.Needs.{needs}
-use mathlib.Core.List.{_∷_, _++_}
-use Rattle.book.specs.Said.{Said}
-use Rattle.line.specs.Line.{refused, spacedAll, ended, refusalLine}
+use Rattle.line.specs.Line.{refusalText, ended, refusalLine}
 use Rattle.line.proofs.refusal_line.Statement.{statement}
 use Rattle.line.proofs.refusal_line.Tie as tie
 
@@ -12,11 +10,9 @@ unfolding refusalLine
 returns c =
     let after-end : tie.After-end = search in
     let after-put-told : tie.After-put-told = search in
-    let after-told-of : tie.After-told-of = search in (
-      after-end .end .ensures .0,
-      after-end .end .ensures .1 ∙ ap ended (after-put-told .put-told .ensures .0 ∙ ap (λ (s : Said). refused ++
-          spacedAll (s .number ∷ s .values)) (after-told-of .told-of .ensures)),
-    )
+    let after-told-of : tie.After-told-of = search in
+    let text = after-put-told .put-told .ensures .0 ∙ ap refusalText (after-told-of .told-of .ensures) in
+    (after-end .end .ensures .0, after-end .end .ensures .1 ∙ ap ended text)
 
 pub refusal-line-spec : {M : Type 1} → statement M
 refusal-line-spec =

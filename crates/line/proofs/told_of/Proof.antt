@@ -1,5 +1,7 @@
--- `line::told_of` meets its contract: by the refusal. Assumes nothing.
+-- `line::told_of` meets its contract: by the refusal, whose number and values are told as they stand. Assumes nothing.
+use mathlib.Core.Path.{sym, ap}
 use borrow.Author.Needs.{needs}
+use Rattle.book.specs.Said.{refusalSays}
 use Rattle.line.proofs.told_of.Statement.{statement}
 use Rattle.line.proofs.told_of.Tie as tie
 
@@ -29,7 +31,7 @@ told-of-spec =
     (λ c. search needs)  -- enum-known-refusal-9
     (λ c. search needs)  -- cast-t23
     (λ c. search needs)  -- enum-known-refusal-10
-    (λ c. search needs)  -- returns
+    (λ c. ap refusalSays (sym (c .enum-told .given .1)))  -- returns
     (λ c. cc)  -- returns-2
     (λ c. cc)  -- returns-3
     (λ c. cc)  -- returns-4

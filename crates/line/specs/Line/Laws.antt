@@ -1,33 +1,40 @@
--- Laws of the line: texts put one behind another, the digits that a number takes, the newline. Assumes nothing.
-use Prim.Native.Nat.{ℕ, zero, suc, _+_, _-_, _/_, _%_, _^_, _≤_, _<_}
+-- Laws of the line: texts put one behind another, the digits that a number takes, numbers behind a text, the newline. Assumes nothing.
+use Prim.Native.Nat.{ℕ, suc, _+_, _-_, _^_, _≤_, _<_}
 use mathlib.Core.Path.{_≡_, refl, sym, _∙_, ap}
 use mathlib.Core.List.{List, [], _∷_, _++_, append-assoc, append-nil}
 use native.Mathlib.Omega.{arith}
 use native.Mathlib.Numerals.{add-one}
 use native.Mathlib.Decide.{decLt}
 use native.Mathlib.Nat.{pow-le-pow-right}
-use lib.ListN.{length, take, set, getD, length-append}
+use lib.ListN.{length, take, set, getD, length-append, length-set}
 use lib.Seq.{take-suc, take-suc-set, take-take, length-take-le, take-length, paste, take-paste}
 use lib.Dec.{ltb}
 use borrow.Author.Tests.{lt-ltb, le-ltb}
-use Rattle.io.specs.Digits.{glyph, digits, Fewest}
+use Rattle.io.specs.Counts.{Counts}
+use Rattle.io.specs.Digits.{digits, Fewest}
 use Rattle.words.specs.First.{first, firstFrom}
 use Rattle.words.specs.First.Laws.{first-is}
 use Rattle.book.specs.Said.{said}
-use Rattle.line.specs.Line.{places, decimal, spaced, spacedAll, ended, listingLine, refused, refusalLine, Put}
+use Rattle.line.specs.declared.Told.{Told}
+use Rattle.line.specs.declared.Told.the-variants.{One, Two}
+use Rattle.line.specs.Line.{places, decimal, spaced, spacedAll, ended, listingLine, refused, refusalText, refusalLine, toldSays, Put}
 
--- a text that was copied, one byte, and one text behind another
-pub put-paste : (o text n : List ℕ) (at i : ℕ) → i ≡ length text → at + length text ≤ length o → n ≡ paste o at text i → Put text o at n (at + length text)
-put-paste o text n at i e h p =
+-- ---- Put
+-- a text that was copied to its end
+pub put-paste : {o text n : List ℕ} {at i : ℕ} → n ≡ paste o at text i → i ≡ length text → at + length text ≤ length o
+    → Put text o at n (at + length text)
+put-paste {o} {text} {n} {at} p e h =
     let q : n ≡ paste o at text (length text) = rw e at p in
     record {
-      front = ap (take (at + length text)) q ∙ take-paste o at text (length text) (omega arith) (omega arith) ∙ ap (λ (l : List ℕ). take at o ++ l) (take-length text);
+      front = ap (take (at + length text)) q ∙ take-paste o at text (length text) (omega arith) (omega arith)
+          ∙ ap (λ (l : List ℕ). take at o ++ l) (take-length text);
       next = refl;
     }
 
 pub put-one : (l : List ℕ) (at x : ℕ) → at < length l → Put (x ∷ []) l at (set l at x) (at + 1)
 put-one l at x h = record { front = rw add-one (take-suc-set l at x h); next = refl }
 
+-- one text behind another
 pub put-then : {t u o m n : List ℕ} {a p r : ℕ} → Put t o a m p → Put u m p n r → Put (t ++ u) o a n r
 put-then {t} {u} {o} {a = a} x y =
     record {
@@ -38,12 +45,7 @@ put-then {t} {u} {o} {a = a} x y =
 pub put-as : {t u o n : List ℕ} {a r : ℕ} → Put t o a n r → t ≡ u → Put u o a n r
 put-as x e = rw e at x
 
-pub digits-length : (b k n : ℕ) → length (digits b k n) ≡ k
-digits-length b zero n = refl
-digits-length b (suc k) n =
-    omega (arith, length-append (digits b k (n / b)) (glyph (n % b) ∷ []), digits-length b k (n / b))
-
--- the fewest digits that hold a number
+-- ---- places, decimal and spaced: the fewest digits that hold a number
 module _ (x k : ℕ) (f : Fewest 10 1 x k) where
   -- are no more than hold a larger one
   pub fewest-most : (n : ℕ) → 1 ≤ n → x < 10 ^ n → k ≤ n
@@ -54,6 +56,13 @@ module _ (x k : ℕ) (f : Fewest 10 1 x k) where
         let r : 10 ^ (k - 1) ≤ x = f .2 (omega arith) in
         absurd (omega arith)
   ]
+
+  -- ten for a word, twenty for any number that is printed
+  pub word-digits : x < 2 ^ 32 → k ≤ 10
+  word-digits h = fewest-most 10 (omega arith) (omega arith)
+
+  pub all-digits : x < 2 ^ 64 → k ≤ 20
+  all-digits h = fewest-most 20 (omega arith) (omega arith)
 
   power-below : (j : ℕ) → j < k - 1 → 10 ^ (j + 1) ≤ x
   power-below j l =
@@ -78,39 +87,52 @@ module _ (x k : ℕ) (f : Fewest 10 1 x k) where
   unfolding decimal
   decimal-fewest most = ap (λ (n : ℕ). digits 10 n x) (places-fewest most)
 
-  -- ten for a word, twenty for any number that is printed
-  pub word-digits : {t : List ℕ} → t ≡ digits 10 k x → x < 2 ^ 32 → length t ≤ 10
-  word-digits e h = omega (arith, ap length e ∙ digits-length 10 k x, fewest-most 10 (omega arith) (omega arith))
-
-  pub all-digits : {t : List ℕ} → t ≡ digits 10 k x → x < 2 ^ 64 → length t ≤ 20
-  all-digits e h = omega (arith, ap length e ∙ digits-length 10 k x, fewest-most 20 (omega arith) (omega arith))
-
   -- its digits and a space, put one behind the other
-  pub put-spaced : {t o m : List ℕ} {a p : ℕ} → x < 2 ^ 64 → t ≡ digits 10 k x → Put t o a m p → p < length m → Put (spaced x) o a (set m p 32) (p + 1)
+  pub put-spaced : {t o m : List ℕ} {a p : ℕ} → x < 2 ^ 64 → t ≡ digits 10 k x → Put t o a m p → p < length m
+      → Put (spaced x) o a (set m p 32) (p + 1)
   unfolding spaced
   put-spaced {m = m} {p = p} fits e put h =
-      put-as (put-then put (put-one m p 32 h)) (ap (λ (l : List ℕ). l ++ 32 ∷ []) (e ∙ decimal-fewest (fewest-most 20 (omega arith) (omega arith))))
+      put-as (put-then put (put-one m p 32 h)) (ap (λ (l : List ℕ). l ++ 32 ∷ []) (e ∙ decimal-fewest (all-digits fits)))
 
--- one number more, at the end and in a list that is walked
-pub spelled-more : (xs : List ℕ) (x : ℕ) → spacedAll (xs ++ x ∷ []) ≡ spacedAll xs ++ spaced x
+-- ---- spacedAll
+-- one number more, at the end
+spaced-last : (xs : List ℕ) (x : ℕ) → spacedAll (xs ++ x ∷ []) ≡ spacedAll xs ++ spaced x
 unfolding spacedAll
-spelled-more [] x = append-nil _
-spelled-more (y ∷ xs) x =
-    ap (λ (l : List ℕ). spaced y ++ l) (spelled-more xs x) ∙ sym (append-assoc (spaced y) (spacedAll xs) (spaced x))
+spaced-last [] x = append-nil _
+spaced-last (y ∷ xs) x =
+    ap (λ (l : List ℕ). spaced y ++ l) (spaced-last xs x) ∙ sym (append-assoc (spaced y) (spacedAll xs) (spaced x))
 
+-- and in a list that is walked
 pub spelled-next : (xs : List ℕ) (i : ℕ) → i < length xs → spacedAll (take i xs) ++ spaced (getD xs i 0) ≡ spacedAll (take (i + 1) xs)
 spelled-next xs i h =
     let e : take (i + 1) xs ≡ take i xs ++ getD xs i 0 ∷ [] = rw add-one (take-suc xs i 0 h) in
-    sym (ap spacedAll e ∙ spelled-more (take i xs) (getD xs i 0))
+    sym (ap spacedAll e ∙ spaced-last (take i xs) (getD xs i 0))
 
 -- two numbers and three behind a text
-pub spelled-two : (t : List ℕ) (x y : ℕ) → (t ++ spaced x) ++ spaced y ≡ t ++ spacedAll (x ∷ y ∷ [])
+spaced-two : (t : List ℕ) (x y : ℕ) → (t ++ spaced x) ++ spaced y ≡ t ++ spacedAll (x ∷ y ∷ [])
 unfolding spacedAll
-spelled-two t x y = simp (append-assoc, append-nil)
+spaced-two t x y = simp (append-assoc, append-nil)
 
-pub spelled-three : (t : List ℕ) (x y z : ℕ) → ((t ++ spaced x) ++ spaced y) ++ spaced z ≡ t ++ spacedAll (x ∷ y ∷ z ∷ [])
+spaced-three : (t : List ℕ) (x y z : ℕ) → ((t ++ spaced x) ++ spaced y) ++ spaced z ≡ t ++ spacedAll (x ∷ y ∷ z ∷ [])
 unfolding spacedAll
-spelled-three t x y z = simp (append-assoc, append-nil)
+spaced-three t x y z = simp (append-assoc, append-nil)
+
+-- ---- refusalText: a refusal's number and one value behind the word "refused", or two
+module _ {told : Told} {number place : ℕ} {o l m new : List ℕ} {a b r : ℕ} (word : Put refused o 0 l a) (first : Put (spaced number) l a m b)
+    (second : Put (spaced place) m b new r) where
+  pub told-one : told ≡ One number place → take r new ≡ refusalText (toldSays told)
+  told-one e = put-then (put-then word first) second .front ∙ spaced-two refused number place ∙ ap (λ s. refusalText (toldSays s)) (sym e)
+
+  pub told-two : {row q : ℕ} {last : List ℕ} → Put (spaced row) new r last q → told ≡ Two number place row
+      → take q last ≡ refusalText (toldSays told)
+  told-two {row} third e =
+      put-then (put-then (put-then word first) second) third .front ∙ spaced-three refused number place row
+      ∙ ap (λ s. refusalText (toldSays s)) (sym e)
+
+-- ---- ended
+-- a byte that is written leaves as many to count
+pub counts-set : (n : ℕ) (l : List ℕ) (at x : ℕ) → n ≤ length l → Counts n (set l at x)
+counts-set n l at x h = (simp length-set h, sym (length-take-le n (set l at x) (simp length-set h)))
 
 -- the newline, behind a text and in an empty line
 pub ended-some : (l : List ℕ) (end : ℕ) → 0 < end → end ≤ length l → take end (set l (end - 1) 10) ≡ ended (take end l)
@@ -124,7 +146,7 @@ pub ended-none : (l : List ℕ) (end : ℕ) → end ≡ 0 → 0 < length l → t
 unfolding ended
 ended-none l end e h = rw e (take-suc-set l 0 10 h)
 
--- two lines, computed: "10 0" and "refused 10 1 3"
+-- ---- listingLine and refusalLine: two lines, computed, "10 0" and "refused 10 1 3"
 pub listing-shown : listingLine (10 ∷ 0 ∷ []) ≡ 49 ∷ 48 ∷ 32 ∷ 48 ∷ 10 ∷ []
 unfolding listingLine ended spacedAll spaced decimal places first firstFrom
 listing-shown = refl

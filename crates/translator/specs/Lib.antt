@@ -1,3 +1,3 @@
 pub mod Among
-pub mod Came
-pub mod Heads
+pub mod Parts
+pub mod Ready

@@ -15,18 +15,16 @@ use words::put_all;
 use words::put2;
 use words::wide;
 ghost use mathlib.Core.Path.{_≡_};
-ghost use Prim.Native.Nat.{_*_};
-ghost use lib.ListN.{length, take};
+ghost use lib.ListN.{length};
 ghost use Rattle.words.specs.Overlay.{Wrote};
-ghost use Rattle.words.specs.Run.{values};
 ghost use Rattle.book.specs.Layout.{parties as partiesOf};
 ghost use Rattle.book.specs.Valid.{Valid};
 ghost use Rattle.book.specs.Said.{readingSays};
-ghost use Rattle.translation.specs.Listing.{bodies, partWords, listing};
+ghost use Rattle.translation.specs.Listing.{listing};
 ghost use Rattle.translation.specs.Outcome.{acceptance, outcome, came};
-ghost use Rattle.claims.specs.Claims.{Claims};
-ghost use Rattle.translator.specs.Among.{NobodyRefused, FoundAmong};
-ghost use Rattle.translator.specs.Heads.{headsOf};
+ghost use Rattle.translator.specs.Among.{FoundAmong};
+ghost use Rattle.translator.specs.Parts.{headsOf, HeadsIn, bodiesOf};
+ghost use Rattle.translator.specs.Ready.{Ready, Writable};
 
 // Behind the heads: where the next word goes, where the last program ends, and the first step at which a taken atom would be made.
 struct Heads {
@@ -47,7 +45,7 @@ struct Surveyed {
 // Offset and count of each party's program; the first begins behind them. Where a party would make a taken atom there is no output, so
 // what is written then says nothing, and the parties that follow are asked about the steps before alone.
 fn write_heads(book: &[u32], since: &[u32; 1024], out: &mut [u32], at: usize) -> Heads
-    requires { ⌜ Valid (now book) × Claims (now book) (now since) ⌝ }
+    requires { ⌜ Ready (now book) (now since) ⌝ }
     ensures { λ r. ⌜ (r .taken ≡ 0 → Wrote (headsOf (now (book .entry))) (now (out .entry)) at (now (out .exit)) (r .at) × (r .end ≡ length (listing (now (book .entry))))) × FoundAmong (now (book .entry)) (partiesOf (now (book .entry))) (r .step) (r .taken) ⌝ }
 {
     let n = parties(book);
@@ -77,8 +75,8 @@ fn write_heads(book: &[u32], since: &[u32; 1024], out: &mut [u32], at: usize) ->
 
 // The programs, in party order.
 fn write_bodies(book: &[u32], since: &[u32; 1024], out: &mut [u32], at: usize) -> usize
-    requires { ⌜ Valid (now book) × Claims (now book) (now since) × NobodyRefused (now book) (partiesOf (now book)) ⌝ }
-    ensures { λ r. ⌜ Wrote (bodies (values (partWords (now (book .entry))) 0 (partiesOf (now (book .entry))))) (now (out .entry)) at (now (out .exit)) r ⌝ }
+    requires { ⌜ Writable (now book) (now since) ⌝ }
+    ensures { λ r. ⌜ Wrote (bodiesOf (now (book .entry))) (now (out .entry)) at (now (out .exit)) r ⌝ }
 {
     let n = parties(book);
     let mut next = at;
@@ -92,7 +90,7 @@ fn write_bodies(book: &[u32], since: &[u32; 1024], out: &mut [u32], at: usize) -
 
 // The whole output: its heads were found before.
 fn write_listing(book: &[u32], since: &[u32; 1024], heads: &[u32], out: &mut [u32]) -> usize
-    requires { ⌜ Valid (now book) × Claims (now book) (now since) × NobodyRefused (now book) (partiesOf (now book)) × (take (2 * partiesOf (now book)) (now heads) ≡ headsOf (now book)) ⌝ }
+    requires { ⌜ Writable (now book) (now since) × HeadsIn (now book) (now heads) ⌝ }
     ensures { λ r. ⌜ Wrote (listing (now (book .entry))) (now (out .entry)) 0 (now (out .exit)) r ⌝ }
 {
     let n = parties(book);
@@ -103,8 +101,8 @@ fn write_listing(book: &[u32], since: &[u32; 1024], heads: &[u32], out: &mut [u3
 
 // The first taken atom or, where there is none, the heads and the output's length, with nothing written to the output.
 fn survey(book: &[u32], since: &[u32; 1024]) -> Surveyed
-    requires { ⌜ Valid (now book) × Claims (now book) (now since) ⌝ }
-    ensures { λ r. ⌜ (r .taken ≡ 0 → (take (2 * partiesOf (now (book .entry))) (r .heads) ≡ headsOf (now (book .entry))) × (r .end ≡ length (listing (now (book .entry))))) × FoundAmong (now (book .entry)) (partiesOf (now (book .entry))) (r .step) (r .taken) ⌝ }
+    requires { ⌜ Ready (now book) (now since) ⌝ }
+    ensures { λ r. ⌜ (r .taken ≡ 0 → HeadsIn (now (book .entry)) (r .heads) × (r .end ≡ length (listing (now (book .entry))))) × FoundAmong (now (book .entry)) (partiesOf (now (book .entry))) (r .step) (r .taken) ⌝ }
 {
     let mut heads = [0u32; 32];
     let all = write_heads(book, since, &mut heads, 0);

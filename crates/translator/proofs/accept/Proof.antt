@@ -1,5 +1,6 @@
--- `translator::accept` meets its contract: the reader's refusal is given first, and an accepted book is valid. Assumes nothing.
-use Rattle.translator.specs.Came.{refused-accept, accepted-book}
+-- `translator::accept` meets its contract: the reader's refusal is given first, and an accepted book is valid.
+-- Assumes nothing.
+use Rattle.translator.proofs.Came.{refused-accept, accepted-book}
 use borrow.Author.Needs.{needs}
 use Rattle.translator.proofs.accept.Statement.{statement}
 use Rattle.translator.proofs.accept.Tie as tie

@@ -1,5 +1,5 @@
 -- `translator::accept_valid` meets its contract: the find over all parties decides refusal 10. Assumes nothing.
-use Rattle.translator.specs.Came.{taken-accept, none-accept}
+use Rattle.translator.proofs.Came.{taken-accept, none-accept}
 use borrow.Author.Needs.{needs}
 use Rattle.translator.proofs.accept_valid.Statement.{statement}
 use Rattle.translator.proofs.accept_valid.Tie as tie

@@ -1,17 +1,17 @@
--- `translator::survey` meets its contract: what was laid into the heads is read from them. Assumes nothing.
+-- `translator::survey` meets its contract: what `write_heads` laid into the 32 words is read from them. Assumes nothing.
 use mathlib.Core.Path.{refl}
-use Rattle.translator.proofs.Laws.{heads-found}
+use Rattle.translator.proofs.Listing.{heads-found}
 use borrow.Author.Needs.{needs}
 use Rattle.translator.proofs.survey.Statement.{statement}
 use Rattle.translator.proofs.survey.Tie as tie
 
+-- where nothing is found, the heads are there
 returns : tie.Need-returns
 returns c =
     let after-write-heads : tie.After-write-heads = search in
-    let start : tie.Start = search in (
-      λ z. let w = after-write-heads .write-heads .ensures .0 z in (heads-found _ (start .pre .0) refl (w .0), w .1),
-      after-write-heads .write-heads .ensures .1,
-    )
+    let start : tie.Start = search in
+    let laid = after-write-heads .write-heads .ensures in
+    (λ none. (heads-found (start .pre .valid) refl (laid .0 none .0), laid .0 none .1), laid .1)
 
 pub survey-spec : {M : Type 1} → statement M
 survey-spec =

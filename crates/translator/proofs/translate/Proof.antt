@@ -1,5 +1,6 @@
--- `translator::translate` meets its contract: the reader's refusal is given first, and an accepted book is valid. Assumes nothing.
-use Rattle.translator.specs.Came.{refused-came, accepted-book}
+-- `translator::translate` meets its contract: the reader's refusal is given first, and an accepted book is valid.
+-- Assumes nothing.
+use Rattle.translator.proofs.Came.{refused-came, accepted-book}
 use borrow.Author.Needs.{needs}
 use Rattle.translator.proofs.translate.Statement.{statement}
 use Rattle.translator.proofs.translate.Tie as tie

@@ -1,11 +1,12 @@
--- `translator::write_bodies` meets its contract: the programs of the parties passed are written. Assumes nothing.
-use Rattle.book.specs.Layout.{parties}
+-- `translator::write_bodies` meets its contract: the programs of the parties passed are written, and each turn adds
+-- one (`bodies-on`). Assumes nothing.
 use Prim.Native.Nat.{_-_, _<_}
-use Rattle.book.specs.Headed.Laws.{valid-headed}
-use Rattle.words.specs.Overlay.Laws.{wrote-length}
-use Rattle.translator.proofs.Laws.{Laid, bodies-start, bodies-on, bodies-end}
-use borrow.Author.Needs.{needs}
 use native.Mathlib.Omega.{arith}
+use borrow.Author.Needs.{needs}
+use Rattle.words.specs.Overlay.Laws.{wrote-length}
+use Rattle.book.specs.Layout.{parties}
+use Rattle.book.specs.Headed.Laws.{valid-headed}
+use Rattle.translator.proofs.Laid.{Laid, bodies-start, bodies-on, bodies-end}
 use Rattle.translator.proofs.write_bodies.Statement.{statement}
 use Rattle.translator.proofs.write_bodies.Tie as tie
 
@@ -15,14 +16,13 @@ Inv-loop book since out₀ at n next₀ party₀ out next party = Laid book n pa
 abbrev μ-loop : tie.MeasureT-loop
 μ-loop book since out₀ at n next₀ party₀ out next party = n - party
 
+-- nobody would make a taken atom, so neither would this party
 write-program-requires : tie.Need-write-program-requires Inv-loop μ-loop
 write-program-requires c κs =
     let at-loop : tie.At-loop Inv-loop μ-loop = search in
-    let after-parties : tie.After-parties Inv-loop μ-loop = search in
     let start : tie.Start Inv-loop μ-loop = search in
-    let e = after-parties .parties .ensures in
     let l : at-loop .loop .party < parties (start .args .book .now) = omega arith in
-    (start .pre .0, start .pre .1, l, start .pre .2 _ l)
+    (start .pre .valid, start .pre .claims, l, start .pre .nobody _ l)
 
 pub write-bodies-spec : {M : Type 1} → statement M
 write-bodies-spec =

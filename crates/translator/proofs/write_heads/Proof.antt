@@ -1,52 +1,61 @@
--- `translator::write_heads` meets its contract: the heads of the parties passed are written while nothing is found, and the smallest step is kept. Assumes nothing.
+-- `translator::write_heads` meets its contract: the heads of the parties passed are written while nothing is found
+-- (`heads-on`), and of what is found the smallest step is kept (`heads-off`). Assumes nothing.
 use mathlib.Core.Logic.{inl, inr}
 use Prim.Native.Nat.{_-_}
-use Rattle.book.specs.Headed.Laws.{valid-headed}
-use Rattle.translator.specs.Among.Laws.{among-within}
-use Rattle.translator.proofs.Laws.{Measuring, heads-start, few-parties, heads-on, heads-off, heads-end}
-use borrow.Author.Needs.{needs}
 use native.Mathlib.Omega.{arith}
+use borrow.Author.Needs.{needs}
+use Rattle.book.specs.Headed.Laws.{valid-headed}
+use Rattle.walking.specs.Found.{FoundBefore}
+use Rattle.translator.specs.Among.Laws.{among-within}
+use Rattle.translator.proofs.Measuring.{Measuring, heads-start, few-parties, heads-on, heads-off, heads-end}
 use Rattle.translator.proofs.write_heads.Statement.{statement}
 use Rattle.translator.proofs.write_heads.Tie as tie
 
 abbrev Inv-loop : tie.InvT-loop
-Inv-loop book since out₀ at n next₀ end₀ all step₀ taken₀ party₀ out next end step taken party = Measuring book n party out₀ at out next end step taken
+Inv-loop book since out₀ at n next₀ end₀ all step₀ taken₀ party₀ out next end step taken party =
+    Measuring book n party out₀ at out next end step taken
 
 abbrev μ-loop : tie.MeasureT-loop
 μ-loop book since out₀ at n next₀ end₀ all step₀ taken₀ party₀ out next end step taken party = n - party
 
+-- the first program begins behind the number of parties and two words for each
 loop-holds : tie.Need-loop-holds Inv-loop μ-loop
 loop-holds c =
     let after-parties : tie.After-parties Inv-loop μ-loop = search in
-    heads-start _ _ (after-parties .parties .ensures) _ _ _ _ (omega arith) (c .steps .ensures)
+    heads-start (after-parties .parties .ensures) (omega arith) (c .steps .ensures)
 
--- a party has no find, or has one
+-- the party has a find among the steps before the one found so far, or has none
 loop-again : tie.Need-loop-again Inv-loop μ-loop
 loop-again c =
-    let after-put2 : tie.After-put2 Inv-loop μ-loop = search in
-    let after-narrow2 : tie.After-narrow2 Inv-loop μ-loop = search in
-    let after-narrow : tie.After-narrow Inv-loop μ-loop = search in
-    let after-measure : tie.After-measure Inv-loop μ-loop = search in
+    let put : tie.After-put2 Inv-loop μ-loop = search in
+    let count : tie.After-narrow2 Inv-loop μ-loop = search in
+    let offset : tie.After-narrow Inv-loop μ-loop = search in
+    let part : tie.After-measure Inv-loop μ-loop = search in
     let in-loop : tie.In-loop Inv-loop μ-loop = search in
     let at-loop : tie.At-loop Inv-loop μ-loop = search in
     let after-parties : tie.After-parties Inv-loop μ-loop = search in
+    let start : tie.Start Inv-loop μ-loop = search in
+    let all = after-parties .parties .ensures in
+    let inside = in-loop .loop-test .taken in
+    let so-far = at-loop .loop .inv in
+    let found : FoundBefore (start .args .book .now) (at-loop .loop .party) (at-loop .loop .step)
+    (part .measure .result .step) (part .measure .result .taken) = part .measure .ensures .2 in
+    let words = part .measure .ensures .0 in
+    let low = part .measure .ensures .1 in
+    let head = put .put2 .ensures in
     elim (c .if1 .came) [
-      | inl j ↦ heads-off _ _ (after-parties .parties .ensures) _ _ _ _ _ _ _
-          (in-loop .loop-test .taken) (at-loop .loop .inv) (after-measure .measure .ensures .2)
-          (after-measure .measure .ensures .0) (after-measure .measure .ensures .1) (after-narrow .narrow .ensures)
-          (after-narrow2 .narrow2 .ensures) (after-put2 .put2 .ensures) (j .0 .taken) (j .1) (j .2)
-      | inr j ↦ heads-on
-          _ _ (after-parties .parties .ensures) _ _ _ _ _ _ _ (in-loop .loop-test .taken) (at-loop .loop .inv)
-          (after-measure .measure .ensures .2) (after-measure .measure .ensures .0)
-          (after-measure .measure .ensures .1) (after-narrow .narrow .ensures) (after-narrow2 .narrow2 .ensures)
-          (after-put2 .put2 .ensures) (j .0 .left) (j .1) (j .2)
+      | inl j ↦ heads-off all inside so-far found words low (offset .narrow .ensures) (count .narrow2 .ensures) head
+          (j .0 .taken) (j .1) (j .2)
+      | inr j ↦ heads-on all inside so-far found words low (offset .narrow .ensures) (count .narrow2 .ensures) head
+          (j .0 .left) (j .1) (j .2)
     ]
 
+-- the loop ends behind the last party
 returns : tie.Need-returns Inv-loop μ-loop
 returns c =
     let at-loop : tie.At-loop Inv-loop μ-loop = search in
     let after-parties : tie.After-parties Inv-loop μ-loop = search in
-    heads-end _ _ (after-parties .parties .ensures) _ (c .loop-test .left) (at-loop .loop .inv)
+    heads-end (after-parties .parties .ensures) (c .loop-test .left) (at-loop .loop .inv)
 
 pub write-heads-spec : {M : Type 1} → statement M
 write-heads-spec =

@@ -1,30 +1,33 @@
 -- `translator::write_valid` meets its contract: refusal 10, then 12, and then the output. Assumes nothing.
-use Rattle.translator.specs.Among.Laws.{among-nobody}
-use Rattle.translator.specs.Came.{taken-came, room-came, output-came}
 use borrow.Author.Needs.{needs}
+use Rattle.translator.specs.Among.Laws.{among-nobody}
+use Rattle.translator.proofs.Came.{taken-came, room-came, output-came}
 use Rattle.translator.proofs.write_valid.Statement.{statement}
 use Rattle.translator.proofs.write_valid.Tie as tie
 
+-- nothing was found, and there are fewer words than the output takes
 returns-2 : tie.Need-returns-2
 returns-2 c =
     let else1 : tie.Else1 = search in
     let after-survey : tie.After-survey = search in
     let start : tie.Start = search in
-    room-came _ (start .pre) _ _ (after-survey .survey .ensures .1) _ (else1 .if1 .left) _
-    ((after-survey .survey .ensures .0 (else1 .if1 .left)) .1) (c .if2 .taken)
+    let none = else1 .if1 .left in
+    let length = after-survey .survey .ensures .0 none .1 in
+    room-came (start .pre) (after-survey .survey .ensures .1) _ none length (c .if2 .taken)
 
 write-listing-requires : tie.Need-write-listing-requires
 write-listing-requires c κs =
     let else1 : tie.Else1 = search in
     let after-survey : tie.After-survey = search in
     let after-claims : tie.After-claims = search in
-    let start : tie.Start = search in (
-      start .pre,
-      after-claims .claims .ensures,
-      among-nobody _ (after-survey .survey .ensures .1) (else1 .if1 .left),
-      (after-survey .survey .ensures .0 (else1 .if1 .left)) .0,
+    let start : tie.Start = search in
+    let none = else1 .if1 .left in
+    let nobody = among-nobody _ (after-survey .survey .ensures .1) none in (
+      record { valid = start .pre; claims = after-claims .claims .ensures; nobody = nobody },
+      after-survey .survey .ensures .0 none .0,
     )
 
+-- nothing was found, and there is room
 returns-3 : tie.Need-returns-3
 returns-3 c =
     let after-write-listing : tie.After-write-listing = search in
@@ -32,8 +35,9 @@ returns-3 c =
     let else1 : tie.Else1 = search in
     let after-survey : tie.After-survey = search in
     let start : tie.Start = search in
-    output-came _ (start .pre) _ _ (after-survey .survey .ensures .1) _ (else1 .if1 .left) _
-    ((after-survey .survey .ensures .0 (else1 .if1 .left)) .1) _ _ (else2 .if2 .left)
+    let none = else1 .if1 .left in
+    let length = after-survey .survey .ensures .0 none .1 in
+    output-came (start .pre) (after-survey .survey .ensures .1) _ none length (else2 .if2 .left)
     (after-write-listing .write-listing .ensures)
 
 pub write-valid-spec : {M : Type 1} → statement M

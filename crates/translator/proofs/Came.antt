@@ -28,75 +28,77 @@ use Rattle.translation.specs.Long.Laws.{listing-short}
 use Rattle.translator.specs.Among.{FoundAmong}
 use Rattle.translator.specs.Among.Laws.{found-none, found-one}
 
-module _ (b : List ℕ) where
-  -- ---- a refusal that is the book's
-  refusal-came : (out : List ℕ) (f : Refusal) → readingSays (reading.Refused f) ≡ acceptance b → came (Refused f) out ≡ outcome b out
-  unfolding outcome translationSays
-  refusal-came out f e = book-came b (roomLine (length out) (length (listing b)) ∷ []) (said 0 (length (listing b) ∷ [])) out (listing b) f e
+-- a refusal that is the book's
+refusal-came : (b out : List ℕ) (f : Refusal) → readingSays (reading.Refused f) ≡ acceptance b → came (Refused f) out ≡ outcome b out
+unfolding outcome translationSays
+refusal-came b out f e =
+    book-came b (roomLine (length out) (length (listing b)) ∷ []) (said 0 (length (listing b) ∷ [])) out (listing b) f e
 
-  -- ---- the reader refuses
-  module _ (r : Reading) (f : Refusal) (d : readingSays r ≡ verdict b) (k : r ≡ reading.Refused f) where
-    says-why : refusalSays f ≡ verdict b
-    says-why = sym (ap readingSays k) ∙ d
+-- ---- the reader's answer
+module _ (b : List ℕ) (r : Reading) (f : Refusal) (d : readingSays r ≡ verdict b) (k : r ≡ reading.Refused f) where
+  says-why : refusalSays f ≡ verdict b
+  says-why = sym (ap readingSays k) ∙ d
 
-    refused : verdict b .number ≡ 0 → ⊥
-    refused z = refusal-number f (ap (λ (x : Said). x .number) says-why ∙ z)
+  refused : verdict b .number ≡ 0 → ⊥
+  refused z = refusal-number f (ap (λ (x : Said). x .number) says-why ∙ z)
 
-    pub refused-accept : readingSays (reading.Refused f) ≡ acceptance b
-    unfolding acceptance verdict
-    refused-accept = says-why ∙ sym (firstOf-stop (readingTable b) (takenLine b ∷ []) accepted accepted refl refused)
+  pub refused-accept : readingSays (reading.Refused f) ≡ acceptance b
+  unfolding acceptance verdict
+  refused-accept = says-why ∙ sym (firstOf-stop (readingTable b) (takenLine b ∷ []) accepted accepted refl refused)
 
-    pub refused-came : (out : List ℕ) → came (Refused f) out ≡ outcome b out
-    refused-came out = refusal-came out f refused-accept
+  pub refused-came : (out : List ℕ) → came (Refused f) out ≡ outcome b out
+  refused-came out = refusal-came b out f refused-accept
 
-  -- ---- the reader accepts
-  pub accepted-book : (r : Reading) → readingSays r ≡ verdict b → r ≡ reading.Accepted → Valid b
-  accepted-book r d k = accepted-valid b .0 (sym d ∙ ap readingSays k)
+pub accepted-book : (b : List ℕ) (r : Reading) → readingSays r ≡ verdict b → r ≡ reading.Accepted → Valid b
+accepted-book b r d k = accepted-valid b .0 (sym d ∙ ap readingSays k)
 
-module _ (b : List ℕ) (v : Valid b) where
+-- ---- refusal 10 of a valid book: what it says of the find (s, t) over all parties
+module _ {b : List ℕ} (v : Valid b) where
   -- the reader's lines pass it
   passes : (ls : List Line) (rest : Said) → firstOf (readingTable b ++ ls) rest ≡ firstOf ls rest
   passes ls rest = ap (λ ms. firstOf (ms ++ ls) rest) (reading-lines b) ∙ all-keep (nine b) ls rest (valid-keep b v)
 
-  -- what refusal 10 says of the find (s, t)
-  module _ (s t : ℕ) (f : FoundAmong b (parties b) s t) where
+  -- what refusal 10 tells of step k
+  abbrev place : ℕ → List ℕ
+  place k = k ∷ firstTaken (narration b) k ∷ []
+
+  module _ {s t : ℕ} (f : FoundAmong b (parties b) s t) where
     pub taken-accept : (t ≡ 0 → ⊥) → readingSays (reading.Refused (Taken s (t - 1))) ≡ acceptance b
     unfolding acceptance takenLine
     taken-accept z =
         let u = found-one b v s t f z in
         let d = u .atom in
         let a : t - 1 ≡ firstTaken (narration b) s = omega arith in
+        let here = first-at (unplayable (narration b)) (steps b) s (u .inside) (u .before) (u .here) in
         ap (λ r. said 10 (s ∷ r ∷ [])) a
-        ∙ sym
-        (passes _ accepted
-        ∙ scan-here 10 (steps b) (unplayable (narration b)) (λ k. k ∷ firstTaken (narration b) k ∷ []) [] accepted s (first-at (unplayable (narration b)) (steps b) s (u .inside) (u .before) (u .here)) (u .inside))
+        ∙ sym (passes _ accepted ∙ scan-here 10 (steps b) (unplayable (narration b)) place [] accepted s here (u .inside))
 
     pub none-accept : t ≡ 0 → readingSays reading.Accepted ≡ acceptance b
     unfolding acceptance takenLine
     none-accept z =
-        sym
-        (passes _ accepted
-        ∙ scan-on 10 (steps b) (unplayable (narration b)) (λ k. k ∷ firstTaken (narration b) k ∷ []) [] accepted (steps b) (first-end (unplayable (narration b)) (steps b) (steps b) refl (found-none b v s t f z)) (omega arith)
-        ∙ firstOf-none accepted)
+        let nowhere = first-end (unplayable (narration b)) (steps b) (steps b) refl (found-none b v s t f z) in
+        let on = scan-on 10 (steps b) (unplayable (narration b)) place [] accepted (steps b) nowhere (omega arith) in
+        sym (passes _ accepted ∙ on ∙ firstOf-none accepted)
 
     pub taken-came : (out : List ℕ) → (t ≡ 0 → ⊥) → came (Refused (Taken s (t - 1))) out ≡ outcome b out
     taken-came out z = refusal-came b out (Taken s (t - 1)) (taken-accept z)
 
-    -- nothing was found, and the output has n words
-    module _ (out : List ℕ) (z : t ≡ 0) (n : ℕ) (m : n ≡ length (listing b)) where
+    -- ---- refusal 12 and the output: nothing was found, and the output has n words
+    module _ (out : List ℕ) (z : t ≡ 0) {n : ℕ} (m : n ≡ length (listing b)) where
       plays : Plays b
       plays = accepted-plays b .0 (sym (none-accept z))
 
-      -- refusal 12
       pub room-came : length out < n → came (Refused (Room n)) out ≡ outcome b out
       unfolding outcome
-      room-came h = came-refused (translationSays b out) out (listing b) (Room n) (exactly-12 b out (n ∷ []) .1 (plays, omega arith, ap (λ i. i ∷ []) m))
+      room-came h =
+          let says = exactly-12 b out (n ∷ []) .1 (plays, omega arith, ap (λ i. i ∷ []) m) in
+          came-refused (translationSays b out) out (listing b) (Room n) says
 
-      -- the output
-      pub output-came : (new : List ℕ) (r : ℕ) → n ≤ length out → Wrote (listing b) out 0 new r → came (Written r) new ≡ outcome b out
+      pub output-came : {new : List ℕ} {r : ℕ} → n ≤ length out → Wrote (listing b) out 0 new r → came (Written r) new ≡ outcome b out
       unfolding outcome
-      output-came new r h w =
+      output-came {new} {r} h w =
           let k = listing-short b v in
           let x = w .next in
           let e : length (listing b) ≡ r = omega arith in
-          came-written (translationSays b out) out (listing b) new r (written-says b out plays (omega arith) ∙ ap (λ i. said 0 (i ∷ [])) e) (w .list)
+          let says = written-says b out plays (omega arith) ∙ ap (λ i. said 0 (i ∷ [])) e in
+          came-written (translationSays b out) out (listing b) new r says (w .list)

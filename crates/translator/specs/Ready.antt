@@ -1,0 +1,18 @@
+-- What is handed to the passes over a book's parties.
+use Prim.Native.Nat.{ℕ}
+use mathlib.Core.List.{List}
+use Rattle.book.specs.Layout.{parties}
+use Rattle.book.specs.Valid.{Valid}
+use Rattle.claims.specs.Claims.{Claims}
+use Rattle.translator.specs.Among.{NobodyRefused}
+
+-- a valid book, and the table of its claims
+pub record Ready (b since : List ℕ) : Type 0 where
+  pub valid : Valid b
+  pub claims : Claims b since
+
+-- and nobody would make a taken atom, so that there is an output to write
+pub record Writable (b since : List ℕ) : Type 0 where
+  pub valid : Valid b
+  pub claims : Claims b since
+  pub nobody : NobodyRefused b (parties b)

@@ -66,7 +66,7 @@ module _ {b : List ℕ} (v : Valid b) where
     pub taken-accept : (t ≡ 0 → ⊥) → readingSays (reading.Refused (Taken s (t - 1))) ≡ acceptance b
     unfolding acceptance takenLine
     taken-accept z =
-        let u = found-one b v s t f z in
+        let u = found-one v f z in
         let d = u .atom in
         let a : t - 1 ≡ firstTaken (narration b) s = omega arith in
         let here = first-at (unplayable (narration b)) (steps b) s (u .inside) (u .before) (u .here) in
@@ -76,7 +76,7 @@ module _ {b : List ℕ} (v : Valid b) where
     pub none-accept : t ≡ 0 → readingSays reading.Accepted ≡ acceptance b
     unfolding acceptance takenLine
     none-accept z =
-        let nowhere = first-end (unplayable (narration b)) (steps b) (steps b) refl (found-none b v s t f z) in
+        let nowhere = first-end (unplayable (narration b)) (steps b) (steps b) refl (found-none v f z) in
         let on = scan-on 10 (steps b) (unplayable (narration b)) place [] accepted (steps b) nowhere (omega arith) in
         sym (passes _ accepted ∙ on ∙ firstOf-none accepted)
 

@@ -42,7 +42,7 @@ module _ {b : List ℕ} {n : ℕ} (e : n ≡ parties b) where
         low = omega arith;
         wrote = λ z. wrote-none;
         ends = λ z. omega arith;
-        found = rw d (among-none b);
+        found = rw d among-none;
       }
 
   -- party q has w words, and its head was written; of the steps before `step` it has the find (s, t)
@@ -57,7 +57,7 @@ module _ {b : List ℕ} {n : ℕ} (e : n ≡ parties b) where
         let same-so-far = h .same in
         let low-so-far = h .low in
         let o = 1 + 2 * parties b in
-        let words : y ≡ 0 → w ≡ length (partWords b q) = λ u. d z (among-all b (h .found) (sym ye ∙ u)) in
+        let words : y ≡ 0 → w ≡ length (partWords b q) = λ u. d z (among-all (h .found) (sym ye ∙ u)) in
         let head : y ≡ 0 → heads o (parts b (q + 1)) ≡ heads o (parts b q) ++ f ∷ g ∷ [] =
         λ u. heads-more b q o ∙ ap₂ (λ m k. heads o (parts b q) ++ m ∷ k ∷ []) (sym (i ∙ h .ends (sym ye ∙ u))) (sym (j ∙ words u)) in
         let more = length-more b q in
@@ -67,7 +67,7 @@ module _ {b : List ℕ} {n : ℕ} (e : n ≡ parties b) where
           low = omega arith;
           wrote = λ u. wrote-as (wrote-then (h .wrote (sym ye ∙ u)) p) (head u);
           ends = λ u. let a = h .ends (sym ye ∙ u) in let v = words u in omega arith;
-          found = rw (xe, ye) (among-stays b (h .found) k z);
+          found = rw (xe, ye) (among-stays (h .found) k z);
         }
 
     -- it has one, and there is no output
@@ -82,7 +82,7 @@ module _ {b : List ℕ} {n : ℕ} (e : n ≡ parties b) where
           low = omega arith;
           wrote = λ u. absurd (z (sym ye ∙ u));
           ends = λ u. absurd (z (sym ye ∙ u));
-          found = rw (xe, ye) (among-sooner b (h .found) k z);
+          found = rw (xe, ye) (among-sooner (h .found) k z);
         }
 
   -- over all parties

@@ -1,7 +1,8 @@
 -- `translator::write_heads` meets its contract: the heads of the parties passed are written while nothing is found
 -- (`heads-on`), and of what is found the smallest step is kept (`heads-off`). Assumes nothing.
 use mathlib.Core.Logic.{inl, inr}
-use Prim.Native.Nat.{_-_}
+use mathlib.Core.Path.{ap}
+use Prim.Native.Nat.{_+_, _-_, _*_}
 use native.Mathlib.Omega.{arith}
 use borrow.Author.Needs.{needs}
 use Rattle.book.specs.Headed.Laws.{valid-headed}
@@ -21,8 +22,10 @@ abbrev μ-loop : tie.MeasureT-loop
 -- the first program begins behind the number of parties and two words for each
 loop-holds : tie.Need-loop-holds Inv-loop μ-loop
 loop-holds c =
+    let after-wide : tie.After-wide Inv-loop μ-loop = search in
     let after-parties : tie.After-parties Inv-loop μ-loop = search in
-    heads-start (after-parties .parties .ensures) (omega arith) (c .steps .ensures)
+    let begins = ap (λ n. 1 + 2 * n) (after-wide .wide .ensures .0) in
+    heads-start (after-parties .parties .ensures) begins (c .steps .ensures)
 
 -- the party has a find among the steps before the one found so far, or has none
 loop-again : tie.Need-loop-again Inv-loop μ-loop

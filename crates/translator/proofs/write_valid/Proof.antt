@@ -22,7 +22,7 @@ write-listing-requires c κs =
     let after-claims : tie.After-claims = search in
     let start : tie.Start = search in
     let none = else1 .if1 .left in
-    let nobody = among-nobody _ (after-survey .survey .ensures .1) none in (
+    let nobody = among-nobody (after-survey .survey .ensures .1) none in (
       record { valid = start .pre; claims = after-claims .claims .ensures; nobody = nobody },
       after-survey .survey .ensures .0 none .0,
     )

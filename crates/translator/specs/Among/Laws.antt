@@ -4,27 +4,27 @@ use mathlib.Core.Bool.{Bool, true, false}
 use mathlib.Core.List.{List}
 use mathlib.Core.Path.{_≡_, refl, sym, _∙_}
 use native.Mathlib.Omega.{arith}
-use native.Mathlib.Decide.{ℕ-discrete}
 use lib.Dec.{eqb}
+use borrow.Author.Count.{below-more}
 use borrow.Author.Tests.{eq-eqb}
 use Rattle.words.specs.Choice.Laws.{pick-true, pick-false}
 use Rattle.words.specs.First.Laws.{clash}
 use Rattle.book.specs.Layout.{parties, steps, sender}
 use Rattle.book.specs.Valid.{Valid}
 use Rattle.translation.specs.Narration.{narration}
-use Rattle.translation.specs.Taken.{unplayable, firstTaken}
+use Rattle.translation.specs.Taken.{unplayable}
 use Rattle.walking.specs.Walk.{refusedFor, Unrefused}
 use Rattle.walking.specs.Found.{FoundBefore}
-use Rattle.translator.specs.Among.{NobodyRefused, FoundAmong}
+use Rattle.translator.specs.Among.{NobodyRefused, FoundAmong, FirstUnplayable}
 
 -- ---- one party more
-module _ (b : List ℕ) where
+-- what holds of the first q parties and of party q
+each-more : (b : List ℕ) (q n : ℕ) → ((p : ℕ) → p < q → Unrefused b p n) → Unrefused b q n → (p : ℕ) → p < q + 1 → Unrefused b p n
+each-more b q n = below-more (λ p. Unrefused b p n) q
+
+module _ {b : List ℕ} where
   pub among-none : FoundAmong b 0 (steps b) 0
   among-none = FoundAmong.none (λ p l. absurd (omega arith))
-
-  -- what holds of the first q parties and of party q
-  each-more : (q n : ℕ) → ((p : ℕ) → p < q → Unrefused b p n) → Unrefused b q n → (p : ℕ) → p < q + 1 → Unrefused b p n
-  each-more q n f g p l = elim (ℕ-discrete p q) [ yes e ↦ rw e g | no e ↦ f p (omega arith) ]
 
   -- where nothing was found, nothing is refused
   pub among-nobody : {q s t : ℕ} → FoundAmong b q s t → t ≡ 0 → NobodyRefused b q
@@ -47,8 +47,8 @@ module _ (b : List ℕ) where
 
   -- the find stays where party q has none before it
   stays : {q s t : ℕ} → FoundAmong b q s t → Unrefused b q s → FoundAmong b (q + 1) s t
-  stays {q} (FoundAmong.none n) i = FoundAmong.none (each-more q (steps b) n i)
-  stays {q} (FoundAmong.one {s = s} {p = p} l m r n) i = FoundAmong.one {s = s} {p = p} (omega arith) m r (each-more q s n i)
+  stays {q} (FoundAmong.none n) i = FoundAmong.none (each-more b q (steps b) n i)
+  stays {q} (FoundAmong.one {s = s} {p = p} l m r n) i = FoundAmong.one {s = s} {p = p} (omega arith) m r (each-more b q s n i)
 
   pub among-stays : {q s t u v : ℕ} → FoundAmong b q s t → FoundBefore b q s u v → v ≡ 0 → FoundAmong b (q + 1) s t
   among-stays f (FoundBefore.none n) z = stays f n
@@ -59,10 +59,10 @@ module _ (b : List ℕ) where
   among-sooner f (FoundBefore.none n) z = absurd (z refl)
   among-sooner {q} f (FoundBefore.one {s = u} l r n) z =
       let w = among-within f in
-      FoundAmong.one {s = u} {p = q} (omega arith) (omega arith) r (each-more q u (λ p h k j. before-it f p h k (omega arith)) n)
+      FoundAmong.one {s = u} {p = q} (omega arith) (omega arith) r (each-more b q u (λ p h k j. before-it f p h k (omega arith)) n)
 
 -- ---- over all parties
-module _ (b : List ℕ) (w : Valid b) where
+module _ {b : List ℕ} (w : Valid b) where
   -- a step is refused for its sender if it is unplayable, and for anybody only then
   sends-refused : (s : ℕ) → refusedFor b (sender b s) s ≡ unplayable (narration b) s
   unfolding refusedFor
@@ -77,21 +77,16 @@ module _ (b : List ℕ) (w : Valid b) where
       go false q = absurd (clash e (pick-false _ _ _ q))
 
   -- each step's sender is a party
-  playable-all : (n : ℕ) → n ≤ steps b → ((p : ℕ) → p < parties b → Unrefused b p n) → (k : ℕ) → k < n → unplayable (narration b) k ≡ false
+  playable-all : (n : ℕ) → n ≤ steps b → ((p : ℕ) → p < parties b → Unrefused b p n) → (k : ℕ) → k < n
+      → unplayable (narration b) k ≡ false
   playable-all n h f k l = sym (sends-refused k) ∙ f (sender b k) (w .stepsKeep k (omega arith) .sends) k l
 
   -- nobody would make a taken atom
-  pub found-none : (s t : ℕ) → FoundAmong b (parties b) s t → t ≡ 0 → (k : ℕ) → k < steps b → unplayable (narration b) k ≡ false
-  found-none s t f z = playable-all (steps b) (omega arith) (among-nobody b f z)
+  pub found-none : {s t : ℕ} → FoundAmong b (parties b) s t → t ≡ 0 → (k : ℕ) → k < steps b → unplayable (narration b) k ≡ false
+  found-none f z = playable-all (steps b) (omega arith) (among-nobody f z)
 
   -- the first step at which one would
-  pub record FirstUnplayable (s t : ℕ) : Type 0 where
-    pub inside : s < steps b
-    pub here : unplayable (narration b) s ≡ true
-    pub before : (k : ℕ) → k < s → unplayable (narration b) k ≡ false
-    pub atom : t ≡ firstTaken (narration b) s + 1
-
-  pub found-one : (s t : ℕ) → FoundAmong b (parties b) s t → (t ≡ 0 → ⊥) → FirstUnplayable s t
-  found-one s t (FoundAmong.none n) z = absurd (z refl)
-  found-one s t (FoundAmong.one {s = u} {p = p} l m r n) z =
+  pub found-one : {s t : ℕ} → FoundAmong b (parties b) s t → (t ≡ 0 → ⊥) → FirstUnplayable b s t
+  found-one (FoundAmong.none n) z = absurd (z refl)
+  found-one (FoundAmong.one {s = u} {p = p} l m r n) z =
       record { inside = m; here = refused-unplayable p u r; before = playable-all u (omega arith) n; atom = refl }

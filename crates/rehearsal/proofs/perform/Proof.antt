@@ -1,31 +1,31 @@
--- `rehearsal::perform` meets its contract: the places are the book's, and the counts the plain machine's. Assumes nothing.
-use mathlib.Core.Path.{refl}
-use Rattle.rehearsal.proofs.Laws.{performed}
-use Rattle.book.specs.Headed.Laws.{valid-headed}
+-- `rehearsal::perform` meets its contract: the places are the book's, and the counts the plain machine's
+-- (`performed`). Assumes nothing.
 use native.Mathlib.Omega.{arith}
 use borrow.Author.Needs.{needs}
+use Rattle.book.specs.Headed.Laws.{valid-headed}
+use Rattle.rehearsal.proofs.Bounds.{few-parties}
+use Rattle.rehearsal.proofs.Performed.{performed}
 use Rattle.rehearsal.proofs.perform.Statement.{statement}
 use Rattle.rehearsal.proofs.perform.Tie as tie
 
-place-requires : tie.Need-place-requires
-place-requires c κs = let start : tie.Start = search in (start .pre .0 .valid, refl, refl, refl)
-
-play-requires : tie.Need-play-requires
-play-requires c κs = let start : tie.Start = search in (start .pre .0 .valid, start .pre .1, refl)
-
-write-counts-requires : tie.Need-write-counts-requires
-write-counts-requires c κs =
+-- every party begins with no event done
+returns : tie.Need-returns
+returns c =
+    let after-write-counts : tie.After-write-counts = search in
+    let after-parties : tie.After-parties = search in
+    let after-play : tie.After-play = search in
+    let after-place : tie.After-place = search in
     let start : tie.Start = search in
-    let f = valid-headed _ (start .pre .0 .valid) in
-    omega arith
+    performed (after-place .place .ensures) (start .pre .0) _ (start .pre .1) (after-play .play .ensures)
+    (after-parties .parties .ensures) (after-write-counts .write-counts .ensures)
 
 pub perform-spec : {M : Type 1} → statement M
 perform-spec =
     tie.close
     (tie.spec
-    place-requires
-    play-requires
+    (λ c κs. search needs)  -- place-requires
+    (λ c κs. search needs)  -- play-requires
     (λ c κs. search valid-headed)  -- parties-requires
-    write-counts-requires
+    (λ c κs. omega (arith, few-parties))  -- write-counts-requires
     (λ c. search needs)  -- same-length
-    (λ c. search performed))  -- returns
+    returns)

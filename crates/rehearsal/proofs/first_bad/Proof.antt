@@ -22,7 +22,9 @@ abbrev μ-loop : tie.MeasureT-loop
 loop-again : tie.Need-loop-again Inv-loop μ-loop
 loop-again c =
     let at-loop : tie.At-loop Inv-loop μ-loop = search in
-    (search needs, below-more _ _ (at-loop .loop .inv .1) (lt-leb _ _ (c .if1 .left)))
+    let start : tie.Start Inv-loop μ-loop = search in
+    let party : getD (start .args .schedule .now) (at-loop .loop .i) 0 < start .args .q = c .if1 .left in
+    (search needs, below-more _ _ (at-loop .loop .inv .1) (lt-leb _ _ party))
 
 -- this one doesn't
 returns : tie.Need-returns Inv-loop μ-loop

@@ -14,7 +14,7 @@ returns : tie.Need-returns
 returns c =
     let then1 : tie.Then1 = search in
     let start : tie.Start = search in
-    long _ _ (start .pre) (c .narrow .ensures) (then1 .if1 .taken)
+    long (start .args .schedule .now) _ (start .pre) (c .narrow .ensures) (then1 .if1 .taken)
 
 -- there is no bad move: all name a party
 module _ (c : tie.Else2) where

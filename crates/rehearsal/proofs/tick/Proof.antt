@@ -9,7 +9,7 @@ use Rattle.rehearsal.proofs.Ticked.{at-end, still-waits, does-next}
 use Rattle.rehearsal.proofs.tick.Statement.{statement}
 use Rattle.rehearsal.proofs.tick.Tie as tie
 
--- what is compared: the events that the party has done, and where its END stands
+-- what is compared: the events that the party has done, and where its END stands; and how many parties are counted
 module _ (c : tie.After-wide4) where
   abbrev start : tie.Start
   start = search
@@ -27,14 +27,17 @@ module _ (c : tie.After-wide4) where
       let index : tie.After-wide2 = search in
       end .wide3 .ensures .0 ∙ ap (λ i. getD (start .args .ends .now) i 0) (index .wide2 .ensures .0)
 
+  sized : length (start .args .done .now) ≡ 16
+  sized = start .pre .2
+
+-- it is at END
 returns : tie.Need-returns
 returns c =
     let here : tie.After-wide4 = search in
-    let first : tie.Start = search in
-    let a = first .args in (
+    let a = start here .args in (
       at-end (a .book .now) (a .sends .now) (a .receives .now) (a .ends .now) (a .done .now) (a .party) (done here)
           (ends here) (omega arith),
-      search needs,
+      sized here,
     )
 
 -- the END is still ahead, and it waits
@@ -43,11 +46,10 @@ returns-2 c =
     let after-waits : tie.After-waits = search in
     let else1 : tie.Else1 = search in
     let here : tie.After-wide4 = search in
-    let first : tie.Start = search in
-    let a = first .args in (
+    let a = start here .args in (
       still-waits (a .book .now) (a .sends .now) (a .receives .now) (a .ends .now) (a .done .now) (a .party)
           (done here) (ends here) (else1 .if1 .left) (after-waits .waits .ensures) (c .if2 .taken),
-      search needs,
+      sized here,
     )
 
 -- the END is still ahead, and it doesn't wait
@@ -59,8 +61,7 @@ returns-3 c =
     let else1 : tie.Else1 = search in
     let here : tie.After-wide4 = search in
     let read : tie.After-wide = search in
-    let first : tie.Start = search in
-    let a = first .args in
+    let a = start here .args in
     let inside : a .party < length (a .done .now) = omega (arith, few-parties) in (
       does-next (a .book .now) (a .sends .now) (a .receives .now) (a .ends .now) (a .done .now) (a .party)
           (done here) (ends here) (else1 .if1 .left) (after-waits .waits .ensures) (read .wide .ensures .0)

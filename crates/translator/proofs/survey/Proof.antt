@@ -1,4 +1,5 @@
--- `translator::survey` meets its contract: what `write_heads` laid into the 32 words is read from them. Assumes nothing.
+-- `translator::survey` meets its contract: what `write_heads` laid into the 32 words is read from them.
+-- Assumes nothing.
 use mathlib.Core.Path.{refl}
 use Rattle.translator.proofs.Listing.{heads-found}
 use borrow.Author.Needs.{needs}

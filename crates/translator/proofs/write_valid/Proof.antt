@@ -13,7 +13,7 @@ returns-2 c =
     let start : tie.Start = search in
     let none = else1 .if1 .left in
     let length = after-survey .survey .ensures .0 none .1 in
-    room-came (start .pre) (after-survey .survey .ensures .1) _ none length (c .if2 .taken)
+    room-came (start .pre) (after-survey .survey .ensures .1) (start .args .out .now) none length (c .if2 .taken)
 
 write-listing-requires : tie.Need-write-listing-requires
 write-listing-requires c κs =

@@ -40,6 +40,7 @@ long {b} ms out p e h = rw e (long-came b ms out p h)
 
 -- ---- and one with a move that names no party: i is the first that names none of q parties, or the schedule's length
 module _ (b ms : List ℕ) {q i : ℕ} (e : q ≡ parties b) (f : i ≡ first (λ k. leb q (getD ms k 0)) (length ms)) where
+  -- the moves before it all name a party
   good : (k : ℕ) → k < i → getD ms k 0 < parties b
   good k h =
       let g = leb-false q (getD ms k 0) (first-fails (λ j. leb q (getD ms j 0)) (length ms) k (omega arith)) in

@@ -10,6 +10,7 @@ use Rattle.translation.specs.Places.{Places}
 use Rattle.agreement.specs.Counting.{ticked, counted}
 
 module _ (b : List ℕ) (P : Places) where
+  -- the last of the first i + 1 moves is made when the others are
   counted-next : (ms : List ℕ) (i : ℕ) (d : ℕ → ℕ) → i < length ms
       → counted b P (take (suc i) ms) d ≡ ticked b P (getD ms i 0) (counted b P (take i ms) d)
   unfolding counted

@@ -28,6 +28,7 @@ module _ {b x y z : List ℕ} (g : Placed b x y z) where
       λ s l. unfold waitsFor in rw (g .sends s l, g .receives s l)
       in ap (λ k. ltb k (steps b)) (first-same (waitsFor b (places x y z) d p) (waitsFor b (placesOf b) d p) (steps b) each)
 
+  -- for a party of the book, whose END has a place
   ticked-same : (p : ℕ) → p < parties b → (d : ℕ → ℕ) → ticked b (places x y z) p d ≡ ticked b (placesOf b) p d
   unfolding ticked
   ticked-same p l d = rw (g .ends p l, waits-same d p)

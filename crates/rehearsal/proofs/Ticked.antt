@@ -24,6 +24,7 @@ counts-set d p x l =
     fun-ext (λ q. change-ind (counts d) p x (λ a. counts (set d p x) q ≡ a) q (here q) (there q))
 
 module _ (b x y z d : List ℕ) (p : ℕ) where
+  -- the counts when the party has moved
   abbrev after : ℕ → ℕ
   after = ticked b (places x y z) p (counts d)
 

@@ -15,6 +15,7 @@ use Rattle.rehearsal.specs.Kept.{places, counts}
 
 -- ---- waitsFor: party p and step s
 module _ (b x y d : List ℕ) (p s : ℕ) where
+  -- what the code answers
   abbrev asked : Bool
   asked = waitsFor b (places x y []) (counts d) p s
 

@@ -36,12 +36,15 @@ refusal-came b out f e =
 
 -- ---- the reader's answer
 module _ (b : List ℕ) (r : Reading) (f : Refusal) (d : readingSays r ≡ verdict b) (k : r ≡ reading.Refused f) where
+  -- the reason that the code gives is the reader's
   says-why : refusalSays f ≡ verdict b
   says-why = sym (ap readingSays k) ∙ d
 
+  -- so the reader did refuse
   refused : verdict b .number ≡ 0 → ⊥
   refused z = refusal-number f (ap (λ (x : Said). x .number) says-why ∙ z)
 
+  -- and refusal 10 is not asked
   pub refused-accept : readingSays (reading.Refused f) ≡ acceptance b
   unfolding acceptance verdict
   refused-accept = says-why ∙ sym (firstOf-stop (readingTable b) (takenLine b ∷ []) accepted accepted refl refused)
@@ -63,6 +66,7 @@ module _ {b : List ℕ} (v : Valid b) where
   place k = k ∷ firstTaken (narration b) k ∷ []
 
   module _ {s t : ℕ} (f : FoundAmong b (parties b) s t) where
+    -- a find is the first unplayable step, with its atom
     pub taken-accept : (t ≡ 0 → ⊥) → readingSays (reading.Refused (Taken s (t - 1))) ≡ acceptance b
     unfolding acceptance takenLine
     taken-accept z =
@@ -73,6 +77,7 @@ module _ {b : List ℕ} (v : Valid b) where
         ap (λ r. said 10 (s ∷ r ∷ [])) a
         ∙ sym (passes _ accepted ∙ scan-here 10 (steps b) (unplayable (narration b)) place [] accepted s here (u .inside))
 
+    -- no find: every step is playable
     pub none-accept : t ≡ 0 → readingSays reading.Accepted ≡ acceptance b
     unfolding acceptance takenLine
     none-accept z =
@@ -85,6 +90,7 @@ module _ {b : List ℕ} (v : Valid b) where
 
     -- ---- refusal 12 and the output: nothing was found, and the output has n words
     module _ (out : List ℕ) (z : t ≡ 0) {n : ℕ} (m : n ≡ length (listing b)) where
+      -- it was accepted, so it plays
       plays : Plays b
       plays = accepted-plays b .0 (sym (none-accept z))
 

@@ -20,10 +20,12 @@ pub bodies-start : {b : List ℕ} {n : ℕ} {old : List ℕ} {at : ℕ} → Laid
 unfolding values bodies
 bodies-start = record { few = omega arith; wrote = wrote-none }
 
+-- one party's program more
 pub bodies-on : {b : List ℕ} {n q : ℕ} {old new later : List ℕ} {at next r : ℕ} → q < n → Laid b n q old at new next
     → Wrote (partWords b q) new next later r → Laid b n (q + 1) old at later r
 bodies-on {b} {q = q} l h w = record { few = omega arith; wrote = wrote-as (wrote-then (h .wrote) w) (bodies-more b q) }
 
+-- the loop ends behind the last party
 pub bodies-end : {b : List ℕ} {n q : ℕ} {old new : List ℕ} {at next : ℕ} → n ≡ parties b → n ≤ q → Laid b n q old at new next
     → Wrote (bodiesOf b) old at new next
 bodies-end {b} {q = q} e l h =

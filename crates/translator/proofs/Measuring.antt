@@ -33,6 +33,7 @@ pub record Measuring (b : List ℕ) (n q : ℕ) (old : List ℕ) (at : ℕ) (new
   pub found : FoundAmong b q step taken
 
 module _ {b : List ℕ} {n : ℕ} (e : n ≡ parties b) where
+  -- nothing is written, and nobody was asked: every step is still free
   pub heads-start : {old : List ℕ} {at end s : ℕ} → end ≡ 1 + 2 * n → s ≡ steps b → Measuring b n 0 old at old at end s 0
   unfolding values heads bodies
   heads-start h d =

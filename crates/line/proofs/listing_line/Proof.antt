@@ -5,6 +5,7 @@ use Rattle.line.specs.Line.{ended, listingLine}
 use Rattle.line.proofs.listing_line.Statement.{statement}
 use Rattle.line.proofs.listing_line.Tie as tie
 
+-- `end` is handed the words' text
 returns : tie.Need-returns
 unfolding listingLine
 returns c =

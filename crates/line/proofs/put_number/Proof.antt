@@ -11,6 +11,7 @@ use Rattle.line.proofs.put_number.Tie as tie
 most : (c : tie.After-decimal) → c .decimal .result ≤ 20
 most c = all-digits _ _ (c .decimal .ensures .1 .0) (omega arith)
 
+-- the digits, and the space in the place behind them
 returns : tie.Need-returns
 returns c =
     let after-put-text : tie.After-put-text = search in

@@ -19,6 +19,7 @@ Inv-loop line₀ at text i₀ line i =
 abbrev μ-loop : tie.MeasureT-loop
 μ-loop line₀ at text i₀ line i = length text - i
 
+-- a byte more is written where the text goes on
 loop-again : tie.Need-loop-again Inv-loop μ-loop
 loop-again c =
     let at-loop : tie.At-loop Inv-loop μ-loop = search in
@@ -32,6 +33,7 @@ loop-again c =
           ∙ rw add-one (paste-suc _ at text i 0 (omega arith) (omega arith)),
     )
 
+-- the loop ends behind the text's last byte
 returns : tie.Need-returns Inv-loop μ-loop
 returns c =
     let at-loop : tie.At-loop Inv-loop μ-loop = search in

@@ -5,6 +5,7 @@ use Rattle.line.specs.Line.{refusalText, ended, refusalLine}
 use Rattle.line.proofs.refusal_line.Statement.{statement}
 use Rattle.line.proofs.refusal_line.Tie as tie
 
+-- `end` is handed the refusal's text
 returns : tie.Need-returns
 unfolding refusalLine
 returns c =

@@ -42,6 +42,7 @@ put-then {t} {u} {o} {a = a} x y =
       next = omega (arith, x .next, y .next, length-append t u);
     }
 
+-- the same text, written another way
 pub put-as : {t u o n : List ℕ} {a r : ℕ} → Put t o a n r → t ≡ u → Put u o a n r
 put-as x e = rw e at x
 
@@ -64,6 +65,7 @@ module _ (x k : ℕ) (f : Fewest 10 1 x k) where
   pub all-digits : x < 2 ^ 64 → k ≤ 20
   all-digits h = fewest-most 20 (omega arith) (omega arith)
 
+  -- fewer digits don't hold it
   power-below : (j : ℕ) → j < k - 1 → 10 ^ (j + 1) ≤ x
   power-below j l =
       let p : 10 ^ (k - 1) ≤ x = f .2 (omega arith) in

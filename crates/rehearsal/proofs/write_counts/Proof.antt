@@ -19,6 +19,7 @@ Inv-loop done q out₀ at₀ party₀ out at party =
 abbrev μ-loop : tie.MeasureT-loop
 μ-loop done q out₀ at₀ party₀ out at party = q - party
 
+-- this party's count stands behind the others
 loop-again : tie.Need-loop-again Inv-loop μ-loop
 loop-again c =
     let after-put : tie.After-put Inv-loop μ-loop = search in

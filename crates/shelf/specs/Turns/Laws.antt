@@ -1,5 +1,5 @@
 -- Laws of turns: who moves, what a schedule holds in the end, and how many parties there are. Assumes nothing.
-use Prim.Native.Nat.{ℕ, zero, suc, _+_, _-_, _/_, _%_, _≤_, _<_}
+use Prim.Native.Nat.{ℕ, zero, suc, _-_, _/_, _%_, _≤_, _<_}
 use mathlib.Core.Bool.{Bool, true, false}
 use mathlib.Core.Path.{_≡_, refl, sym, _∙_, ap}
 use mathlib.Core.List.{List, [], _∷_}
@@ -19,6 +19,7 @@ use Rattle.shelf.specs.Turns.{turn, seats}
 
 -- ---- turn, where the code has the number of the parties as w, and who would move from the first on as p
 module _ (q times i : ℕ) (back : Bool) (w p : ℕ) (same : w ≡ q) (e : p ≡ i / times % w) where
+  -- who would move from the first on
   asked : p ≡ i / times % q
   asked = e ∙ ap (λ (k : ℕ). i / times % k) same
 
@@ -40,11 +41,13 @@ filled-all f out n e filled =
     (λ k l. filled k (omega arith) ∙ sym (values-getD f 0 n k 0 (omega arith) ∙ ap f (zero-add k)))
 
 -- ---- seats
+-- past a list's end there are zeros
 pub no-word : (l : List ℕ) (k : ℕ) → length l ≤ k → getD l k 0 ≡ 0
 no-word [] k h = refl
 no-word (x ∷ l) zero h = absurd (omega arith)
 no-word (x ∷ l) (suc k) h = no-word l k (omega arith)
 
+-- a book may have 1 to 16 parties
 pub seats-below : (b : List ℕ) → parties b < 1 → 1 ≡ seats b
 unfolding seats countBreaks outside
 seats-below b h = sym (pick-true _ _ _ (rw (lt-ltb (parties b) 1 h)))

@@ -15,6 +15,7 @@ returns-2 c =
     let length = after-survey .survey .ensures .0 none .1 in
     room-came (start .pre) (after-survey .survey .ensures .1) (start .args .out .now) none length (c .if2 .taken)
 
+-- nothing was found: nobody would make a taken atom, and the survey's heads are the book's
 write-listing-requires : tie.Need-write-listing-requires
 write-listing-requires c κs =
     let else1 : tie.Else1 = search in

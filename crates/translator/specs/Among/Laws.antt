@@ -36,6 +36,7 @@ module _ {b : List ℕ} where
   among-all (FoundAmong.none n) z = refl
   among-all (FoundAmong.one l m r n) z = absurd (omega arith)
 
+  -- the step is one of the book's, or their number
   pub among-within : {q s t : ℕ} → FoundAmong b q s t → s ≤ steps b
   among-within (FoundAmong.none n) = omega arith
   among-within (FoundAmong.one l m r n) = omega arith
@@ -50,6 +51,7 @@ module _ {b : List ℕ} where
   stays {q} (FoundAmong.none n) i = FoundAmong.none (each-more b q (steps b) n i)
   stays {q} (FoundAmong.one {s = s} {p = p} l m r n) i = FoundAmong.one {s = s} {p = p} (omega arith) m r (each-more b q s n i)
 
+  -- party q was asked of the steps before s, and has no find
   pub among-stays : {q s t u v : ℕ} → FoundAmong b q s t → FoundBefore b q s u v → v ≡ 0 → FoundAmong b (q + 1) s t
   among-stays f (FoundBefore.none n) z = stays f n
   among-stays f (FoundBefore.one l r n) z = absurd (omega arith)

@@ -31,11 +31,11 @@ put-paste {o} {text} {n} {at} p e h =
       next = refl;
     }
 
-pub put-one : (l : List ℕ) (at x : ℕ) → at < length l → Put (x ∷ []) l at (set l at x) (at + 1)
+put-one : (l : List ℕ) (at x : ℕ) → at < length l → Put (x ∷ []) l at (set l at x) (at + 1)
 put-one l at x h = record { front = rw add-one (take-suc-set l at x h); next = refl }
 
 -- one text behind another
-pub put-then : {t u o m n : List ℕ} {a p r : ℕ} → Put t o a m p → Put u m p n r → Put (t ++ u) o a n r
+put-then : {t u o m n : List ℕ} {a p r : ℕ} → Put t o a m p → Put u m p n r → Put (t ++ u) o a n r
 put-then {t} {u} {o} {a = a} x y =
     record {
       front = y .front ∙ ap (λ (l : List ℕ). l ++ u) (x .front) ∙ append-assoc (take a o) t u;
@@ -43,13 +43,13 @@ put-then {t} {u} {o} {a = a} x y =
     }
 
 -- the same text, written another way
-pub put-as : {t u o n : List ℕ} {a r : ℕ} → Put t o a n r → t ≡ u → Put u o a n r
+put-as : {t u o n : List ℕ} {a r : ℕ} → Put t o a n r → t ≡ u → Put u o a n r
 put-as x e = rw e at x
 
 -- ---- places, decimal and spaced: the fewest digits that hold a number
 module _ (x k : ℕ) (f : Fewest 10 1 x k) where
   -- are no more than hold a larger one
-  pub fewest-most : (n : ℕ) → 1 ≤ n → x < 10 ^ n → k ≤ n
+  fewest-most : (n : ℕ) → 1 ≤ n → x < 10 ^ n → k ≤ n
   fewest-most n s h = elim (decLt n k) [
     | no p ↦ omega arith
     | yes p ↦
@@ -78,14 +78,14 @@ module _ (x k : ℕ) (f : Fewest 10 1 x k) where
       rw e at (f .1)
 
   -- and are as many as it takes
-  pub places-fewest : k ≤ 20 → k ≡ places x
+  places-fewest : k ≤ 20 → k ≡ places x
   unfolding places
   places-fewest most =
       let e : k - 1 ≡ first (λ j. ltb x (10 ^ (j + 1))) 19 =
       first-is (λ j. ltb x (10 ^ (j + 1))) 19 (k - 1) (omega arith) (λ j l. le-ltb _ _ (power-below j l)) (λ l. lt-ltb _ _ power-above)
       in omega (arith, f .0)
 
-  pub decimal-fewest : k ≤ 20 → digits 10 k x ≡ decimal x
+  decimal-fewest : k ≤ 20 → digits 10 k x ≡ decimal x
   unfolding decimal
   decimal-fewest most = ap (λ (n : ℕ). digits 10 n x) (places-fewest most)
 

@@ -16,7 +16,9 @@ returns c =
     let after-play : tie.After-play = search in
     let after-place : tie.After-place = search in
     let start : tie.Start = search in
-    performed (after-place .place .ensures) (start .pre .0) _ (start .pre .1) (after-play .play .ensures)
+    let plays = start .pre .0 in
+    let named = start .pre .1 in
+    performed (after-place .place .ensures) plays _ named (after-play .play .ensures)
     (after-parties .parties .ensures) (after-write-counts .write-counts .ensures)
 
 pub perform-spec : {M : Type 1} → statement M

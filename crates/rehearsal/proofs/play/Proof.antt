@@ -28,7 +28,7 @@ tick-requires c κs =
     let in-loop : tie.In-loop Inv-loop μ-loop = search in
     let start : tie.Start Inv-loop μ-loop = search in
     let party : ℕ → Type 0 = λ q. q < parties (start .args .book .now) in
-    let named = all-getD party (start .args .schedule .now) (start .pre .1) _ (in-loop .loop-test .taken) in
+    let named = all-getD party (start .args .schedule .now) (search) _ (in-loop .loop-test .taken) in
     (search needs, named, search needs)
 
 pub play-spec : {M : Type 1} → statement M

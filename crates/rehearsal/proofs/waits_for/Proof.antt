@@ -12,7 +12,8 @@ use Rattle.rehearsal.proofs.waits_for.Tie as tie
 few-senders : (c : tie.After-step-sender) → c .step-sender .result < 16
 few-senders c =
     let start : tie.Start = search in
-    omega (arith, few-parties, party-sends _ _ (start .pre .0) (start .pre .2))
+    let party = party-sends (start .args .book .now) (start .args .step) (search) (search) in
+    omega (arith, few-parties)
 
 -- the party receives the step next: the SEND decides
 returns-3 : tie.Need-returns-3

@@ -11,13 +11,14 @@ use Rattle.words.specs.Run.{values}
 use Rattle.book.specs.Layout.{parties, steps}
 use Rattle.book.specs.Valid.{Valid}
 use Rattle.book.specs.Headed.Laws.{valid-headed}
-use Rattle.translation.specs.Listing.{heads, bodies, partWords, listing}
+use Rattle.translation.specs.Listing.{heads, bodies, partWords}
 use Rattle.translation.specs.Long.{mostPart}
 use Rattle.translation.specs.Long.Laws.{listing-length}
 use Rattle.walking.specs.Found.{FoundBefore}
 use Rattle.translator.specs.Among.{FoundAmong}
 use Rattle.translator.specs.Among.Laws.{among-none, among-all, among-stays, among-sooner}
-use Rattle.translator.specs.Parts.{parts, headsOf}
+use Rattle.translator.specs.Parts.{parts}
+use Rattle.translator.specs.Survey.{WroteHeads}
 use Rattle.translator.proofs.Parts.{length-more, heads-more}
 
 pub few-parties : (b : List ℕ) → Valid b → parties b ≤ 16
@@ -88,9 +89,9 @@ module _ {b : List ℕ} {n : ℕ} (e : n ≡ parties b) where
 
   -- over all parties
   pub heads-end : {q : ℕ} {old new : List ℕ} {at next end step taken : ℕ} → n ≤ q → Measuring b n q old at new next end step taken
-      → (taken ≡ 0 → Wrote (headsOf b) old at new next × (end ≡ length (listing b))) × FoundAmong b (parties b) step taken
+      → WroteHeads b old at new next end step taken
   heads-end {q} l h =
       let f = h .few in
       let z : q ≡ parties b = omega arith in
       let all = ap (λ k. 1 + 2 * parties b + length (bodies (parts b k))) z ∙ sym (listing-length b) in
-      (λ u. (rw z at (h .wrote u), h .ends u ∙ all), rw z at (h .found))
+      record { wrote = λ u. rw z at (h .wrote u); ends = λ u. h .ends u ∙ all; found = rw z at (h .found) }

@@ -1,3 +1,4 @@
 pub mod Among
 pub mod Parts
 pub mod Ready
+pub mod Survey

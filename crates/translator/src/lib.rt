@@ -15,16 +15,14 @@ use words::put_all;
 use words::put2;
 use words::wide;
 ghost use mathlib.Core.Path.{_≡_};
-ghost use lib.ListN.{length};
 ghost use Rattle.words.specs.Overlay.{Wrote};
-ghost use Rattle.book.specs.Layout.{parties as partiesOf};
 ghost use Rattle.book.specs.Valid.{Valid};
 ghost use Rattle.book.specs.Said.{readingSays};
 ghost use Rattle.translation.specs.Listing.{listing};
 ghost use Rattle.translation.specs.Outcome.{acceptance, outcome, came};
-ghost use Rattle.translator.specs.Among.{FoundAmong};
-ghost use Rattle.translator.specs.Parts.{headsOf, HeadsIn, bodiesOf};
+ghost use Rattle.translator.specs.Parts.{HeadsIn, bodiesOf};
 ghost use Rattle.translator.specs.Ready.{Ready, Writable};
+ghost use Rattle.translator.specs.Survey.{WroteHeads, Survey};
 
 // Behind the heads: where the next word goes, where the last program ends, and the first step at which a taken atom would be made.
 struct Heads {
@@ -46,7 +44,7 @@ struct Surveyed {
 // what is written then says nothing, and the parties that follow are asked about the steps before alone.
 fn write_heads(book: &[u32], since: &[u32; 1024], out: &mut [u32], at: usize) -> Heads
     requires { ⌜ Ready (now book) (now since) ⌝ }
-    ensures { λ r. ⌜ (r .taken ≡ 0 → Wrote (headsOf (now (book .entry))) (now (out .entry)) at (now (out .exit)) (r .at) × (r .end ≡ length (listing (now (book .entry))))) × FoundAmong (now (book .entry)) (partiesOf (now (book .entry))) (r .step) (r .taken) ⌝ }
+    ensures { λ r. ⌜ WroteHeads (now (book .entry)) (now (out .entry)) at (now (out .exit)) (r .at) (r .end) (r .step) (r .taken) ⌝ }
 {
     let n = parties(book);
     let mut next = at;
@@ -102,7 +100,7 @@ fn write_listing(book: &[u32], since: &[u32; 1024], heads: &[u32], out: &mut [u3
 // The first taken atom or, where there is none, the heads and the output's length, with nothing written to the output.
 fn survey(book: &[u32], since: &[u32; 1024]) -> Surveyed
     requires { ⌜ Ready (now book) (now since) ⌝ }
-    ensures { λ r. ⌜ (r .taken ≡ 0 → HeadsIn (now (book .entry)) (r .heads) × (r .end ≡ length (listing (now (book .entry))))) × FoundAmong (now (book .entry)) (partiesOf (now (book .entry))) (r .step) (r .taken) ⌝ }
+    ensures { λ r. ⌜ Survey (now (book .entry)) (r .heads) (r .end) (r .step) (r .taken) ⌝ }
 {
     let mut heads = [0u32; 32];
     let all = write_heads(book, since, &mut heads, 0);

@@ -12,7 +12,11 @@ returns c =
     let after-write-heads : tie.After-write-heads = search in
     let start : tie.Start = search in
     let laid = after-write-heads .write-heads .ensures in
-    (λ none. (heads-found (start .pre .valid) refl (laid .0 none .0), laid .0 none .1), laid .1)
+    record {
+      heads = λ none. heads-found (start .pre .valid) refl (laid .wrote none);
+      ends = laid .ends;
+      found = laid .found;
+    }
 
 pub survey-spec : {M : Type 1} → statement M
 survey-spec =

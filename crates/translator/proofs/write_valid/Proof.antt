@@ -11,9 +11,9 @@ returns-2 c =
     let else1 : tie.Else1 = search in
     let after-survey : tie.After-survey = search in
     let start : tie.Start = search in
+    let survey = after-survey .survey .ensures in
     let none = else1 .if1 .left in
-    let length = after-survey .survey .ensures .0 none .1 in
-    room-came (start .pre) (after-survey .survey .ensures .1) (start .args .out .now) none length (c .if2 .taken)
+    room-came (start .pre) (survey .found) (start .args .out .now) none (survey .ends none) (c .if2 .taken)
 
 -- nothing was found: nobody would make a taken atom, and the survey's heads are the book's
 write-listing-requires : tie.Need-write-listing-requires
@@ -22,11 +22,10 @@ write-listing-requires c κs =
     let after-survey : tie.After-survey = search in
     let after-claims : tie.After-claims = search in
     let start : tie.Start = search in
+    let survey = after-survey .survey .ensures in
     let none = else1 .if1 .left in
-    let nobody = among-nobody (after-survey .survey .ensures .1) none in (
-      record { valid = start .pre; claims = after-claims .claims .ensures; nobody = nobody },
-      after-survey .survey .ensures .0 none .0,
-    )
+    let nobody = among-nobody (survey .found) none in
+    (record { valid = start .pre; claims = after-claims .claims .ensures; nobody = nobody }, survey .heads none)
 
 -- nothing was found, and there is room
 returns-3 : tie.Need-returns-3
@@ -36,9 +35,9 @@ returns-3 c =
     let else1 : tie.Else1 = search in
     let after-survey : tie.After-survey = search in
     let start : tie.Start = search in
+    let survey = after-survey .survey .ensures in
     let none = else1 .if1 .left in
-    let length = after-survey .survey .ensures .0 none .1 in
-    output-came (start .pre) (after-survey .survey .ensures .1) _ none length (else2 .if2 .left)
+    output-came (start .pre) (survey .found) _ none (survey .ends none) (else2 .if2 .left)
     (after-write-listing .write-listing .ensures)
 
 pub write-valid-spec : {M : Type 1} → statement M

@@ -1,6 +1,6 @@
 -- The line that the program prints, as bytes. Document 01: "A listing is printed as its words, a refusal as the word "refused", its
 -- number and its place, all in decimal on one line with single spaces."
-use Prim.Native.Nat.{ℕ, _+_, _-_, _^_}
+use Prim.Native.Nat.{ℕ, _+_, _-_, _^_, _≤_, _<_}
 use mathlib.Core.Path.{_≡_}
 use mathlib.Core.List.{List, [], _∷_, _++_}
 use lib.ListN.{length, take}
@@ -54,3 +54,9 @@ toldSays (Two n x y) = said n (x ∷ y ∷ [])
 pub record Put (text old : List ℕ) (at : ℕ) (new : List ℕ) (r : ℕ) : Type 0 where
   pub front : take r new ≡ take at old ++ text
   pub next : r ≡ at + length text
+
+-- a number was put, with a space behind it: in up to twenty-one bytes, and a word in up to eleven
+pub record PutNumber (x : ℕ) (old : List ℕ) (at : ℕ) (new : List ℕ) (r : ℕ) : Type 0 where
+  pub put : Put (spaced x) old at new r
+  pub low : r ≤ at + 21
+  pub word : x < 2 ^ 32 → r ≤ at + 11

@@ -4,11 +4,11 @@ use book::Refusal;
 use libc::STDOUT_FILENO;
 use translation::Answer;
 ghost use mathlib.Core.Path.{_≡_};
-ghost use Prim.Native.Nat.{_+_, _*_, _^_, _<_, _≤_};
+ghost use Prim.Native.Nat.{_+_, _*_, _<_, _≤_};
 ghost use lib.ListN.{length, take};
 ghost use Rattle.io.specs.Counts.{Counts};
 ghost use Rattle.book.specs.Said.{refusalSays};
-ghost use Rattle.line.specs.Line.{spaced, spacedAll, ended, toldSays, listingLine, refusalText, refusalLine, Put};
+ghost use Rattle.line.specs.Line.{spacedAll, ended, toldSays, listingLine, refusalText, refusalLine, Put, PutNumber};
 
 // What a line takes at most: of a listing of 16,384 words, and of a refusal.
 struct Most {}
@@ -62,7 +62,7 @@ fn put_text(line: &mut [u8], at: usize, text: &[u8]) -> usize
 // The same for a number in decimal with a space behind it.
 fn put_number(line: &mut [u8], at: usize, x: u64) -> usize
     requires { ⌜ at + 21 ≤ length (now line) ⌝ }
-    ensures { λ r. ⌜ Put (spaced x) (now (line .entry)) at (now (line .exit)) r × (r ≤ at + 21) × (x < 2 ^ 32 → r ≤ at + 11) ⌝ }
+    ensures { λ r. ⌜ PutNumber x (now (line .entry)) at (now (line .exit)) r ⌝ }
 {
     let mut digits = [0u8; 20];
     let n = io::decimal(x, &mut digits);

@@ -17,11 +17,12 @@ returns c =
     let after-put-text : tie.After-put-text = search in
     let after-decimal : tie.After-decimal = search in
     let said = after-decimal .decimal .ensures .1 in
-    let few = most after-decimal in (
-      put-spaced _ _ (said .0) (omega arith) (said .1) (after-put-text .put-text .ensures) (omega arith),
-      omega arith,
-      λ word. let fewer = word-digits _ _ (said .0) word in omega arith,
-    )
+    let few = most after-decimal in
+    record {
+      put = put-spaced _ _ (said .0) (omega arith) (said .1) (after-put-text .put-text .ensures) (omega arith);
+      low = omega arith;
+      word = λ word. let fewer = word-digits _ _ (said .0) word in omega arith;
+    }
 
 pub put-number-spec : {M : Type 1} → statement M
 put-number-spec =

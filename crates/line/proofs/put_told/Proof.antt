@@ -13,7 +13,7 @@ returns c =
     let first : tie.After-put-number = search in
     let after-told : tie.After-told = search in
     let word : tie.After-put-text = search in (
-      told-one (word .put-text .ensures) (first .put-number .ensures .0) (second .put-number2 .ensures .0)
+      told-one (word .put-text .ensures) (first .put-number .ensures .put) (second .put-number2 .ensures .put)
           (after-told .told .given .1),
       omega arith,
     )
@@ -26,8 +26,8 @@ returns-2 c =
     let first : tie.After-put-number3 = search in
     let after-told : tie.After-told2 = search in
     let word : tie.After-put-text = search in (
-      told-two (word .put-text .ensures) (first .put-number3 .ensures .0) (second .put-number4 .ensures .0)
-          (third .put-number5 .ensures .0) (after-told .told2 .given .1),
+      told-two (word .put-text .ensures) (first .put-number3 .ensures .put) (second .put-number4 .ensures .put)
+          (third .put-number5 .ensures .put) (after-told .told2 .given .1),
       omega arith,
     )
 

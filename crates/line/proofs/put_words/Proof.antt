@@ -35,7 +35,7 @@ loop-again c =
     let put = after-put-number .put-number .ensures in (
       search needs,
       search needs,
-      spelled-more _ (in-loop .loop-test .taken) (here .loop .inv .2) (put .0) (put .2 (word (search))),
+      spelled-more _ (in-loop .loop-test .taken) (here .loop .inv .2) (put .put) (put .word (word (search))),
     )
 
 -- the loop ends behind the last word

@@ -21,14 +21,14 @@ use Rattle.book.specs.Said.{readingSays}
 use Rattle.translation.specs.declared.Answer.the-variants.{Written, Refused}
 use Rattle.translation.specs.Outcome.{acceptance, came, Plays}
 use Rattle.translation.specs.Outcome.Laws.{accepted-plays}
-use Rattle.agreement.specs.Rehearsal.{eventsDone, mostMoves, rehearsal}
-use Rattle.agreement.specs.Rehearsal.Laws.{done-length}
-use Rattle.agreement.specs.Rehearsal.Came.{refused-came, long-came, move-came, room-came, played-came}
+use Rattle.playing.specs.Rehearsal.{eventsDone, mostMoves, rehearsal}
+use Rattle.playing.specs.Rehearsal.Laws.{done-length}
+use Rattle.playing.specs.Rehearsal.Came.{rehearsal-refused-came, long-came, move-came, rehearsal-room-came, played-came}
 
 -- ---- the book's own answer
 pub refused : (b ms out : List ℕ) (r : Reading) (f : Refusal) → readingSays r ≡ acceptance b → r ≡ reading.Refused f
     → came (Refused f) out ≡ rehearsal b ms out
-refused b ms out r f d k = refused-came b ms out f (sym (ap readingSays k) ∙ d)
+refused b ms out r f d k = rehearsal-refused-came b ms out f (sym (ap readingSays k) ∙ d)
 
 pub accepted : (b : List ℕ) (r : Reading) → readingSays r ≡ acceptance b → r ≡ reading.Accepted → Plays b
 accepted b r d k = accepted-plays b .0 (sym d ∙ ap readingSays k)
@@ -61,7 +61,7 @@ module _ (b ms : List ℕ) {q i : ℕ} (e : q ≡ parties b) (f : i ≡ first (�
 module _ {b : List ℕ} (ms out : List ℕ) (p : Plays b) (l : length ms ≤ mostMoves) (a : All (λ k. k < parties b) ms) {q n : ℕ}
     (e : q ≡ parties b) (c : n ≡ q) where
   pub short : length out < n → came (Refused (Room n)) out ≡ rehearsal b ms out
-  short h = let z : n ≡ parties b = omega arith in rw z (room-came b ms out p l a (omega arith))
+  short h = let z : n ≡ parties b = omega arith in rw z (rehearsal-room-came b ms out p l a (omega arith))
 
   pub told : n ≤ length out → {new : List ℕ} {r : ℕ} → Wrote (eventsDone b ms) out 0 new r → came (Written r) new ≡ rehearsal b ms out
   told h {new} {r} w =

@@ -13,9 +13,9 @@ use Rattle.words.specs.Run.Laws.{zeros}
 use Rattle.book.specs.Layout.{parties, steps}
 use Rattle.translation.specs.Outcome.{Plays}
 use Rattle.translation.specs.Places.{placesOf}
-use Rattle.agreement.specs.Rehearsal.{eventsDone}
-use Rattle.agreement.specs.Counting.{waitsFor, waits, ticked, counted}
-use Rattle.agreement.specs.Counting.Laws.{done-counted}
+use Rattle.playing.specs.Rehearsal.{eventsDone}
+use Rattle.playing.specs.Counting.{waitsFor, waits, ticked, tickedAll}
+use Rattle.playing.specs.Counting.Laws.{done-counted}
 use Rattle.placing.specs.Placed.{Placed}
 use Rattle.rehearsal.specs.Kept.{places, counts}
 
@@ -33,17 +33,17 @@ module _ {b x y z : List ℕ} (g : Placed b x y z) where
   unfolding ticked
   ticked-same p l d = rw (g .ends p l, waits-same d p)
 
-  counted-same : (ms : List ℕ) → All (λ q. q < parties b) ms → (d : ℕ → ℕ) → counted b (places x y z) ms d ≡ counted b (placesOf b) ms d
-  unfolding counted
+  counted-same : (ms : List ℕ) → All (λ q. q < parties b) ms → (d : ℕ → ℕ) → tickedAll b (places x y z) ms d ≡ tickedAll b (placesOf b) ms d
+  unfolding tickedAll
   counted-same [] a d = refl
   counted-same (p ∷ ms) a d =
-      ap (counted b (places x y z) ms) (ticked-same p (a .0) d) ∙ counted-same ms (a .1) (ticked b (placesOf b) p d)
+      ap (tickedAll b (places x y z) ms) (ticked-same p (a .0) d) ∙ counted-same ms (a .1) (ticked b (placesOf b) p d)
 
   -- ---- from 0 events each
   pub performed : Plays b → (ms : List ℕ) → All (λ q. q < parties b) ms → {c : ℕ → ℕ} {old new : List ℕ} {q a : ℕ}
-      → c ≡ counted b (places x y z) ms (counts (replicate {A = ℕ} 16 0)) → q ≡ parties b
+      → c ≡ tickedAll b (places x y z) ms (counts (replicate {A = ℕ} 16 0)) → q ≡ parties b
       → Wrote (values c 0 q) old 0 new a → Wrote (eventsDone b ms) old 0 new a
   performed v ms a {c} {q = q} e f w =
-      let machine = counted b (placesOf b) ms in
+      let machine = tickedAll b (placesOf b) ms in
       let done : c ≡ machine (λ p. 0) = e ∙ counted-same ms a (counts (replicate {A = ℕ} 16 0)) ∙ ap machine (fun-ext (λ p. zeros 16 p)) in
       wrote-as w (done-counted b v ms a ∙ ap (values (machine (λ p. 0)) 0) (sym f) ∙ ap (λ k. values k 0 q) (sym done))

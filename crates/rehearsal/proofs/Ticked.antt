@@ -10,9 +10,9 @@ use lib.ListN.{length, getD, set}
 use lib.Seq.{getD-set-same, getD-set-other}
 use borrow.Author.Tests.{lt-ltb, le-ltb}
 use Rattle.words.specs.Choice.Laws.{pick-true, pick-false}
-use Rattle.agreement.specs.View.{change}
-use Rattle.agreement.specs.Machine.Laws.{change-ind}
-use Rattle.agreement.specs.Counting.{waits, ticked}
+use Rattle.agreement.specs.Change.Laws.{change-ind}
+use Rattle.agreement.specs.Change.{change}
+use Rattle.playing.specs.Counting.{waits, ticked}
 use Rattle.rehearsal.specs.Kept.{places, counts}
 use Rattle.rehearsal.proofs.Waiting.{ends-apart}
 

@@ -10,7 +10,7 @@ use borrow.Author.Tests.{eq-eqb, ne-eqb}
 use Rattle.words.specs.Choice.Laws.{pick-true, pick-false}
 use Rattle.words.specs.First.Laws.{any-at, any-none}
 use Rattle.book.specs.Layout.{steps, sender, receiver}
-use Rattle.agreement.specs.Counting.{waitsFor, waits}
+use Rattle.playing.specs.Counting.{waitsFor, waits}
 use Rattle.rehearsal.specs.Kept.{places, counts}
 
 -- ---- waitsFor: party p and step s

@@ -7,7 +7,7 @@ use lib.ListN.{length, take}
 use borrow.Author.Needs.{needs}
 use Rattle.words.specs.Run.Laws.{all-getD}
 use Rattle.book.specs.Layout.{parties}
-use Rattle.agreement.specs.Counting.{counted}
+use Rattle.playing.specs.Counting.{tickedAll}
 use Rattle.rehearsal.specs.Kept.{places, counts}
 use Rattle.rehearsal.proofs.Counted.{played-none, played-on, played-all}
 use Rattle.rehearsal.proofs.play.Statement.{statement}
@@ -16,7 +16,7 @@ use Rattle.rehearsal.proofs.play.Tie as tie
 abbrev Inv-loop : tie.InvT-loop
 Inv-loop book sends receives ends schedule done₀ i₀ done i =
     (i ≤ length schedule)
-    × (counts done ≡ counted book (places sends receives ends) (take i schedule) (counts done₀))
+    × (counts done ≡ tickedAll book (places sends receives ends) (take i schedule) (counts done₀))
     × (length done ≡ 16)
 
 abbrev μ-loop : tie.MeasureT-loop

@@ -7,7 +7,7 @@ use native.Mathlib.Omega.{arith}
 use borrow.Author.Count.{below-more}
 use borrow.Author.Needs.{needs}
 use Rattle.book.specs.Headed.Laws.{valid-headed}
-use Rattle.agreement.specs.Counting.{waitsFor}
+use Rattle.playing.specs.Counting.{waitsFor}
 use Rattle.rehearsal.specs.Kept.{places, counts}
 use Rattle.rehearsal.proofs.Waiting.{some-step, no-step}
 use Rattle.rehearsal.proofs.waits.Statement.{statement}

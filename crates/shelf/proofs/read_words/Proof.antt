@@ -1,10 +1,10 @@
--- `trials::read_words` meets its contract: a book has a quarter as many words as the bytes that are lent for them.
+-- `shelf::read_words` meets its contract: a book has a quarter as many words as the bytes that are lent for them.
 -- Assumes nothing.
 use Prim.Native.Nat.{ℕ, _/_, _≤_}
 use native.Mathlib.Omega.{arith}
 use borrow.Author.Needs.{needs}
-use Rattle.trials.proofs.read_words.Statement.{statement}
-use Rattle.trials.proofs.read_words.Tie as tie
+use Rattle.shelf.proofs.read_words.Statement.{statement}
+use Rattle.shelf.proofs.read_words.Tie as tie
 
 -- a word takes four bytes
 quarter : (bytes : ℕ) → bytes ≤ 50404 → bytes / 4 ≤ 12601

@@ -196,6 +196,9 @@ impl Limit {
     pub const MOVES: usize = 4096;
 }
 
+// A number for each row that a book can have.
+pub type ByRow = [u32; 1024];
+
 // The header's counts.
 pub fn rows(book: &[u32]) -> u32
     requires { ⌜ Headed (now book) ⌝ }

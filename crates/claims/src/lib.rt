@@ -1,5 +1,6 @@
 // From which step on each atom is taken: it is a party's name, known at the start, or in a message of an earlier step. `claims`
 // answers the table of these steps for a valid book, an entry for each row.
+use book::ByRow;
 use book::Kind;
 use book::entry;
 use book::parties;
@@ -30,7 +31,7 @@ ghost use Rattle.claims.specs.Marked.{Marked, Ready};
 ghost use Rattle.claims.specs.Claims.{Claims, ClaimsBefore};
 
 // The atom gets an entry, unless it has one.
-fn mark_atom(since: &mut [u32; 1024], row: u32, from: u32)
+fn mark_atom(since: &mut ByRow, row: u32, from: u32)
     requires { ⌜ (length (now since) ≡ 1024) × (row < 1024) ⌝ }
     ensures { λ _. ⌜ Marked (atom row ∷ []) from (now (since .entry)) (now (since .exit)) ⌝ }
 {
@@ -40,7 +41,7 @@ fn mark_atom(since: &mut [u32; 1024], row: u32, from: u32)
 }
 
 // The atoms that occur in the row, unless it was gone through before.
-fn mark(book: &[u32], since: &mut [u32; 1024], seen: &mut [u32; 1024], row: u32, from: u32)
+fn mark(book: &[u32], since: &mut ByRow, seen: &mut ByRow, row: u32, from: u32)
     requires { ⌜ Valid (now book) × Ready (now book) (now since) (now seen) × (row < rowsOf (now book)) × (0 < from) ⌝ }
     ensures { λ _. ⌜ Marked (term (table (now (book .entry))) row ∷ []) from (now (since .entry)) (now (since .exit)) × Ready (now (book .entry)) (now (since .exit)) (now (seen .exit)) ⌝ }
 {
@@ -66,8 +67,8 @@ fn mark(book: &[u32], since: &mut [u32; 1024], seen: &mut [u32; 1024], row: u32,
 // The atoms that occur in a list of rows below a bound.
 fn mark_list(
     book: &[u32],
-    since: &mut [u32; 1024],
-    seen: &mut [u32; 1024],
+    since: &mut ByRow,
+    seen: &mut ByRow,
     bound: u32,
     first: usize,
     left: usize,
@@ -84,7 +85,7 @@ fn mark_list(
 }
 
 // The names of the parties: taken from step 0 on, and so marked with 1.
-fn mark_names(book: &[u32], since: &mut [u32; 1024], seen: &mut [u32; 1024])
+fn mark_names(book: &[u32], since: &mut ByRow, seen: &mut ByRow)
     requires { ⌜ Valid (now book) × Ready (now book) (now since) (now seen) ⌝ }
     ensures { λ _. ⌜ Marked (narration (now (book .entry)) .names) 1 (now (since .entry)) (now (since .exit)) × Ready (now (book .entry)) (now (since .exit)) (now (seen .exit)) ⌝ }
 {
@@ -97,7 +98,7 @@ fn mark_names(book: &[u32], since: &mut [u32; 1024], seen: &mut [u32; 1024])
 }
 
 // What a party knows at the start: taken from step 0 on.
-fn mark_known(book: &[u32], since: &mut [u32; 1024], seen: &mut [u32; 1024], party: u32)
+fn mark_known(book: &[u32], since: &mut ByRow, seen: &mut ByRow, party: u32)
     requires { ⌜ Valid (now book) × Ready (now book) (now since) (now seen) × (party < partiesOf (now book)) ⌝ }
     ensures { λ _. ⌜ Marked (map (term (table (now (book .entry)))) (known (now (book .entry)) party)) 1 (now (since .entry)) (now (since .exit)) × Ready (now (book .entry)) (now (since .exit)) (now (seen .exit)) ⌝ }
 {
@@ -111,7 +112,7 @@ fn mark_known(book: &[u32], since: &mut [u32; 1024], seen: &mut [u32; 1024], par
 }
 
 // What all parties know at the start.
-fn mark_knowledge(book: &[u32], since: &mut [u32; 1024], seen: &mut [u32; 1024])
+fn mark_knowledge(book: &[u32], since: &mut ByRow, seen: &mut ByRow)
     requires { ⌜ Valid (now book) × Ready (now book) (now since) (now seen) ⌝ }
     ensures { λ _. ⌜ Marked (joined (narration (now (book .entry)) .knows)) 1 (now (since .entry)) (now (since .exit)) × Ready (now (book .entry)) (now (since .exit)) (now (seen .exit)) ⌝ }
 {
@@ -124,7 +125,7 @@ fn mark_knowledge(book: &[u32], since: &mut [u32; 1024], seen: &mut [u32; 1024])
 }
 
 // The messages of the steps, in order: those of step s are taken from step s + 1 on.
-fn mark_steps(book: &[u32], since: &mut [u32; 1024], seen: &mut [u32; 1024])
+fn mark_steps(book: &[u32], since: &mut ByRow, seen: &mut ByRow)
     requires { ⌜ Valid (now book) × ClaimsBefore (now book) 0 (now since) × Ready (now book) (now since) (now seen) ⌝ }
     ensures { λ _. ⌜ Claims (now (book .entry)) (now (since .exit)) ⌝ }
 {
@@ -145,7 +146,7 @@ fn mark_steps(book: &[u32], since: &mut [u32; 1024], seen: &mut [u32; 1024])
 }
 
 // For each row one more than the first step at which its atom is taken; 0 where it never is, and where the row is no atom.
-pub fn claims(book: &[u32]) -> [u32; 1024]
+pub fn claims(book: &[u32]) -> ByRow
     requires { ⌜ Valid (now book) ⌝ }
     ensures { λ r. ⌜ Claims (now (book .entry)) r ⌝ }
 {

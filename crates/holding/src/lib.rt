@@ -1,6 +1,7 @@
 // What a party holds, an entry for each row: 0 nothing, 1 the row itself, x + 2 placeholder x. `start` answers what is known at
 // the start, `buildable` and `can_open` whether a row, and a key's partner, can be built; the `write_..` functions write images.
 // All of it is the meaning's own (translation/specs/Dictionary.antt), for a valid book.
+use book::ByRow;
 use book::ImageCode;
 use book::Kind;
 use book::entry;
@@ -37,7 +38,7 @@ ghost use Rattle.holding.specs.AtRow.{imageAt, imagesAt, headWords, entr
 ghost use Rattle.holding.specs.Half.{half, isHalf};
 
 // What a party holds at the start: each row that it knows, as itself.
-pub fn start(book: &[u32], party: u32) -> [u32; 1024]
+pub fn start(book: &[u32], party: u32) -> ByRow
     requires { ⌜ Valid (now book) × (party < partiesOf (now book)) ⌝ }
     ensures { λ r. ⌜ view (now (book .entry)) r ≡ startOf (map (term (table (now (book .entry)))) (known (now (book .entry)) party)) ⌝ }
 {
@@ -52,7 +53,7 @@ pub fn start(book: &[u32], party: u32) -> [u32; 1024]
 }
 
 // The row is in the dictionary, or it isn't an atom and all its parts are buildable.
-pub fn buildable(book: &[u32], entries: &[u32; 1024], row: u32) -> bool
+pub fn buildable(book: &[u32], entries: &ByRow, row: u32) -> bool
     requires { ⌜ Valid (now book) × (row < rowsOf (now book)) ⌝ }
     ensures { λ r. ⌜ r ≡ buildableFrom (view (now (book .entry)) (now (entries .entry))) (term (table (now (book .entry))) row) ⌝ }
 {
@@ -102,7 +103,7 @@ fn half_row(book: &[u32], side: u32, part: u32) -> u32
 }
 
 // The partner of the key is buildable. It need not be a row: then it is buildable from its part.
-pub fn can_open(book: &[u32], entries: &[u32; 1024], key: u32) -> bool
+pub fn can_open(book: &[u32], entries: &ByRow, key: u32) -> bool
     requires { ⌜ Valid (now book) × (key < rowsOf (now book)) ⌝ }
     ensures { λ r. ⌜ r ≡ buildableFrom (view (now (book .entry)) (now (entries .entry))) (partner (term (table (now (book .entry))) key)) ⌝ }
 {
@@ -155,13 +156,7 @@ fn put_entry(row: u32, held: u32, out: &mut [u32], at: usize) -> usize
 }
 
 // The image of a row, in prefix words.
-pub fn write_image(
-    book: &[u32],
-    entries: &[u32; 1024],
-    row: u32,
-    out: &mut [u32],
-    at: usize,
-) -> usize
+pub fn write_image(book: &[u32], entries: &ByRow, row: u32, out: &mut [u32], at: usize) -> usize
     requires { ⌜ Valid (now book) × (row < rowsOf (now book)) ⌝ }
     ensures { λ r. ⌜ Wrote (imageAt (now (book .entry)) (now (entries .entry)) row) (now (out .entry)) at (now (out .exit)) r ⌝ }
 {
@@ -184,7 +179,7 @@ pub fn write_image(
 // The images of a list of rows below a bound.
 pub fn write_images(
     book: &[u32],
-    entries: &[u32; 1024],
+    entries: &ByRow,
     bound: u32,
     first: usize,
     left: usize,
@@ -202,13 +197,7 @@ pub fn write_images(
 }
 
 // The image of the key's partner.
-pub fn write_partner(
-    book: &[u32],
-    entries: &[u32; 1024],
-    key: u32,
-    out: &mut [u32],
-    at: usize,
-) -> usize
+pub fn write_partner(book: &[u32], entries: &ByRow, key: u32, out: &mut [u32], at: usize) -> usize
     requires { ⌜ Valid (now book) × (key < rowsOf (now book)) ⌝ }
     ensures { λ r. ⌜ Wrote (words (rowOf (now (book .entry))) (image (view (now (book .entry)) (now (entries .entry))) (partner (term (table (now (book .entry))) key)))) (now (out .entry)) at (now (out .exit)) r ⌝ }
 {

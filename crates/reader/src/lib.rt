@@ -1,5 +1,6 @@
 // The reader of any words. `read` answers the number and place of the first refusal of 1 to 9 that applies, or acceptance, as the
 // ordered table of book/specs/Refusals.antt has it; no index leaves the book and no sum wraps, whatever the words.
+use book::ByRow;
 use book::Kind;
 use book::Layout;
 use book::Limit;
@@ -192,7 +193,7 @@ fn scan_rows(book: &[u32]) -> Scan
 }
 
 // The size of a row, from those of the rows before it.
-fn row_size(book: &[u32], sizes: &[u32; 1024], row: u32) -> u32
+fn row_size(book: &[u32], sizes: &ByRow, row: u32) -> u32
     requires { ⌜ Headed (now book) × RowsKeep (now book) × (row < rowsOf (now book)) × ((k : ℕ) → k < row → getD (now sizes) k 0 ≡ rowSize (table (now book)) k) × ((k : ℕ) → k < row → rowSize (table (now book)) k ≤ 1024) ⌝ }
     ensures { λ r. ⌜ r ≡ rowSize (table (now (book .entry))) row ⌝ }
 {

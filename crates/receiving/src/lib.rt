@@ -1,6 +1,7 @@
 // Figure 3's R: what a party does with the terms that arrive at its placeholders. `receive` and `receive_messages` write the
 // CHECKs and OPENs, put each stored pair behind the last in the log, and give back the dictionary afterwards. All of it is the
 // meaning's own (translation/specs/Receive.antt), for a valid book.
+use book::ByRow;
 use book::Code;
 use book::Kind;
 use book::entry;
@@ -29,7 +30,7 @@ ghost use Rattle.receiving.specs.Receiving.{rowDid, listDid, SettleReady
 
 // What a party holds, an entry for each row; its next placeholder; the place of its next stored pair in the log.
 pub struct Dictionary {
-    pub entries: [u32; 1024],
+    pub entries: ByRow,
     pub next: u32,
     pub kept: usize,
 }
@@ -50,7 +51,7 @@ struct Settled {
 
 impl Dictionary {
     // What is held at the start; no placeholder is handed out yet.
-    pub fn new(entries: [u32; 1024], kept: usize) -> Self
+    pub fn new(entries: ByRow, kept: usize) -> Self
         ensures { λ r. ⌜ (r .entries ≡ entries) × (r .next ≡ 0) × (r .kept ≡ kept) ⌝ }
     {
         Dictionary {
@@ -62,7 +63,7 @@ impl Dictionary {
 }
 
 // The row is a cipher, and the partner of its key is buildable.
-fn opens(book: &[u32], entries: &[u32; 1024], row: u32) -> bool
+fn opens(book: &[u32], entries: &ByRow, row: u32) -> bool
     requires { ⌜ Valid (now book) × (row < rows (now book)) ⌝ }
     ensures { λ r. ⌜ r ≡ canOpen (view (now (book .entry)) (now (entries .entry))) (term (table (now (book .entry))) row) ⌝ }
 {
@@ -75,7 +76,7 @@ fn opens(book: &[u32], entries: &[u32; 1024], row: u32) -> bool
 // The event that compares the placeholder with the row's image.
 fn put_check(
     book: &[u32],
-    entries: &[u32; 1024],
+    entries: &ByRow,
     row: u32,
     place: u32,
     out: &mut [u32],
@@ -91,7 +92,7 @@ fn put_check(
 // The event that opens the cipher at the placeholder; its contents get the placeholders from `from` on.
 fn put_open(
     book: &[u32],
-    entries: &[u32; 1024],
+    entries: &ByRow,
     row: u32,
     place: u32,
     from: u32,
@@ -109,7 +110,7 @@ fn put_open(
 // The first rule that fits: compare, open or store.
 fn settle(
     book: &[u32],
-    entries: &mut [u32; 1024],
+    entries: &mut ByRow,
     next: u32,
     kept: usize,
     row: u32,

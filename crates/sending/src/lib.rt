@@ -1,5 +1,6 @@
 // Figure 3's S: what a party does to send a step's messages. `send` writes a NEW for each atom that has to be made, in building
 // order, then the SEND with its images; `make_list` does the making alone. Both tell the first taken atom that would be made.
+use book::ByRow;
 use book::Code;
 use book::Kind;
 use book::entry;
@@ -31,7 +32,7 @@ pub struct Made {
 }
 
 // The atom of that row is taken at the step.
-fn is_taken(since: &[u32; 1024], row: u32, step: u32) -> bool
+fn is_taken(since: &ByRow, row: u32, step: u32) -> bool
     requires { ⌜ row < 1024 ⌝ }
     ensures { λ r. ⌜ r ≡ takenIn (now (since .entry)) step row ⌝ }
 {
@@ -43,7 +44,7 @@ fn is_taken(since: &[u32; 1024], row: u32, step: u32) -> bool
 }
 
 // What was found so far, or one more than the row if its atom is taken.
-fn first_taken(since: &[u32; 1024], row: u32, step: u32, found: u32) -> u32
+fn first_taken(since: &ByRow, row: u32, step: u32, found: u32) -> u32
     requires { ⌜ row < 1024 ⌝ }
     ensures { λ r. ⌜ r ≡ orTaken found (takenIn (now (since .entry)) step row) row ⌝ }
 {
@@ -59,8 +60,8 @@ fn first_taken(since: &[u32; 1024], row: u32, step: u32, found: u32) -> u32
 // Makes the atoms of a row that are not held, parts first, and writes a NEW for each.
 fn make(
     book: &[u32],
-    since: &[u32; 1024],
-    entries: &mut [u32; 1024],
+    since: &ByRow,
+    entries: &mut ByRow,
     step: u32,
     row: u32,
     m: Made,
@@ -94,8 +95,8 @@ fn make(
 // The same for a list of rows below a bound.
 pub fn make_list(
     book: &[u32],
-    since: &[u32; 1024],
-    entries: &mut [u32; 1024],
+    since: &ByRow,
+    entries: &mut ByRow,
     step: u32,
     bound: u32,
     first: usize,
@@ -134,8 +135,8 @@ pub fn make_list(
 // Sends a step's messages: a NEW for each atom that has to be made, then a SEND with the messages' images.
 pub fn send(
     book: &[u32],
-    since: &[u32; 1024],
-    entries: &mut [u32; 1024],
+    since: &ByRow,
+    entries: &mut ByRow,
     step: u32,
     first: usize,
     n: usize,

@@ -1,5 +1,6 @@
 // The translator. `translate` answers, for any words and any lent words, the first refusal of 1 to 10 and 12 that applies, or
 // leaves the listing; no other lent word changes. `accept` answers refusals 1 to 10, with no buffer.
+use book::ByRow;
 use book::Reading;
 use book::Refusal;
 use book::parties;
@@ -42,7 +43,7 @@ struct Surveyed {
 
 // Offset and count of each party's program; the first begins behind them. Where a party would make a taken atom there is no output, so
 // what is written then says nothing, and the parties that follow are asked about the steps before alone.
-fn write_heads(book: &[u32], since: &[u32; 1024], out: &mut [u32], at: usize) -> Heads
+fn write_heads(book: &[u32], since: &ByRow, out: &mut [u32], at: usize) -> Heads
     requires { ⌜ Ready (now book) (now since) ⌝ }
     ensures { λ r. ⌜ WroteHeads (now (book .entry)) (now (out .entry)) at (now (out .exit)) (r .at) (r .end) (r .step) (r .taken) ⌝ }
 {
@@ -72,7 +73,7 @@ fn write_heads(book: &[u32], since: &[u32; 1024], out: &mut [u32], at: usize) ->
 }
 
 // The programs, in party order.
-fn write_bodies(book: &[u32], since: &[u32; 1024], out: &mut [u32], at: usize) -> usize
+fn write_bodies(book: &[u32], since: &ByRow, out: &mut [u32], at: usize) -> usize
     requires { ⌜ Writable (now book) (now since) ⌝ }
     ensures { λ r. ⌜ Wrote (bodiesOf (now (book .entry))) (now (out .entry)) at (now (out .exit)) r ⌝ }
 {
@@ -87,7 +88,7 @@ fn write_bodies(book: &[u32], since: &[u32; 1024], out: &mut [u32], at: usize) -
 }
 
 // The whole output: its heads were found before.
-fn write_listing(book: &[u32], since: &[u32; 1024], heads: &[u32], out: &mut [u32]) -> usize
+fn write_listing(book: &[u32], since: &ByRow, heads: &[u32], out: &mut [u32]) -> usize
     requires { ⌜ Writable (now book) (now since) × HeadsIn (now book) (now heads) ⌝ }
     ensures { λ r. ⌜ Wrote (listing (now (book .entry))) (now (out .entry)) 0 (now (out .exit)) r ⌝ }
 {
@@ -98,7 +99,7 @@ fn write_listing(book: &[u32], since: &[u32; 1024], heads: &[u32], out: &mut [u3
 }
 
 // The first taken atom or, where there is none, the heads and the output's length, with nothing written to the output.
-fn survey(book: &[u32], since: &[u32; 1024]) -> Surveyed
+fn survey(book: &[u32], since: &ByRow) -> Surveyed
     requires { ⌜ Ready (now book) (now since) ⌝ }
     ensures { λ r. ⌜ Survey (now (book .entry)) (r .heads) (r .end) (r .step) (r .taken) ⌝ }
 {

@@ -1,6 +1,7 @@
 // A party's way through the steps of a valid book. `walk` writes its events up to a step, or to the first at which it would make
 // a taken atom; `measure` counts its program's words and finds that step; `write_program` writes the program of a party that
 // makes no taken atom.
+use book::ByRow;
 use book::Code;
 use book::rows;
 use book::step_count;
@@ -46,7 +47,7 @@ pub struct Passed {
 // A party's part in one step.
 fn act(
     book: &[u32],
-    since: &[u32; 1024],
+    since: &ByRow,
     from: Received,
     party: u32,
     step: u32,
@@ -127,7 +128,7 @@ fn next_own(book: &[u32], party: u32, from: u32) -> u32
 // at which the party would make a taken atom, for such a book is refused.
 pub fn walk(
     book: &[u32],
-    since: &[u32; 1024],
+    since: &ByRow,
     party: u32,
     upto: u32,
     kept: usize,
@@ -170,7 +171,7 @@ pub struct Measured {
 
 // The walk with nothing lent to write to. Steps from `upto` on are not looked at: all are before it, or a smaller one is refused
 // already and nobody asks for the words.
-pub fn measure(book: &[u32], since: &[u32; 1024], party: u32, upto: u32) -> Measured
+pub fn measure(book: &[u32], since: &ByRow, party: u32, upto: u32) -> Measured
     requires { ⌜ WalkReady (now book) (now since) party upto ⌝ }
     ensures { λ r. ⌜ (r .taken ≡ 0 → upto ≡ stepsOf (now (book .entry)) → r .words ≡ length (partWords (now (book .entry)) party)) × (r .words ≤ mostPart) × FoundBefore (now (book .entry)) party upto (r .step) (r .taken) ⌝ }
 {
@@ -195,13 +196,7 @@ pub fn measure(book: &[u32], since: &[u32; 1024], party: u32, upto: u32) -> Meas
 
 // The program of a party that makes no taken atom. What it stores is kept beside it while its events are written, and follows behind
 // them, in END.
-pub fn write_program(
-    book: &[u32],
-    since: &[u32; 1024],
-    party: u32,
-    out: &mut [u32],
-    at: usize,
-) -> usize
+pub fn write_program(book: &[u32], since: &ByRow, party: u32, out: &mut [u32], at: usize) -> usize
     requires { ⌜ Valid (now book) × Claims (now book) (now since) × (party < partiesOf (now book)) × Unrefused (now book) party (stepsOf (now book)) ⌝ }
     ensures { λ r. ⌜ Wrote (partWords (now (book .entry)) party) (now (out .entry)) at (now (out .exit)) r ⌝ }
 {

@@ -110,18 +110,18 @@ fn entry_breaks(book: &[u32], first: usize, n: usize, bound: u32) -> bool
     false
 }
 
-// A row's, a party's or a step's list breaks its rule: lo to hi entries below the bound, `before` words before them.
+// A row's, a party's or a step's list breaks its rule: lo to hi entries below the bound, `passed` words before them.
 fn list_breaks(
     book: &[u32],
     lo: usize,
     hi: usize,
     n: usize,
     first: usize,
-    before: usize,
+    passed: usize,
     bound: u32,
 ) -> bool
     requires { ⌜ Headed (now book) × (n < 2 ^ 32) × (first < 2 ^ 32) ⌝ }
-    ensures { λ r. ⌜ r ≡ listBreaks (now (book .entry)) lo hi n first before bound ⌝ }
+    ensures { λ r. ⌜ r ≡ listBreaks (now (book .entry)) lo hi n first passed bound ⌝ }
 {
     if n < lo {
         return true;
@@ -129,7 +129,7 @@ fn list_breaks(
     if hi < n {
         return true;
     }
-    if first != before {
+    if first != passed {
         return true;
     }
     if pool(book) < first + n {

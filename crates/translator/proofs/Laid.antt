@@ -8,13 +8,13 @@ use Rattle.words.specs.Overlay.Laws.{wrote-then, wrote-none, wrote-as}
 use Rattle.words.specs.Run.{values}
 use Rattle.book.specs.Layout.{parties}
 use Rattle.translation.specs.Listing.{bodies, partWords}
-use Rattle.translator.specs.Parts.{parts, bodiesOf}
+use Rattle.translator.specs.Parts.{programsTo, bodiesOf}
 use Rattle.translator.proofs.Parts.{bodies-more}
 
 -- those of the first q of n parties
 pub record Laid (b : List ℕ) (n q : ℕ) (old : List ℕ) (at : ℕ) (new : List ℕ) (next : ℕ) : Type 0 where
   pub few : q ≤ n
-  pub wrote : Wrote (bodies (parts b q)) old at new next
+  pub wrote : Wrote (bodies (programsTo b q)) old at new next
 
 pub bodies-start : {b : List ℕ} {n : ℕ} {old : List ℕ} {at : ℕ} → Laid b n 0 old at old at
 unfolding values bodies

@@ -11,7 +11,7 @@ use Rattle.book.specs.Layout.{parties}
 use Rattle.book.specs.Valid.{Valid}
 use Rattle.book.specs.Headed.Laws.{valid-headed}
 use Rattle.translation.specs.Listing.{heads, framed, partWords, listing}
-use Rattle.translator.specs.Parts.{parts, headsOf, HeadsIn, bodiesOf}
+use Rattle.translator.specs.Parts.{programsTo, headsOf, HeadsIn, bodiesOf}
 use Rattle.translator.proofs.Parts.{heads-count}
 
 -- ---- HeadsIn
@@ -29,7 +29,7 @@ heads-there b hs h = let c = heads-count b in let l = ap length h in let k = len
 -- ---- listing
 listing-parts : (b : List ℕ) → listing b ≡ parties b ∷ (headsOf b ++ bodiesOf b)
 unfolding listing framed
-listing-parts b = ap (λ k. k ∷ (heads (1 + 2 * k) (parts b (parties b)) ++ bodiesOf b)) (values-length (partWords b) 0 (parties b))
+listing-parts b = ap (λ k. k ∷ (heads (1 + 2 * k) (programsTo b (parties b)) ++ bodiesOf b)) (values-length (partWords b) 0 (parties b))
 
 -- the number of parties, the heads and the programs, written one after another
 pub listing-wrote : (b hs : List ℕ) (n m : ℕ) {old one two new : List ℕ} {p q r : ℕ} → n ≡ parties b → m ≡ n → HeadsIn b hs

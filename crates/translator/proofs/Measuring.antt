@@ -17,7 +17,7 @@ use Rattle.translation.specs.Long.Laws.{listing-length}
 use Rattle.walking.specs.Found.{FoundBefore}
 use Rattle.translator.specs.Among.{FoundAmong}
 use Rattle.translator.specs.Among.Laws.{among-none, among-all, among-stays, among-sooner}
-use Rattle.translator.specs.Parts.{parts}
+use Rattle.translator.specs.Parts.{programsTo}
 use Rattle.translator.specs.Survey.{WroteHeads}
 use Rattle.translator.proofs.Parts.{length-more, heads-more}
 
@@ -29,8 +29,8 @@ pub record Measuring (b : List ℕ) (n q : ℕ) (old : List ℕ) (at : ℕ) (new
   pub few : q ≤ n
   pub same : length new ≡ length old
   pub low : end ≤ 1 + 2 * parties b + mostPart * q
-  pub wrote : taken ≡ 0 → Wrote (heads (1 + 2 * parties b) (parts b q)) old at new next
-  pub ends : taken ≡ 0 → end ≡ 1 + 2 * parties b + length (bodies (parts b q))
+  pub wrote : taken ≡ 0 → Wrote (heads (1 + 2 * parties b) (programsTo b q)) old at new next
+  pub ends : taken ≡ 0 → end ≡ 1 + 2 * parties b + length (bodies (programsTo b q))
   pub found : FoundAmong b q step taken
 
 module _ {b : List ℕ} {n : ℕ} (e : n ≡ parties b) where
@@ -60,8 +60,8 @@ module _ {b : List ℕ} {n : ℕ} (e : n ≡ parties b) where
         let low-so-far = h .low in
         let o = 1 + 2 * parties b in
         let words : y ≡ 0 → w ≡ length (partWords b q) = λ u. d z (among-all (h .found) (sym ye ∙ u)) in
-        let head : y ≡ 0 → heads o (parts b (q + 1)) ≡ heads o (parts b q) ++ f ∷ g ∷ [] =
-        λ u. heads-more b q o ∙ ap₂ (λ m k. heads o (parts b q) ++ m ∷ k ∷ []) (sym (i ∙ h .ends (sym ye ∙ u))) (sym (j ∙ words u)) in
+        let head : y ≡ 0 → heads o (programsTo b (q + 1)) ≡ heads o (programsTo b q) ++ f ∷ g ∷ [] =
+        λ u. heads-more b q o ∙ ap₂ (λ m k. heads o (programsTo b q) ++ m ∷ k ∷ []) (sym (i ∙ h .ends (sym ye ∙ u))) (sym (j ∙ words u)) in
         let more = length-more b q in
         record {
           few = omega arith;
@@ -93,5 +93,5 @@ module _ {b : List ℕ} {n : ℕ} (e : n ≡ parties b) where
   heads-end {q} l h =
       let f = h .few in
       let z : q ≡ parties b = omega arith in
-      let all = ap (λ k. 1 + 2 * parties b + length (bodies (parts b k))) z ∙ sym (listing-length b) in
+      let all = ap (λ k. 1 + 2 * parties b + length (bodies (programsTo b k))) z ∙ sym (listing-length b) in
       record { wrote = λ u. rw z at (h .wrote u); ends = λ u. h .ends u ∙ all; found = rw z at (h .found) }

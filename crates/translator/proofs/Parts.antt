@@ -9,7 +9,7 @@ use Rattle.words.specs.Run.Laws.{values-last, values-length}
 use Rattle.book.specs.Layout.{parties}
 use Rattle.translation.specs.Listing.{heads, bodies, partWords}
 use Rattle.translation.specs.Spelling.Laws.{heads-length}
-use Rattle.translator.specs.Parts.{parts, headsOf}
+use Rattle.translator.specs.Parts.{programsTo, headsOf}
 
 -- ---- one program more, in any list of programs
 bodies-last : (ls : List (List ℕ)) (l : List ℕ) → bodies (ls ++ l ∷ []) ≡ bodies ls ++ l
@@ -27,21 +27,21 @@ heads-last o (k ∷ ls) l =
 
 -- ---- the program of party q behind those of the parties before
 module _ (b : List ℕ) (q : ℕ) where
-  parts-more : parts b (q + 1) ≡ parts b q ++ partWords b q ∷ []
+  parts-more : programsTo b (q + 1) ≡ programsTo b q ++ partWords b q ∷ []
   parts-more =
       let z : q + 1 ≡ suc q = omega arith in
       let y : 0 + q ≡ q = omega arith in
-      ap (parts b) z ∙ values-last (partWords b) 0 q ∙ ap (λ k. parts b q ++ partWords b k ∷ []) y
+      ap (programsTo b) z ∙ values-last (partWords b) 0 q ∙ ap (λ k. programsTo b q ++ partWords b k ∷ []) y
 
-  pub bodies-more : bodies (parts b (q + 1)) ≡ bodies (parts b q) ++ partWords b q
-  bodies-more = ap bodies parts-more ∙ bodies-last (parts b q) (partWords b q)
+  pub bodies-more : bodies (programsTo b (q + 1)) ≡ bodies (programsTo b q) ++ partWords b q
+  bodies-more = ap bodies parts-more ∙ bodies-last (programsTo b q) (partWords b q)
 
-  pub length-more : length (bodies (parts b (q + 1))) ≡ length (bodies (parts b q)) + length (partWords b q)
-  length-more = ap length bodies-more ∙ length-append (bodies (parts b q)) (partWords b q)
+  pub length-more : length (bodies (programsTo b (q + 1))) ≡ length (bodies (programsTo b q)) + length (partWords b q)
+  length-more = ap length bodies-more ∙ length-append (bodies (programsTo b q)) (partWords b q)
 
-  pub heads-more : (o : ℕ) → heads o (parts b (q + 1)) ≡ heads o (parts b q) ++ (o + length (bodies (parts b q))) ∷ length (partWords b q) ∷ []
-  heads-more o = ap (heads o) parts-more ∙ heads-last o (parts b q) (partWords b q)
+  pub heads-more : (o : ℕ) → heads o (programsTo b (q + 1)) ≡ heads o (programsTo b q) ++ (o + length (bodies (programsTo b q))) ∷ length (partWords b q) ∷ []
+  heads-more o = ap (heads o) parts-more ∙ heads-last o (programsTo b q) (partWords b q)
 
 -- ---- two words for each party
 pub heads-count : (b : List ℕ) → length (headsOf b) ≡ 2 * parties b
-heads-count b = heads-length (1 + 2 * parties b) (parts b (parties b)) ∙ ap (λ k. 2 * k) (values-length (partWords b) 0 (parties b))
+heads-count b = heads-length (1 + 2 * parties b) (programsTo b (parties b)) ∙ ap (λ k. 2 * k) (values-length (partWords b) 0 (parties b))

@@ -9,12 +9,12 @@ use Rattle.book.specs.Layout.{parties}
 use Rattle.translation.specs.Listing.{heads, bodies, partWords}
 
 -- the programs of the first q parties
-abbrev pub parts : List ℕ → ℕ → List (List ℕ)
-parts b q = values (partWords b) 0 q
+abbrev pub programsTo : List ℕ → ℕ → List (List ℕ)
+programsTo b q = values (partWords b) 0 q
 
 -- offset and count of each party's program; the first begins behind them
 abbrev pub headsOf : List ℕ → List ℕ
-headsOf b = heads (1 + 2 * parties b) (parts b (parties b))
+headsOf b = heads (1 + 2 * parties b) (programsTo b (parties b))
 
 -- the list begins with them
 abbrev pub HeadsIn : List ℕ → List ℕ → Type 0
@@ -22,4 +22,4 @@ HeadsIn b hs = take (2 * parties b) hs ≡ headsOf b
 
 -- the programs, one behind another
 abbrev pub bodiesOf : List ℕ → List ℕ
-bodiesOf b = bodies (parts b (parties b))
+bodiesOf b = bodies (programsTo b (parties b))

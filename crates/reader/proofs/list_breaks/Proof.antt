@@ -11,7 +11,7 @@ returns-3 c =
     let else2 : tie.Else2 = search in
     let else1 : tie.Else1 = search in
     let start : tie.Start = search in
-    list-place _ _ _ _ (start .args .first) (start .args .before) _
+    list-place _ _ _ _ (start .args .first) (start .args .passed) _
     (else1 .if1 .left) (else2 .if2 .left) (c .if3 .taken)
 
 pub list-breaks-spec : {M : Type 1} → statement M

@@ -11,7 +11,7 @@ use Rattle.book.specs.Layout.{table, rows, steps, stepFirst, stepCount, message
 use Rattle.book.specs.Valid.{Valid}
 use Rattle.book.specs.Headed.Laws.{valid-headed}
 use Rattle.book.specs.Span.{Span}
-use Rattle.book.specs.Span.Laws.{span-step}
+use Rattle.book.specs.Span.Laws.{span-step, messages-at}
 use Rattle.translation.specs.Receive.{Did, followed}
 use Rattle.translation.specs.Steps.{stepDid, before}
 use Rattle.translation.specs.Steps.Laws.{before-more}
@@ -21,20 +21,14 @@ use Rattle.placing.specs.declared.Counted.{Counted}
 use Rattle.placing.specs.Through.{Counts}
 
 -- ---- the book is small
-pub few-steps : (b : List ℕ) → Valid b → steps b ≤ 64
-few-steps b v = valid-headed b v .fewSteps
-
 -- ---- the messages
 -- d, f and n are the book's rows, and where a step's messages stand and how many they are
 pub step-span : (b : List ℕ) → Valid b → (d s f n : ℕ) → d ≡ rows b → s < steps b → f ≡ stepFirst b s → n ≡ stepCount b s → Span b d f n
 step-span b v d s f n e h df dn = rw e (span-step b v f n s h df dn)
 
-pub said : (b : List ℕ) (s f n : ℕ) → f ≡ stepFirst b s → n ≡ stepCount b s → terms (table b) (listAt b f n) ≡ terms (table b) (messages b s)
-said b s f n df dn = rw (df, dn)
-
 pub few-said : (b : List ℕ) → Valid b → (s f n : ℕ) → s < steps b → f ≡ stepFirst b s → n ≡ stepCount b s
     → sizes (terms (table b) (listAt b f n)) ≤ stepSize
-few-said b v s f n h df dn = rw (said b s f n df dn) (step-sizes b v s h)
+few-said b v s f n h df dn = rw (messages-at b s f n df dn) (step-sizes b v s h)
 
 -- ---- one step more
 pub step-more : (b : List ℕ) (p s : ℕ)

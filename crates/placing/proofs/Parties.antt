@@ -7,14 +7,11 @@ use mathlib.Core.Path.{_≡_, _∙_}
 use lib.ListN.{length, getD, set, length-set}
 use Rattle.book.specs.Layout.{parties, steps, sender, receiver}
 use Rattle.book.specs.Valid.{Valid}
-use Rattle.book.specs.Headed.Laws.{valid-headed}
+use Rattle.book.specs.Headed.Laws.{valid-headed, few-parties}
 use Rattle.translation.specs.Places.{placesOf}
 use Rattle.placing.specs.Placed.{Placed}
 use Rattle.placing.specs.Through.{Noted, PartyNoted, PartiesNoted, PlacePartyReady}
 use Rattle.placing.specs.Through.Laws.{noted-set}
-
-pub few-parties : (b : List ℕ) → Valid b → parties b ≤ 16
-few-parties b v = valid-headed b v .fewParties
 
 -- of n parties, the first q have noted their parts; the lists of SENDs, RECEIVEs and ENDs are as long as they were
 pub record Noting (b : List ℕ) (n q : ℕ) (x y z : List ℕ) : Type 0 where

@@ -7,6 +7,7 @@ use lib.ListN.{length, length-append, length-map}
 use Rattle.terms.specs.Term.{Terms}
 use Rattle.terms.specs.Table.{terms}
 use Rattle.book.specs.Layout.{table, sender, stepFirst, stepCount, listAt}
+use Rattle.book.specs.Span.Laws.{messages-at}
 use Rattle.translation.specs.Dictionary.{Dictionary as Holds}
 use Rattle.translation.specs.Build.{AllBuilt, buildAll}
 use Rattle.translation.specs.Build.Laws.{buildAll-made}
@@ -22,7 +23,7 @@ use Rattle.sending.specs.declared.Made.{Made}
 use Rattle.placing.specs.declared.Counted.{Counted}
 use Rattle.placing.specs.Placed.Laws.{few-events}
 use Rattle.placing.specs.Through.{Through, StepReady}
-use Rattle.placing.proofs.Messages.{said, few-said, step-more, counts-as}
+use Rattle.placing.proofs.Messages.{few-said, step-more, counts-as}
 
 -- n messages, the first of which stands at f in the pool, are built from x on
 abbrev pub built : List ℕ → Counted → ℕ → ℕ → AllBuilt
@@ -43,7 +44,7 @@ module _ {b : List ℕ} {s f n : ℕ} {x : Counted} {l e out outAfter : List ℕ
   sent-next : before b (sender b s) (s + 1) ≡ followed (before b (sender b s) s) (sent s (built b x f n))
   sent-next =
       let d = before b (sender b s) s in
-      let same = ap₂ (λ (ts : Terms) (δ : Holds). sent s (buildAll ts δ)) (sym (said b s f n df dn)) (sym (ready .through .holds)) in
+      let same = ap₂ (λ (ts : Terms) (δ : Holds). sent s (buildAll ts δ)) (sym (messages-at b s f n df dn)) (sym (ready .through .holds)) in
       step-more b (sender b s) s ∙ ap (followed d) (step-sends b (sender b s) s (d .dictionary) (length (d .given)) refl ∙ same)
 
   pub sent-counts : {m : ℕ} → m ≡ r .at / 2 → Through b (sender b s) (s + 1)

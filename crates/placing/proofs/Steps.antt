@@ -8,6 +8,7 @@ use mathlib.Core.Path.{_≡_, refl, sym, ap, _∙_}
 use lib.ListN.{length, set}
 use Rattle.terms.specs.Table.{term}
 use Rattle.book.specs.Layout.{table, steps, sender, receiver, known}
+use Rattle.book.specs.Headed.Laws.{few-steps}
 use Rattle.translation.specs.Dictionary.{start}
 use Rattle.translation.specs.Receive.{followed}
 use Rattle.translation.specs.Places.{placesOf}
@@ -19,7 +20,7 @@ use Rattle.placing.specs.declared.Counted.{Counted}
 use Rattle.placing.specs.Placed.Laws.{send-place, receive-place, end-place}
 use Rattle.placing.specs.Through.{Through, StepReady, PlaceStepReady, PlacePartyReady, ThisStep, EarlierSteps, StepPlaced, StepsNoted, PartyNoted}
 use Rattle.placing.specs.Through.Laws.{noted-none, noted-set, noted-then}
-use Rattle.placing.proofs.Messages.{few-steps, step-more, counts-as}
+use Rattle.placing.proofs.Messages.{step-more, counts-as}
 
 -- ---- one step; z and c are its sender and its receiver, as code has read them, and w its place in a list
 -- the SEND's place can be told: there is an event before the step's end

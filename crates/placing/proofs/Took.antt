@@ -8,6 +8,7 @@ use Rattle.terms.specs.Term.{count, listed}
 use Rattle.terms.specs.Term.Laws.{count-listed}
 use Rattle.terms.specs.Table.{terms}
 use Rattle.book.specs.Layout.{table, rows, receiver, stepFirst, stepCount, listAt}
+use Rattle.book.specs.Span.Laws.{messages-at}
 use Rattle.translation.specs.Receive.{Did, Event, followed, receiveAll}
 use Rattle.translation.specs.Receive.Laws.{receiveAll-settles}
 use Rattle.translation.specs.Program.{arrived}
@@ -22,7 +23,7 @@ use Rattle.receiving.specs.Receiving.{listDid, ListReady, Led}
 use Rattle.placing.specs.declared.Counted.{Counted}
 use Rattle.placing.specs.Placed.Laws.{few-events}
 use Rattle.placing.specs.Through.{Through, StepReady}
-use Rattle.placing.proofs.Messages.{step-span, said, few-said, step-more, counts-as}
+use Rattle.placing.proofs.Messages.{step-span, few-said, step-more, counts-as}
 
 -- where receiving starts: what is held, with nothing lent to write to
 abbrev at-first : Counted → Received
@@ -94,7 +95,7 @@ module _ {b : List ℕ} {s f n : ℕ} {x : Counted} (ready : StepReady b (receiv
         let d = before b (receiver b s) s in
         let receives = step-receives b (receiver b s) s (d .dictionary) (length (d .given)) (ready .valid .stepsKeep s (ready .step) .two) refl in
         step-more b (receiver b s) s
-        ∙ ap (followed d) (receives ∙ rw (← said b s f n df dn, ← ready .through .holds, ← ready .through .given))
+        ∙ ap (followed d) (receives ∙ rw (← messages-at b s f n df dn, ← ready .through .holds, ← ready .through .given))
 
     pub took-counts : {m : ℕ} → m ≡ (y .dictionary .kept - x .dictionary .kept) / 2
         → Through b (receiver b s) (s + 1) (record { dictionary = y .dictionary; events = x .events + 1 + (y .dictionary .next - x .dictionary .next) - m })

@@ -8,12 +8,6 @@ use Rattle.book.specs.Valid.{Valid}
 use Rattle.book.specs.Headed.Laws.{valid-headed}
 use Rattle.book.specs.Span.Laws.{some-part}
 
-pub few-rows : (b : List ℕ) → Valid b → rows b ≤ 1024
-few-rows b v = valid-headed b v .fewRows
-
-pub small-pool : (b : List ℕ) → Valid b → pool b ≤ 8192
-small-pool b v = valid-headed b v .smallPool
-
 -- a cipher has a key among its c parts
 pub some-key : (b : List ℕ) → Valid b → (r c : ℕ) → r < rows b → kind b r ≡ 2 → c ≡ rowCount b r → 1 ≤ c
 some-key b v r c h k d = let s = some-part b v r h (omega arith) in omega arith

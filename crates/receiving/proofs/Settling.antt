@@ -11,6 +11,7 @@ use Rattle.terms.specs.Table.{term}
 use Rattle.book.specs.Layout.{table, kind, rowFirst, rowCount}
 use Rattle.book.specs.Span.{Span}
 use Rattle.book.specs.Span.Laws.{list-none, span-row, span-tail}
+use Rattle.book.specs.Headed.Laws.{few-rows}
 use Rattle.translation.specs.Dictionary.{buildable, enter}
 use Rattle.translation.specs.Receive.{Did, followed, canOpen, compared}
 use Rattle.translation.specs.Listing.{pairWords, programWords}
@@ -22,7 +23,7 @@ use Rattle.receiving.specs.declared.Settled.{Settled}
 use Rattle.receiving.specs.Turn.{inTurn, unlocked, settled, contentsOf}
 use Rattle.receiving.specs.Turn.Laws.{receive-turn, settled-compare, settled-unlock, settled-store, contents-compare, contents-unlock, contents-store, cipher-row, unlocked-rest, terms-none}
 use Rattle.receiving.specs.Receiving.{rowDid, listDid, Fits, SettleReady, Led, Settling}
-use Rattle.receiving.proofs.Bounds.{few-rows, some-key}
+use Rattle.receiving.proofs.Bounds.{some-key}
 use Rattle.receiving.proofs.Ciphers.{opens-kind}
 
 -- nothing is received after a row that was compared or stored

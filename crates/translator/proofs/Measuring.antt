@@ -21,9 +21,6 @@ use Rattle.translator.specs.Parts.{programsTo}
 use Rattle.translator.specs.Survey.{WroteHeads}
 use Rattle.translator.proofs.Parts.{length-more, heads-more}
 
-pub few-parties : (b : List ℕ) → Valid b → parties b ≤ 16
-few-parties b v = valid-headed b v .fewParties
-
 -- of the first q of n parties: while nothing is found, the heads and the length are those of the programs; the numbers fit in any case
 pub record Measuring (b : List ℕ) (n q : ℕ) (old : List ℕ) (at : ℕ) (new : List ℕ) (next end step taken : ℕ) : Type 0 where
   pub few : q ≤ n

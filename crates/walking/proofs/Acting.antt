@@ -16,7 +16,7 @@ use Rattle.terms.specs.Term.{count, gathered, listed}
 use Rattle.terms.specs.Term.Laws.{count-gathered}
 use Rattle.terms.specs.Table.{term, terms}
 use Rattle.book.specs.Layout.{table, rows, sender, receiver, stepFirst, stepCount, messages, listAt}
-use Rattle.book.specs.Span.Laws.{span-step}
+use Rattle.book.specs.Span.Laws.{span-step, messages-at}
 use Rattle.translation.specs.Build.{buildAll}
 use Rattle.translation.specs.Receive.{Did, Event, nothing, followed, receiveAll}
 use Rattle.translation.specs.Program.{sent}
@@ -32,10 +32,6 @@ use Rattle.receiving.specs.Receiving.{listDid, ListReady, Led}
 use Rattle.walking.specs.Found.{foundAt}
 use Rattle.walking.specs.Walking.{actDid, ActReady, Acting}
 
--- ---- the step's messages, where code has read that they stand
-said : (b : List ℕ) (s f n : ℕ) → f ≡ stepFirst b s → n ≡ stepCount b s → terms (table b) (listAt b f n) ≡ terms (table b) (messages b s)
-said b s f n df dn = rw (df, dn)
-
 -- ---- the party sends the step
 pub acts-send : {b l : List ℕ} {p s : ℕ} {x : Received} {f n z : ℕ} {e out outAfter log : List ℕ} {m : Made}
     → f ≡ stepFirst b s → n ≡ stepCount b s → z ≡ sender b s → z ≡ p
@@ -44,7 +40,7 @@ pub acts-send : {b l : List ℕ} {p s : ℕ} {x : Received} {f n z : ℕ} {e out
     (record { here = record { dictionary = record { entries = e; next = x .dictionary .next; kept = x .dictionary .kept }; at = m .at }; taken = m .taken })
 unfolding pairWords foundAt
 acts-send {b} {p = p} {s = s} {x = x} df dn dz e w =
-    let same = said b s _ _ df dn in
+    let same = messages-at b s _ _ df dn in
     let δ = view b (x .dictionary .entries) in
     let is : sender b s ≡ p = sym dz ∙ e in
     record {
@@ -75,7 +71,7 @@ module _ (b : List ℕ) (p s : ℕ) {f n z y : ℕ} (df : f ≡ stepFirst b s) (
   unfolding inTurn
   step-turns x =
       step-receives b p s (view b (x .dictionary .entries)) (x .dictionary .next) (λ q. e (dz ∙ q)) (sym dy ∙ h)
-      ∙ rw (said b s f n df dn, many)
+      ∙ rw (messages-at b s f n df dn, many)
 
   turns-none : (x : Received) → n ≡ 0 → listDid b f n x ≡ nothing (view b (x .dictionary .entries))
   unfolding inTurn terms run gathered listed receiveAll count

@@ -17,9 +17,6 @@ use Rattle.walking.specs.declared.Passed.{Passed}
 use Rattle.walking.specs.Walking.{Along, Walking}
 
 -- ---- the book is small
-pub few-steps : (b : List ℕ) → Valid b → steps b ≤ 64
-few-steps b v = valid-headed b v .fewSteps
-
 -- ---- the places are lengths, counted from 0
 module _ {b : List ℕ} (v : Valid b) (p : ℕ) {i : ℕ} {log logAfter out outAfter : List ℕ} {x : Received} (h : i ≤ steps b) where
   pub ends-at : {k : ℕ} → Along b p i k log logAfter 0 out outAfter x → x .at ≡ length (programWords (rowOf b) (before b p i .events))

@@ -5,7 +5,8 @@ use mathlib.Core.Path.{_≡_, refl, ap, _∙_}
 use native.Mathlib.Omega.{arith}
 use Rattle.words.specs.Run.{run}
 use Rattle.words.specs.Run.Laws.{run-none, run-more, all-run}
-use Rattle.book.specs.Layout.{at, begins, rows, steps, pool, kind, rowFirst, rowCount, stepFirst, stepCount, listAt, pooled}
+use Rattle.terms.specs.Table.{terms}
+use Rattle.book.specs.Layout.{at, begins, rows, steps, pool, kind, rowFirst, rowCount, stepFirst, stepCount, listAt, pooled, messages, table}
 use Rattle.book.specs.Kinds.Laws.{most-few, some-parts}
 use Rattle.book.specs.Valid.{Valid}
 use Rattle.book.specs.Valid.Laws.{row-before}
@@ -51,6 +52,11 @@ module _ (b : List ℕ) (d f n : ℕ) (s : Span b d f n) (h : 0 < n) where
 -- the rest of a list that is not at its end, as a test of the count says it
 pub span-rest : (b : List ℕ) (d f n : ℕ) → Span b d f n → (n ≡ 0 → ⊥) → Span b d (f + 1) (n - 1)
 span-rest b d f n s z = span-tail b d f n s (omega arith)
+
+-- a step's messages, where code has read that they stand
+pub messages-at : (b : List ℕ) (s f n : ℕ) → f ≡ stepFirst b s → n ≡ stepCount b s → terms (table b) (listAt b f n)
+    ≡ terms (table b) (messages b s)
+messages-at b s f n df dn = rw (df, dn)
 
 -- ---- a row's first part: a cipher's key, a half's part
 module _ (b : List ℕ) (v : Valid b) where

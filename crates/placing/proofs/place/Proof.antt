@@ -3,8 +3,8 @@
 use Prim.Native.Nat.{_-_}
 use native.Mathlib.Omega.{arith}
 use borrow.Author.Needs.{needs}
-use Rattle.book.specs.Headed.Laws.{valid-headed}
-use Rattle.placing.proofs.Parties.{few-parties, Noting, noting-start, noting-ready, noting-on, noting-end}
+use Rattle.book.specs.Headed.Laws.{valid-headed, few-parties}
+use Rattle.placing.proofs.Parties.{Noting, noting-start, noting-ready, noting-on, noting-end}
 use Rattle.placing.proofs.place.Statement.{statement}
 use Rattle.placing.proofs.place.Tie as tie
 

@@ -2,8 +2,7 @@
 -- Assumes nothing.
 use native.Mathlib.Omega.{arith}
 use borrow.Author.Needs.{needs}
-use Rattle.book.specs.Headed.Laws.{valid-headed}
-use Rattle.placing.proofs.Messages.{few-steps}
+use Rattle.book.specs.Headed.Laws.{valid-headed, few-steps}
 use Rattle.placing.proofs.Steps.{sent-some, step-ready, step-sent, step-received, step-idles}
 use Rattle.placing.proofs.place_step.Statement.{statement}
 use Rattle.placing.proofs.place_step.Tie as tie

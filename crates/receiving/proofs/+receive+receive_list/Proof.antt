@@ -7,7 +7,7 @@ use borrow.Fn.Kinds.{In, Out}
 use borrow.Fn.PlainCycle.{Measures, is, falls, and}
 use Rattle.words.proofs.narrow.Reads as narrow-reads
 use Rattle.book.proofs.entry.Reads as entry-reads
-use Rattle.receiving.proofs.Bounds.{small-pool}
+use Rattle.book.specs.Headed.Laws.{small-pool}
 use Rattle.receiving.proofs.Settling.{turn-fits, turn-led}
 use Rattle.receiving.proofs.Going.{withNext, Going, going-start, going-fits, going-on, going-end}
 use Rattle.receiving.proofs.settle.Reads as settle-reads

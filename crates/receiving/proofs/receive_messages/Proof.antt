@@ -2,10 +2,10 @@
 -- as in `receive_list`. Assumes nothing.
 use borrow.Author.Needs.{needs}
 use native.Mathlib.Omega.{arith}
-use Rattle.receiving.proofs.Bounds.{small-pool}
 use Rattle.receiving.proofs.Going.{withNext, Going, going-start, going-fits, going-on, going-end}
 use Rattle.receiving.proofs.receive_messages.Statement.{statement}
 use Rattle.receiving.proofs.receive_messages.Tie as tie
+use Rattle.book.specs.Headed.Laws.{small-pool}
 
 abbrev Inv-loop : tie.InvT-loop
 Inv-loop book here₀ bound first left log₀ out₀ place₀ next i₀ k₀ here log out place i k =

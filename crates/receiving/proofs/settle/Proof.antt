@@ -4,8 +4,8 @@ use mathlib.Core.Path.{_≡_, refl}
 use native.Mathlib.Omega.{arith}
 use borrow.Author.Needs.{needs}
 use Rattle.book.specs.Layout.{kind}
-use Rattle.book.specs.Headed.Laws.{valid-headed}
-use Rattle.receiving.proofs.Bounds.{few-rows, some-key}
+use Rattle.book.specs.Headed.Laws.{valid-headed, few-rows}
+use Rattle.receiving.proofs.Bounds.{some-key}
 use Rattle.receiving.proofs.Ciphers.{opens-kind}
 use Rattle.receiving.proofs.Settling.{settle-compare, settle-unlock, settle-store}
 use Rattle.receiving.proofs.settle.Statement.{statement}

@@ -2,8 +2,7 @@
 -- (`performed`). Assumes nothing.
 use native.Mathlib.Omega.{arith}
 use borrow.Author.Needs.{needs}
-use Rattle.book.specs.Headed.Laws.{valid-headed}
-use Rattle.rehearsal.proofs.Bounds.{few-parties}
+use Rattle.book.specs.Headed.Laws.{valid-headed, few-parties}
 use Rattle.rehearsal.proofs.Performed.{performed}
 use Rattle.rehearsal.proofs.perform.Statement.{statement}
 use Rattle.rehearsal.proofs.perform.Tie as tie

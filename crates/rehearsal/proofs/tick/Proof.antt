@@ -4,10 +4,10 @@ use mathlib.Core.Path.{_≡_, ap, _∙_}
 use native.Mathlib.Omega.{arith}
 use lib.ListN.{length, getD}
 use borrow.Author.Needs.{needs}
-use Rattle.rehearsal.proofs.Bounds.{few-parties}
 use Rattle.rehearsal.proofs.Ticked.{at-end, still-waits, does-next}
 use Rattle.rehearsal.proofs.tick.Statement.{statement}
 use Rattle.rehearsal.proofs.tick.Tie as tie
+use Rattle.book.specs.Headed.Laws.{few-parties}
 
 -- what is compared: the events that the party has done, and where its END stands; and how many parties are counted
 module _ (c : tie.After-wide4) where

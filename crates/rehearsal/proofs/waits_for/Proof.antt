@@ -2,8 +2,8 @@
 use Prim.Native.Nat.{_<_}
 use native.Mathlib.Omega.{arith}
 use borrow.Author.Needs.{needs}
-use Rattle.book.specs.Headed.Laws.{valid-headed}
-use Rattle.rehearsal.proofs.Bounds.{few-parties, few-steps, party-sends}
+use Rattle.book.specs.Headed.Laws.{valid-headed, few-parties, few-steps}
+use Rattle.rehearsal.proofs.Bounds.{party-sends}
 use Rattle.rehearsal.proofs.Waiting.{other-receiver, other-place, by-send}
 use Rattle.rehearsal.proofs.waits_for.Statement.{statement}
 use Rattle.rehearsal.proofs.waits_for.Tie as tie

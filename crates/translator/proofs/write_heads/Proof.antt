@@ -5,10 +5,10 @@ use mathlib.Core.Path.{ap}
 use Prim.Native.Nat.{_+_, _-_, _*_}
 use native.Mathlib.Omega.{arith}
 use borrow.Author.Needs.{needs}
-use Rattle.book.specs.Headed.Laws.{valid-headed}
+use Rattle.book.specs.Headed.Laws.{valid-headed, few-parties}
 use Rattle.walking.specs.Found.{FoundBefore}
 use Rattle.translator.specs.Among.Laws.{among-within}
-use Rattle.translator.proofs.Measuring.{Measuring, heads-start, few-parties, heads-on, heads-off, heads-end}
+use Rattle.translator.proofs.Measuring.{Measuring, heads-start, heads-on, heads-off, heads-end}
 use Rattle.translator.proofs.write_heads.Statement.{statement}
 use Rattle.translator.proofs.write_heads.Tie as tie
 

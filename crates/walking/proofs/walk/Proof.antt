@@ -4,10 +4,10 @@ use Prim.Native.Nat.{_-_}
 use native.Mathlib.Omega.{arith}
 use borrow.Author.Needs.{needs}
 use Rattle.words.specs.Overlay.Laws.{wrote-length}
-use Rattle.walking.proofs.Lengths.{few-steps}
 use Rattle.walking.proofs.Walked.{Walked, walked-start, walked-fits, acted-log, acted-out, walked-stops, walked-on, walked-ends}
 use Rattle.walking.proofs.walk.Statement.{statement}
 use Rattle.walking.proofs.walk.Tie as tie
+use Rattle.book.specs.Headed.Laws.{few-steps}
 
 abbrev Inv-loop : tie.InvT-loop
 Inv-loop book since party upto kept log₀ out₀ at here₀ i₀ log out here i =

@@ -1,6 +1,6 @@
 -- The rule of a row, a party and a step, and of the header's words: as predicates with named fields, and as tests that compute.
 -- Document 01, "The book". Rules.Laws has that each test and its predicate agree.
-use Prim.Native.Nat.{ℕ, zero, suc, _+_, _-_, _≤_, _<_}
+use Prim.Native.Nat.{ℕ, _+_, _-_, _≤_, _<_}
 use mathlib.Core.Bool.{Bool, true, false, not, _||_}
 use mathlib.Core.List.{List, [], _∷_}
 use mathlib.Core.Path.{_≡_}

@@ -6,7 +6,7 @@ use native.Mathlib.Omega.{arith}
 use lib.ListN.{getD}
 use Rattle.words.specs.Overlay.{Wrote}
 use Rattle.words.specs.Overlay.Laws.{wrote-then, wrote-as, wrote-none}
-use Rattle.book.specs.Layout.{rows, kind, rowFirst, rowCount}
+use Rattle.book.specs.Layout.{rows, rowFirst, rowCount}
 use Rattle.book.specs.Valid.{Valid}
 use Rattle.book.specs.Span.{entry}
 use Rattle.holding.specs.AtRow.{imageAt, imagesAt, headWords, entryWords}

@@ -7,9 +7,8 @@ use mathlib.Core.Path.{_≡_, ap, _∙_}
 use lib.ListN.{length}
 use Rattle.terms.specs.Term.{sizes}
 use Rattle.terms.specs.Table.{terms}
-use Rattle.book.specs.Layout.{table, rows, steps, stepFirst, stepCount, messages, listAt}
+use Rattle.book.specs.Layout.{table, rows, steps, stepFirst, stepCount, listAt}
 use Rattle.book.specs.Valid.{Valid}
-use Rattle.book.specs.Headed.Laws.{valid-headed}
 use Rattle.book.specs.Span.{Span}
 use Rattle.book.specs.Span.Laws.{span-step, messages-at}
 use Rattle.translation.specs.Receive.{Did, followed}

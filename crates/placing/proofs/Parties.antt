@@ -7,7 +7,7 @@ use mathlib.Core.Path.{_≡_, _∙_}
 use lib.ListN.{length, getD, set, length-set}
 use Rattle.book.specs.Layout.{parties, steps, sender, receiver}
 use Rattle.book.specs.Valid.{Valid}
-use Rattle.book.specs.Headed.Laws.{valid-headed, few-parties}
+use Rattle.book.specs.Headed.Laws.{few-parties}
 use Rattle.translation.specs.Places.{placesOf}
 use Rattle.placing.specs.Placed.{Placed}
 use Rattle.placing.specs.Through.{Noted, PartyNoted, PartiesNoted, PlacePartyReady}

@@ -3,9 +3,8 @@ use Prim.Native.Nat.{ℕ, _≤_, _<_}
 use native.Mathlib.Omega.{arith}
 use mathlib.Core.List.{List}
 use mathlib.Core.Path.{_≡_}
-use Rattle.book.specs.Layout.{rows, pool, kind, rowCount}
+use Rattle.book.specs.Layout.{rows, kind, rowCount}
 use Rattle.book.specs.Valid.{Valid}
-use Rattle.book.specs.Headed.Laws.{valid-headed}
 use Rattle.book.specs.Span.Laws.{some-part}
 
 -- a cipher has a key among its c parts

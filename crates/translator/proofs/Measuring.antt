@@ -9,8 +9,6 @@ use Rattle.words.specs.Overlay.{Wrote}
 use Rattle.words.specs.Overlay.Laws.{wrote-then, wrote-none, wrote-as, wrote-length}
 use Rattle.words.specs.Run.{values}
 use Rattle.book.specs.Layout.{parties, steps}
-use Rattle.book.specs.Valid.{Valid}
-use Rattle.book.specs.Headed.Laws.{valid-headed}
 use Rattle.translation.specs.Listing.{heads, bodies, partWords}
 use Rattle.translation.specs.Long.{mostPart}
 use Rattle.translation.specs.Long.Laws.{listing-length}

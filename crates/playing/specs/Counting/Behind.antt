@@ -2,7 +2,7 @@
 use Prim.Native.Nat.{ℕ, suc, _≤_}
 use native.Mathlib.Omega.{arith}
 use mathlib.Core.Bool.{Bool, true, true≢false}
-use mathlib.Core.List.{List, [], _∷_}
+use mathlib.Core.List.{List, _∷_}
 use mathlib.Core.Path.{_≡_, sym, _∙_, subst}
 use borrow.Author.Tests.{eqb-true}
 use Rattle.words.specs.Choice.Laws.{pick-ind}

@@ -24,7 +24,7 @@ use Rattle.book.specs.Refusals.Laws.{append-keep, keep-append, lines-append, ap
 use Rattle.book.specs.Valid.{Valid}
 use Rattle.book.specs.Valid.Laws.{nine, reading-lines, keep-valid, valid-keep}
 use Rattle.translation.specs.Narration.{narration}
-use Rattle.translation.specs.Taken.{unplayable, firstTaken, Playable, NoDerivation, FirstTaken}
+use Rattle.translation.specs.Taken.{unplayable, firstTaken, Playable}
 use Rattle.translation.specs.Taken.Laws.{playable-exact, unplayable-exact, first-taken}
 use Rattle.translation.specs.Listing.{listing}
 use Rattle.translation.specs.Outcome.{takenLine, roomLine, acceptance, translationSays, Outcome, laid, outcome, came, Plays, Unplayable, Promise}

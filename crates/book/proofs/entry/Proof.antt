@@ -9,7 +9,8 @@ returns : tie.Need-returns
 returns c =
     let after-pooled : tie.After-pooled = search in
     let start : tie.Start = search in
-    let head = span-head _ _ _ _ (start .pre .1) (start .pre .2) in
+    let (valid, span, some) = start .pre in
+    let head = span-head _ _ _ _ span some in
     (after-pooled .pooled .ensures, omega arith)
 
 pub entry-spec : {M : Type 1} → statement M

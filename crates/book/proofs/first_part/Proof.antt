@@ -11,7 +11,8 @@ returns c =
     let after-pooled : tie.After-pooled = search in
     let after-row-first : tie.After-row-first = search in
     let start : tie.Start = search in
-    part-at (start .pre .0) (start .pre .1) (start .pre .2) (after-row-first .row-first .ensures .0)
+    let (valid, inside, kinded) = start .pre in
+    part-at valid inside kinded (after-row-first .row-first .ensures .0)
     (after-pooled .pooled .ensures)
 
 pub first-part-spec : {M : Type 1} → statement M

@@ -9,7 +9,8 @@ returns : tie.Need-returns
 returns c =
     let after-wide : tie.After-wide = search in
     let start : tie.Start = search in
-    row-at (start .args .book .now) (start .pre .0) (start .args .row) (start .args .k) _ (after-wide .wide .ensures .0)
+    let (headed, inside, word) = start .pre in
+    row-at (start .args .book .now) headed (start .args .row) (start .args .k) _ (after-wide .wide .ensures .0)
 
 pub row-word-spec : {M : Type 1} → statement M
 row-word-spec =

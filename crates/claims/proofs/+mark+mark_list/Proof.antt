@@ -86,7 +86,9 @@ mark-returns-2 : (t : ℕ) → in-mark mark-lts.Need-returns-2 t
 mark-returns-2 t c =
     let after-wide : in-mark mark-lts.After-wide t = search in
     let start : in-mark mark-lts.Start t = search in
-    seen-done {r = start .args .row} (after-wide .wide .ensures .0) (start .pre .1 .1) (c .if2 .taken)
+    let (measured, asked) = start .pre in
+    let (valid, ready, inside, some) = asked in
+    seen-done {r = start .args .row} (after-wide .wide .ensures .0) ready (c .if2 .taken)
 
 -- the parts of a row are rows before it
 module _ (t : ℕ) (c : in-mark mark-lts.After-row-count t) where
@@ -113,15 +115,19 @@ mark-returns-3 t c =
     let else1 : in-mark mark-lts.Else1 t = search in
     let after-row-kind : in-mark mark-lts.After-row-kind t = search in
     let start : in-mark mark-lts.Start t = search in
-    row-done (start .pre .1 .0) (start .pre .1 .2) (after-row-kind .row-kind .ensures) (else1 .if1 .left)
-    (first .row-first .ensures .0) (count .row-count .ensures .0) (c .wide2 .ensures .0) (start .pre .1 .3)
+    let (measured, asked) = start .pre in
+    let (valid, ready, inside, some) = asked in
+    row-done valid inside (after-row-kind .row-kind .ensures) (else1 .if1 .left)
+    (first .row-first .ensures .0) (count .row-count .ensures .0) (c .wide2 .ensures .0) some
     (after-mark-list .mark-list .ensures .0) (after-mark-list .mark-list .ensures .1)
 
 -- no part is left
 mark-list-returns : (t : ℕ) → in-mark-list mark-list-lts.Need-returns t
 mark-list-returns t c =
     let here : in-mark-list mark-list-lts.Start t = search in
-    none-done _ (c .if1 .taken) (here .pre .1 .1)
+    let (measured, asked) = here .pre in
+    let (valid, ready, inside, span, some) = asked in
+    none-done _ (c .if1 .taken) ready
 
 -- one row less is left
 mark-list-mark-list-requires : (t : ℕ) → in-mark-list mark-list-lts.Need-mark-list-requires t

@@ -12,7 +12,8 @@ returns c =
     let then1 : tie.Then1 = search in
     let after-wide : tie.After-wide = search in
     let start : tie.Start = search in
-    new-marked {r = start .args .row} (start .pre .0) (start .pre .1) (after-wide .wide .ensures .0) (then1 .if1 .taken)
+    let (sized, inside) = start .pre in
+    new-marked {r = start .args .row} sized inside (after-wide .wide .ensures .0) (then1 .if1 .taken)
     (after-wide2 .wide2 .ensures .0)
 
 pub mark-atom-spec : {M : Type 1} → statement M

@@ -19,7 +19,8 @@ abbrev μ-loop : tie.MeasureT-loop
 loop-holds : tie.Need-loop-holds Inv-loop μ-loop
 loop-holds c =
     let start : tie.Start Inv-loop μ-loop = search in
-    (knows-start {l = start .args .since .now} (start .pre .1 .sized), start .pre .1)
+    let (valid, ready, inside) = start .pre in
+    (knows-start {l = start .args .since .now} (ready .sized), ready)
 
 -- what a party knows is a row
 mark-requires : tie.Need-mark-requires Inv-loop μ-loop
@@ -31,7 +32,8 @@ mark-requires c κs = (
       let count : tie.After-party-count Inv-loop μ-loop = search in
       let first : tie.After-party-first Inv-loop μ-loop = search in
       let start : tie.Start Inv-loop μ-loop = search in
-      known-low (first .party-first .ensures .0) (count .party-count .ensures .0) (start .pre .0) (start .pre .2)
+      let (valid, ready, inside) = start .pre in
+      known-low (first .party-first .ensures .0) (count .party-count .ensures .0) valid inside
       (in-loop .loop-test .taken) (after-pooled .pooled .ensures),
   omega arith,
 )

@@ -67,7 +67,9 @@ buildable-loop-holds t c =
     let else1 : in-buildable buildable-lts.Else1 t = search in
     let after-wide : in-buildable buildable-lts.After-wide t = search in
     let start : in-buildable buildable-lts.Start t = search in
-    going-start (start .pre .1 .0) (start .pre .1 .1) (after-wide .wide .ensures .0) (else1 .if1 .left)
+    let (measured, asked) = start .pre in
+    let (valid, inside) = asked in
+    going-start valid inside (after-wide .wide .ensures .0) (else1 .if1 .left)
     (after-row-kind .row-kind .ensures) (else2 .if2 .left) (first .row-first .ensures .0) (count .row-count .ensures .0)
 
 -- the part asked about is buildable

@@ -17,7 +17,8 @@ returns c =
     let after-is-half : tie.After-is-half = search in
     let after-row-kind : tie.After-row-kind = search in
     let here : tie.Start = search in
-    opens-itself _ _ (here .pre .0) _ _ (here .pre .1) (after-row-kind .row-kind .ensures)
+    let (valid, inside) = here .pre in
+    opens-itself _ _ valid _ _ inside (after-row-kind .row-kind .ensures)
     (no-half _ (after-is-half .is-half .ensures) (not-true _ (then1 .if1 .taken))) _ (c .buildable .ensures)
 
 -- the key is a half
@@ -49,7 +50,8 @@ returns-2 c =
     let after-first-part : tie.After-first-part = search in
     let else1 : tie.Else1 = search in
     let here : tie.Start = search in
-    opens-row _ _ (here .pre .0) _ _ (here .pre .1) (kind else1 .row-kind .ensures) (half else1)
+    let (valid, inside) = here .pre in
+    opens-row _ _ valid _ _ inside (kind else1 .row-kind .ensures) (half else1)
     (after-first-part .first-part .ensures .0) (after-other-half .other-half .ensures)
     (after-half-row .half-row .ensures) (omega arith) _ (c .buildable2 .ensures)
 
@@ -63,7 +65,8 @@ returns-3 c =
     let after-first-part : tie.After-first-part = search in
     let else1 : tie.Else1 = search in
     let here : tie.Start = search in
-    opens-part _ _ (here .pre .0) _ _ (here .pre .1) (kind else1 .row-kind .ensures) (half else1)
+    let (valid, inside) = here .pre in
+    opens-part _ _ valid _ _ inside (kind else1 .row-kind .ensures) (half else1)
     (after-first-part .first-part .ensures .0) (after-other-half .other-half .ensures)
     (after-half-row .half-row .ensures) (omega arith) _ (c .buildable3 .ensures)
 

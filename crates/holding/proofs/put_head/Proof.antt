@@ -20,7 +20,11 @@ module _ (c : tie.After-row-kind) where
   start = search
 
   kinded : c .row-kind .result ≤ lastKind
-  kinded = let is = c .row-kind .ensures in let k = start .pre .0 .rowsKeep _ (start .pre .1) .kinded in omega arith
+  kinded =
+      let (valid, inside) = start .pre in
+      let is = c .row-kind .ensures in
+      let few = valid .rowsKeep _ inside .kinded in
+      omega arith
 
 -- an operation, with its tag and how many arguments it has
 returns : tie.Need-returns
@@ -41,7 +45,8 @@ returns c =
 sub-narrow : tie.Need-sub-narrow
 sub-narrow c =
     let here : tie.Start = search in
-    let key = some-part _ (here .pre .0) _ (here .pre .1) (omega arith) in
+    let (valid, inside) = here .pre in
+    let key = some-part _ valid _ inside (omega arith) in
     omega arith
 
 -- a cipher, with how many contents it has

@@ -31,7 +31,8 @@ loop-again c =
     let at-loop : tie.At-loop Inv-loop μ-loop = search in
     let first : tie.After-party-first Inv-loop μ-loop = search in
     let here : tie.Start Inv-loop μ-loop = search in
-    starting-on (here .pre .0) (here .pre .1) (first .party-first .ensures .0) (at-loop .loop .inv)
+    let (valid, inside) = here .pre in
+    starting-on valid inside (first .party-first .ensures .0) (at-loop .loop .inv)
     (in-loop .loop-test .taken) (after-pooled .pooled .ensures) (after-wide .wide .ensures .0)
 
 pub start-spec : {M : Type 1} → statement M

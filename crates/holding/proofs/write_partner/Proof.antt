@@ -21,8 +21,9 @@ returns c =
     let after-is-half : tie.After-is-half = search in
     let after-row-kind : tie.After-row-kind = search in
     let here : tie.Start = search in
+    let (valid, inside) = here .pre in
     wrote-as (after-write-image .write-image .ensures)
-    (shows-itself _ _ (here .pre .0) _ _ (here .pre .1) (after-row-kind .row-kind .ensures)
+    (shows-itself _ _ valid _ _ inside (after-row-kind .row-kind .ensures)
     (no-half _ (after-is-half .is-half .ensures) (not-true _ (then1 .if1 .taken))))
 
 -- the key is a half
@@ -55,8 +56,9 @@ returns-2 c =
     let after-first-part : tie.After-first-part = search in
     let else1 : tie.Else1 = search in
     let here : tie.Start = search in
+    let (valid, inside) = here .pre in
     wrote-as (after-write-image2 .write-image2 .ensures)
-    (shows-row _ _ (here .pre .0) _ _ (here .pre .1) (kind else1 .row-kind .ensures) (half else1)
+    (shows-row _ _ valid _ _ inside (kind else1 .row-kind .ensures) (half else1)
     (after-first-part .first-part .ensures .0) (after-other-half .other-half .ensures)
     (after-half-row .half-row .ensures) (omega arith))
 
@@ -64,6 +66,7 @@ returns-2 c =
 returns-3 : tie.Need-returns-3
 returns-3 c =
     let here : tie.Start = search in
+    let (valid, inside) = here .pre in
     let after-write-image3 : tie.After-write-image3 = search in
     let after-put : tie.After-put = search in
     let after-of : tie.After-of = search in
@@ -74,7 +77,7 @@ returns-3 c =
     let after-first-part : tie.After-first-part = search in
     let else1 : tie.Else1 = search in
     wrote-as (wrote-cons (after-put .put .ensures) (after-write-image3 .write-image3 .ensures))
-    (shows-part _ _ (here .pre .0) _ _ (here .pre .1) (kind else1 .row-kind .ensures) (half else1)
+    (shows-part _ _ valid _ _ inside (kind else1 .row-kind .ensures) (half else1)
     (after-first-part .first-part .ensures .0) (after-other-half .other-half .ensures)
     (after-half-row .half-row .ensures) (omega arith)
     (after-of .of .ensures .code ∙ ap (λ k. ofKind k .code) (after-other-half .other-half .ensures)))

@@ -25,7 +25,8 @@ loop-again c =
     let at-loop : in-place tie.At-loop = search in
     let after-parties : in-place tie.After-parties = search in
     let start : in-place tie.Start = search in
-    noting-on (start .pre .0) (after-parties .parties .ensures) (at-loop .loop .inv) (in-loop .loop-test .taken)
+    let (valid, sends, receives, ends) = start .pre in
+    noting-on valid (after-parties .parties .ensures) (at-loop .loop .inv) (in-loop .loop-test .taken)
     (after-place-party .place-party .ensures) (c .wide .ensures .0)
 
 pub place-spec : {M : Type 1} → statement M

@@ -83,7 +83,8 @@ receive-list-loop-holds : (t : ℕ) → in-receive-list receive-list-lts.Need-lo
 receive-list-loop-holds t c =
     let after-narrow : in-receive-list receive-list-lts.After-narrow t = search in
     let start : in-receive-list receive-list-lts.Start t = search in
-    going-start (start .pre .1) (after-narrow .narrow .ensures) (search needs)
+    let (measured, ready) = start .pre in
+    going-start ready (after-narrow .narrow .ensures) (search needs)
 
 -- one row more is received at its placeholder
 receive-list-loop-again : (t : ℕ) → in-receive-list receive-list-lts.Need-loop-again t

@@ -15,8 +15,7 @@ returns c =
     let after-play : tie.After-play = search in
     let after-place : tie.After-place = search in
     let start : tie.Start = search in
-    let plays = start .pre .0 in
-    let named = start .pre .1 in
+    let (plays, named) = start .pre in
     performed (after-place .place .ensures) plays _ named (after-play .play .ensures)
     (after-parties .parties .ensures) (after-write-counts .write-counts .ensures)
 

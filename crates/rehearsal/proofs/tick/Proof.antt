@@ -28,7 +28,7 @@ module _ (c : tie.After-wide4) where
       end .wide3 .ensures .0 ∙ ap (λ i. getD (start .args .ends .now) i 0) (index .wide2 .ensures .0)
 
   sized : length (start .args .done .now) ≡ 16
-  sized = start .pre .2
+  sized = let (valid, inside, long) = start .pre in long
 
 -- it is at END
 returns : tie.Need-returns

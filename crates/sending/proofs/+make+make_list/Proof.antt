@@ -95,8 +95,10 @@ make-returns-2 t c =
     let else1 : in-make make-lts.Else1 t = search in
     let after-wide : in-make make-lts.After-wide t = search in
     let start : in-make make-lts.Start t = search in
-    atom-makes {l = start .args .since .now} (start .args .entries .now) {s = start .args .step} (start .pre .1 .0)
-    (start .pre .1 .1) {m = start .args .m} (start .pre .1 .2) (after-wide .wide .ensures .0) (else1 .if1 .left)
+    let (measured, asked) = start .pre in
+    let (valid, inside, sized) = asked in
+    atom-makes {l = start .args .since .now} (start .args .entries .now) {s = start .args .step} valid
+    inside {m = start .args .m} sized (after-wide .wide .ensures .0) (else1 .if1 .left)
     (after-row-kind .row-kind .ensures) (then2 .if2 .taken) (after-wide2 .wide2 .ensures .0) (after-put2 .put2 .ensures)
     (after-first-taken .first-taken .ensures)
 
@@ -105,8 +107,10 @@ make-returns : (t : ℕ) → in-make make-lts.Need-returns t
 make-returns t c =
     let after-wide : in-make make-lts.After-wide t = search in
     let start : in-make make-lts.Start t = search in
+    let (measured, asked) = start .pre in
+    let (valid, inside, sized) = asked in
     let entry = c .if1 .taken in
-    held-makes (start .args .entries .now) (start .pre .1 .0) (start .pre .1 .1) (start .pre .1 .2)
+    held-makes (start .args .entries .now) valid inside sized
     (after-wide .wide .ensures .0) (λ z. absurd (omega arith))
 
 -- the parts of a row are rows before it
@@ -129,7 +133,9 @@ make-make-list-requires t c κs =
 make-list-returns : (t : ℕ) → in-make-list make-list-lts.Need-returns t
 make-list-returns t c =
     let here : in-make-list make-list-lts.Start t = search in
-    none-makes _ (here .pre .1 .3) (c .if1 .taken)
+    let (measured, asked) = here .pre in
+    let (valid, inside, span, sized) = asked in
+    none-makes _ sized (c .if1 .taken)
 
 -- one row less is left
 make-list-make-list-requires : (t : ℕ) → in-make-list make-list-lts.Need-make-list-requires t

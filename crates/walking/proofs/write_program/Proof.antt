@@ -31,7 +31,8 @@ returns c =
     let after-walk : tie.After-walk = search in
     let after-steps : tie.After-steps = search in
     let start : tie.Start = search in
-    programmed (start .pre .0) (start .pre .2) refl (after-steps .steps .ensures) (start .pre .3)
+    let (valid, claims, inside, unrefused) = start .pre in
+    programmed valid inside refl (after-steps .steps .ensures) unrefused
     (after-walk .walk .ensures) (after-narrow .narrow .ensures) (after-put2 .put2 .ensures)
     (after-put-all .put-all .ensures)
 

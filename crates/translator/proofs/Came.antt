@@ -73,9 +73,9 @@ module _ {b : List ℕ} (v : Valid b) where
         let u = found-one v f z in
         let d = u .atom in
         let a : t - 1 ≡ firstTaken (narration b) s = omega arith in
-        let here = first-at (unplayable (narration b)) (steps b) s (u .inside) (u .before) (u .here) in
+        let here = first-at (unplayable (narration b)) (steps b) s (u .within) (u .before) (u .here) in
         ap (λ r. said 10 (s ∷ r ∷ [])) a
-        ∙ sym (passes _ accepted ∙ scan-here 10 (steps b) (unplayable (narration b)) place [] accepted s here (u .inside))
+        ∙ sym (passes _ accepted ∙ scan-here 10 (steps b) (unplayable (narration b)) place [] accepted s here (u .within))
 
     -- no find: every step is playable
     pub none-accept : t ≡ 0 → readingSays reading.Accepted ≡ acceptance b

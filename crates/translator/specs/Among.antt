@@ -23,7 +23,7 @@ pub data FoundAmong (b : List ℕ) (q : ℕ) : ℕ → ℕ → Type 0 where
 
 -- step s is the first that is unplayable, whoever the party is
 pub record FirstUnplayable (b : List ℕ) (s t : ℕ) : Type 0 where
-  pub inside : s < steps b
+  pub within : s < steps b
   pub here : unplayable (narration b) s ≡ true
   pub before : (k : ℕ) → k < s → unplayable (narration b) k ≡ false
   pub atom : t ≡ firstTaken (narration b) s + 1

@@ -5,12 +5,12 @@ use native.Mathlib.Omega.{arith}
 use borrow.Author.Needs.{needs}
 use Rattle.book.specs.Layout.{partiesBefore}
 use Rattle.book.specs.Rules.{partyBreaks}
-use Rattle.reader.proofs.Walks.{Walk, walk-stops, walk-ends, parties-begin, party-passed}
+use Rattle.reader.proofs.Summed.{Summed, summed-stops, summed-ends, parties-begin, party-passed}
 use Rattle.reader.proofs.scan_parties.Statement.{statement}
 use Rattle.reader.proofs.scan_parties.Tie as tie
 
 abbrev Inv-loop : tie.InvT-loop
-Inv-loop book before n sum₀ party₀ sum party = Walk book (partyBreaks book) (partiesBefore book) n party sum
+Inv-loop book before n sum₀ party₀ sum party = Summed book (partyBreaks book) (partiesBefore book) n party sum
 
 abbrev μ-loop : tie.MeasureT-loop
 μ-loop book before n sum₀ party₀ sum party = n - party
@@ -24,10 +24,10 @@ scan-parties-spec =
     (λ c κs. search needs)  -- parties-requires
     (λ c. search parties-begin)  -- loop-holds
     (λ c κs. (search needs, omega arith, search needs))  -- party-breaks-requires
-    (λ c. search walk-stops)  -- returns
+    (λ c. search summed-stops)  -- returns
     (λ c κs. (search needs, omega arith))  -- party-count-requires
     (λ c. omega arith)  -- add-sum
     (λ c. search needs)  -- add-party
     (λ c. search needs)  -- loop-less
     (λ c. search party-passed)  -- loop-again
-    (λ c. search walk-ends))  -- returns-2
+    (λ c. search summed-ends))  -- returns-2

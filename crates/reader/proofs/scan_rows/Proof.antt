@@ -5,12 +5,12 @@ use native.Mathlib.Omega.{arith}
 use borrow.Author.Needs.{needs}
 use Rattle.book.specs.Layout.{rowsBefore}
 use Rattle.book.specs.Rules.{rowBreaks}
-use Rattle.reader.proofs.Walks.{Walk, walk-stops, walk-ends, rows-begin, row-passed}
+use Rattle.reader.proofs.Summed.{Summed, summed-stops, summed-ends, rows-begin, row-passed}
 use Rattle.reader.proofs.scan_rows.Statement.{statement}
 use Rattle.reader.proofs.scan_rows.Tie as tie
 
 abbrev Inv-loop : tie.InvT-loop
-Inv-loop book n sum₀ row₀ sum row = Walk book (rowBreaks book) (rowsBefore book) n row sum
+Inv-loop book n sum₀ row₀ sum row = Summed book (rowBreaks book) (rowsBefore book) n row sum
 
 abbrev μ-loop : tie.MeasureT-loop
 μ-loop book n sum₀ row₀ sum row = n - row
@@ -24,10 +24,10 @@ scan-rows-spec =
     (λ c κs. search needs)  -- rows-requires
     (λ c. search rows-begin)  -- loop-holds
     (λ c κs. (search needs, omega arith, search needs))  -- row-breaks-requires
-    (λ c. search walk-stops)  -- returns
+    (λ c. search summed-stops)  -- returns
     (λ c κs. (search needs, omega arith))  -- row-count-requires
     (λ c. omega arith)  -- add-sum
     (λ c. search needs)  -- add-row
     (λ c. search needs)  -- loop-less
     (λ c. search row-passed)  -- loop-again
-    (λ c. search walk-ends))  -- returns-2
+    (λ c. search summed-ends))  -- returns-2

@@ -5,12 +5,12 @@ use native.Mathlib.Omega.{arith}
 use borrow.Author.Needs.{needs}
 use Rattle.book.specs.Layout.{stepsBefore}
 use Rattle.book.specs.Rules.{stepBreaks}
-use Rattle.reader.proofs.Walks.{Walk, walk-stops, walk-ends, steps-begin, step-passed}
+use Rattle.reader.proofs.Summed.{Summed, summed-stops, summed-ends, steps-begin, step-passed}
 use Rattle.reader.proofs.scan_steps.Statement.{statement}
 use Rattle.reader.proofs.scan_steps.Tie as tie
 
 abbrev Inv-loop : tie.InvT-loop
-Inv-loop book before n sum₀ step₀ sum step = Walk book (stepBreaks book) (stepsBefore book) n step sum
+Inv-loop book before n sum₀ step₀ sum step = Summed book (stepBreaks book) (stepsBefore book) n step sum
 
 abbrev μ-loop : tie.MeasureT-loop
 μ-loop book before n sum₀ step₀ sum step = n - step
@@ -24,10 +24,10 @@ scan-steps-spec =
     (λ c κs. search needs)  -- steps-requires
     (λ c. search steps-begin)  -- loop-holds
     (λ c κs. (search needs, omega arith, search needs))  -- step-breaks-requires
-    (λ c. search walk-stops)  -- returns
+    (λ c. search summed-stops)  -- returns
     (λ c κs. (search needs, omega arith))  -- step-count-requires
     (λ c. omega arith)  -- add-sum
     (λ c. search needs)  -- add-step
     (λ c. search needs)  -- loop-less
     (λ c. search step-passed)  -- loop-again
-    (λ c. search walk-ends))  -- returns-2
+    (λ c. search summed-ends))  -- returns-2

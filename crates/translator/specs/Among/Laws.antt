@@ -91,4 +91,4 @@ module _ {b : List ℕ} (w : Valid b) where
   pub found-one : {s t : ℕ} → FoundAmong b (parties b) s t → (t ≡ 0 → ⊥) → FirstUnplayable b s t
   found-one (FoundAmong.none n) z = absurd (z refl)
   found-one (FoundAmong.one {s = u} {p = p} l m r n) z =
-      record { inside = m; here = refused-unplayable p u r; before = playable-all u (omega arith) n; atom = refl }
+      record { within = m; here = refused-unplayable p u r; before = playable-all u (omega arith) n; atom = refl }

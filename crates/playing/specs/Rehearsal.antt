@@ -21,6 +21,7 @@ use Rattle.translation.specs.Outcome.{Outcome, takenLine, roomLine, laid}
 use Rattle.agreement.specs.Machine.{System, Move, move, started}
 use Rattle.agreement.specs.Agree.{receiverOf}
 pub mod Laws
+pub mod Returned
 pub mod Came
 pub mod Rehearsals
 pub mod Idle

@@ -19,6 +19,7 @@ use Rattle.translation.specs.Listing.{listing}
 use Rattle.translation.specs.declared.Answer.{Answer}
 use Rattle.translation.specs.declared.Answer.the-variants.{Written, Refused}
 pub mod Laws
+pub mod Returned
 
 -- a taken atom would have to be made: smallest step, and the first such row in building order
 unfoldable pub takenLine : List ℕ → Line

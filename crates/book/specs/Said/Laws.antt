@@ -1,9 +1,15 @@
--- Laws of answers as document 01 counts them: a refusal's number is not acceptance's. Assumes nothing.
-use mathlib.Core.Path.{_≡_}
+-- Laws of answers as document 01 counts them: a refusal's number is not acceptance's, and different answers say different things.
+-- Assumes nothing.
+use Prim.Native.Nat.{ℕ}
+use mathlib.Core.List.{[], _∷_}
+use mathlib.Core.Path.{_≡_, refl, sym, ap, _∙_}
+use lib.ListN.{getD}
 use native.Mathlib.Omega.{arith}
 use Rattle.book.specs.declared.Refusal.{Refusal}
 use Rattle.book.specs.declared.Refusal.the-variants.{Short, Count, Offset, Row, Size, Repeat, Party, Step, Sum, Taken, Move, Room}
-use Rattle.book.specs.Said.{refusalSays}
+use Rattle.book.specs.declared.Reading.{Reading}
+use Rattle.book.specs.declared.Reading.the-variants.{Accepted, Refused}
+use Rattle.book.specs.Said.{Said, refusalSays, readingSays}
 
 pub refusal-number : (f : Refusal) → refusalSays f .number ≡ 0 → ⊥
 refusal-number Short e = omega arith
@@ -18,3 +24,38 @@ refusal-number Sum e = omega arith
 refusal-number (Taken s r) e = omega arith
 refusal-number (Move m) e = omega arith
 refusal-number (Room n) e = omega arith
+
+-- ---- an answer is read back from what it says, so no two say the same
+-- value i
+abbrev pub valueAt : Said → ℕ → ℕ
+valueAt s i = getD (s .values) i 0
+
+abbrev pub refusalOf : Said → Refusal
+refusalOf s =
+    getD
+    (Short ∷ Short ∷ Count (valueAt s 0) ∷ Offset (valueAt s 0) ∷ Row (valueAt s 0) ∷ Size (valueAt s 0) ∷ Repeat (valueAt s 0)
+    ∷ Party (valueAt s 0) ∷ Step (valueAt s 0) ∷ Sum ∷ Taken (valueAt s 0) (valueAt s 1) ∷ Move (valueAt s 0) ∷ Room (valueAt s 0) ∷ [])
+    (s .number) Short
+
+pub refusal-back : (f : Refusal) → refusalOf (refusalSays f) ≡ f
+refusal-back Short = refl
+refusal-back (Count w) = refl
+refusal-back (Offset w) = refl
+refusal-back (Row r) = refl
+refusal-back (Size r) = refl
+refusal-back (Repeat r) = refl
+refusal-back (Party p) = refl
+refusal-back (Step s) = refl
+refusal-back Sum = refl
+refusal-back (Taken s r) = refl
+refusal-back (Move m) = refl
+refusal-back (Room n) = refl
+
+pub refusal-injective : (f g : Refusal) → refusalSays f ≡ refusalSays g → f ≡ g
+refusal-injective f g e = sym (refusal-back f) ∙ ap refusalOf e ∙ refusal-back g
+
+pub reading-injective : (r s : Reading) → readingSays r ≡ readingSays s → r ≡ s
+reading-injective Accepted Accepted e = refl
+reading-injective Accepted (Refused g) e = absurd (refusal-number g (sym (ap (λ (x : Said). x .number) e)))
+reading-injective (Refused f) Accepted e = absurd (refusal-number f (ap (λ (x : Said). x .number) e))
+reading-injective (Refused f) (Refused g) e = ap Refused (refusal-injective f g e)

@@ -18,7 +18,9 @@ use Rattle.terms.specs.Table.Laws.{kindOf, term-row, shape-row, kind-row, atom-
 use Rattle.book.specs.Layout.{header, begins, rows, parties, steps, kind, tag, rowFirst, rowCount, parts, table}
 use Rattle.book.specs.Rules.{CountRule, countBreaks, OffsetRule, offsetBreaks, RowRule, rowBreaks, SizeRule, sizeBreaks, SingleRule, repeats, PartyRule, partyBreaks, StepRule, stepBreaks, TotalRule, totalBreaks}
 use Rattle.book.specs.Rules.Laws.{count-exact, offset-exact, row-exact, size-exact, single-exact, party-exact, step-exact, total-exact}
-use Rattle.book.specs.Said.{Said, said, accepted}
+use Rattle.book.specs.declared.Reading.{Reading}
+use Rattle.book.specs.Said.{Said, said, accepted, readingSays}
+use Rattle.book.specs.Said.Laws.{reading-injective}
 use Rattle.book.specs.Refusals.{Line, line, here, zero-place, firstOf, readingTable, verdict}
 use Rattle.book.specs.Ruled.{Ruled, AllKeep, lines, Cause, above, lineAt}
 use Rattle.book.specs.Refusals.Laws.{exact-line, all-keep, none-given}
@@ -140,6 +142,10 @@ module _ (b : List ℕ) where
       ↔ (AllKeep (short-line ∷ count-line ∷ offset-line ∷ row-line ∷ size-line ∷ repeat-line ∷ party-line ∷ step-line ∷ [])
       × Cause sum-line vs)
   exactly-9 = exactly 8 (omega arith)
+
+-- ---- what a reader returns is unique: no two readings say the verdict
+pub read-one : (b : List ℕ) (r s : Reading) → readingSays r ≡ verdict b → readingSays s ≡ verdict b → r ≡ s
+read-one b r s e f = reading-injective r s (e ∙ sym f)
 
 -- ---- a valid book's rows form a table
 module _ (b : List ℕ) (v : Valid b) where

@@ -76,6 +76,12 @@ pub record MadeOnce (N : Narration) (S : System) : Type 0 where
 abbrev pub Moves : Narration → ℕ → System → Type 0
 Moves N Q S = (p : ℕ) → p < Q → (AtEnd (S .party p .left) → ⊥) → SomeCanMove N Q S
 
+-- what END names: at END each of its placeholders is bound, to the term of the pair's row
+abbrev pub EndsBound : System → Type 0
+EndsBound S =
+    (p : ℕ) (ps : List (Term × ℕ)) (es : List Event) → S .party p .left ≡ Event.ends ps ∷ es → (t : Term) (x : ℕ) → List·Memᴰ (t, x) ps
+    → S .party p .sight .placeholders x ≡ some t
+
 -- of the first Q parties
 pub record Agree (N : Narration) (Q : ℕ) (S : System) : Type 0 where
   pub bound : Bound N S

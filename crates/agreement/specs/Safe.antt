@@ -1,6 +1,7 @@
 -- The events that a party has left go well: with what it holds and has bound, each comparison and opening succeeds, each message
--- sent is the narration's, and what gets bound is, in the end, all that the narration has at its placeholders. One predicate over
+-- sent is the narration's, each pair of END stands at its placeholder, and what gets bound is, in the end, all that the narration has. One predicate over
 -- the events left, of which every clause of demand 3 takes its share.
+use Prim.Native.Nat.{ℕ}
 use mathlib.Core.List.{List, [], _∷_, _++_}
 use mathlib.Core.Option.{some}
 use mathlib.Core.Path.{_≡_}
@@ -13,6 +14,11 @@ use Rattle.agreement.specs.Agree.{Narrated}
 use Rattle.agreement.specs.Sound.{sightOf}
 pub mod Laws
 
+-- each pair's placeholder stands for its term
+abbrev pub PairsAt : List Term → List (Term × ℕ) → Type 0
+PairsAt ns [] = Unit {0}
+PairsAt ns (p ∷ ps) = (getElem? ns (p .1) ≡ some (p .0)) × PairsAt ns ps
+
 -- hs are held as themselves, the placeholders stand for ns; all: what the narration has at the party's placeholders
 module _ (N : Narration) (all : List Term) where
   abbrev pub Safe : List Event → List Term → List Term → Type 0
@@ -24,4 +30,4 @@ module _ (N : Narration) (all : List Term) where
   Safe (Event.opens x f n i ∷ es) hs ns =
       (k : Term) × (ts : Terms) × (getElem? ns x ≡ some (Term.cipher k ts)) × (f ≡ length ns) × (n ≡ count ts)
       × (value (sightOf hs ns) i ≡ some (partner k)) × Safe es hs (ns ++ listed ts)
-  Safe (Event.ends ps ∷ es) hs ns = Safe es hs ns
+  Safe (Event.ends ps ∷ es) hs ns = PairsAt ns ps × Safe es hs ns

@@ -56,7 +56,7 @@ module _ (N : Narration) (Q : ℕ) (programs : ℕ → List Event) (v : Playable
           holding = knownTo N p;
           bound = [];
           sees = refl;
-          safe = each (λ q es. Safe N (meant N q) es (knownTo N q) []) (λ q. safe q) (λ q. (meant N q, refl)) p;
+          safe = each (λ q es. Safe N (meant N q) es (knownTo N q) []) (λ q. safe q) (λ q. (tt, (meant N q, refl))) p;
         };
         messages = λ s ts e. absurd (Option·some-ne-none ts (sym e));
       }

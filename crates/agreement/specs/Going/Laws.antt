@@ -18,11 +18,11 @@ use Rattle.agreement.specs.Change.{change}
 use Rattle.agreement.specs.Change.Laws.{change-ind}
 use Rattle.agreement.specs.Sight.{Sight, bind, binds}
 use Rattle.agreement.specs.Machine.{Shown, Effect, sendEffect, checkEffect, opensTo, openEffect, effect, Party, Turn, stays, takes, next, turn, handed, delivered, System, sentAfter, Move, move, Reach}
-use Rattle.agreement.specs.Agree.{meant, Narrated, Bound, Faithful}
+use Rattle.agreement.specs.Agree.{meant, Narrated, Bound, Faithful, EndsBound}
 use Rattle.agreement.specs.Sound.{sightOf}
 use Rattle.agreement.specs.Sound.Laws.{at-append, at-seam}
 use Rattle.agreement.specs.Safe.{Safe}
-use Rattle.agreement.specs.Safe.Laws.{safe-begins}
+use Rattle.agreement.specs.Safe.Laws.{pair-at, safe-begins}
 use Rattle.agreement.specs.Going.{Goes, Going}
 
 -- ---- binding what comes next adds to the list
@@ -183,3 +183,11 @@ module _ (N : Narration) where
         unhalted = λ p. g .parties p .unhalted;
         messages = g .messages;
       }
+
+  -- ---- what END names
+  pub going-ends : (S : System) → Going N S → EndsBound S
+  unfolding sightOf
+  going-ends S g p ps es l t x m =
+      let h = g .parties p in
+      let k = subst (λ e. Safe N (meant N p) e (h .holding) (h .bound)) l (h .safe) in
+      ap (λ (v : Sight). v .placeholders x) (h .sees) ∙ pair-at (h .bound) ps (k .0) t x m

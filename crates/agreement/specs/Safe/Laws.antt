@@ -1,7 +1,8 @@
 -- A party's program is safe from the start: by induction over its part in the steps. Assumes nothing.
 use Prim.Native.Nat.{ℕ, suc, _+_}
 use mathlib.Core.Bool.{true}
-use mathlib.Core.List.{List, [], _∷_, _++_, map, append-nil, append-assoc}
+use mathlib.Core.List.{List, [], _∷_, _++_, map, append-nil, append-assoc, List·Memᴰ, List·Memᴰ·not-nil, List·Memᴰ·cases-cons}
+use mathlib.Core.Logic.{⊎-elim}
 use mathlib.Core.Option.{some}
 use mathlib.Core.Path.{_≡_, refl, sym, ap, _∙_, subst}
 use native.Mathlib.Omega.{arith}
@@ -17,7 +18,7 @@ use Rattle.translation.specs.Narration.{Narration}
 use Rattle.agreement.specs.Agree.{Narrated}
 use Rattle.agreement.specs.Sound.{Right, Sound}
 use Rattle.agreement.specs.Sound.Laws.{at-append, sound-append, sound-enter, start-sound, image-value, plus, buildAll-value, buildAll-sound}
-use Rattle.agreement.specs.Safe.{Safe}
+use Rattle.agreement.specs.Safe.{PairsAt, Safe}
 
 -- ---- the terms at the placeholders from x on
 data AllAt (ns : List Term) : ℕ → Terms → Type 0 where
@@ -41,6 +42,21 @@ allAt-seam : (ns : List Term) (ts : Terms) → AllAt (ns ++ listed ts) (length n
 allAt-seam [] ts = allAt-front ts
 allAt-seam (n ∷ ns) ts = allAt-later n (allAt-seam ns ts)
 
+-- ---- pairs of a term and its placeholder
+pairs-more : (l ns : List Term) (ps : List (Term × ℕ)) → PairsAt ns ps → PairsAt (ns ++ l) ps
+pairs-more l ns [] a = tt
+pairs-more l ns (p ∷ ps) a = (at-append l ns (p .1) (a .0), pairs-more l ns ps (a .1))
+
+pairs-append : (ns : List Term) (ps qs : List (Term × ℕ)) → PairsAt ns ps → PairsAt ns qs → PairsAt ns (ps ++ qs)
+pairs-append ns [] qs a b = b
+pairs-append ns (p ∷ ps) qs a b = (a .0, pairs-append ns ps qs (a .1) b)
+
+pub pair-at : (ns : List Term) (ps : List (Term × ℕ)) → PairsAt ns ps → (t : Term) (x : ℕ) → List·Memᴰ (t, x) ps → getElem? ns x ≡ some t
+pair-at ns [] a t x m = absurd (List·Memᴰ·not-nil m)
+pair-at ns (p ∷ ps) a t x m =
+    ⊎-elim (λ e. subst (λ (q : Term × ℕ). getElem? ns (q .1) ≡ some (q .0)) (sym e) (a .0)) (λ n. pair-at ns ps (a .1) t x n)
+    (List·Memᴰ·cases-cons m)
+
 longer : (ns : List Term) (ts : Terms) (n : ℕ) → n ≡ length ns → n + count ts ≡ length (ns ++ listed ts)
 longer ns ts n e = let a = length-append ns (listed ts) in let c = count-listed ts in omega arith
 
@@ -58,14 +74,19 @@ module _ (N : Narration) (all : List Term) where
   record Good (hs ks ns : List Term) (d : Did) : Type 0 where
     pub sound : Sound (d .dictionary) ks (ns ++ d .given)
     pub safe : (es : List Event) → Safe N all es ks (ns ++ d .given) → Safe N all (d .events ++ es) hs ns
+    pub pairs : PairsAt (ns ++ d .given) (d .stored)
 
   -- where no placeholder is handed out
   good-still : {hs ks ns : List Term} (d : Did) → d .given ≡ [] → Sound (d .dictionary) ks ns
-      → ((es : List Event) → Safe N all es ks ns → Safe N all (d .events ++ es) hs ns)
+      → ((es : List Event) → Safe N all es ks ns → Safe N all (d .events ++ es) hs ns) → PairsAt ns (d .stored)
       → Good hs ks ns d
-  good-still {hs} {ks} {ns} d e s f =
+  good-still {hs} {ks} {ns} d e s f a =
       let z : ns ++ d .given ≡ ns = ap (λ l. ns ++ l) e ∙ append-nil ns in
-      record { sound = subst (λ l. Sound (d .dictionary) ks l) (sym z) s; safe = λ es k. f es (subst (λ l. Safe N all es ks l) z k) }
+      record {
+        sound = subst (λ l. Sound (d .dictionary) ks l) (sym z) s;
+        safe = λ es k. f es (subst (λ l. Safe N all es ks l) z k);
+        pairs = subst (λ l. PairsAt l (d .stored)) (sym z) a;
+      }
 
   good-followed : {hs ks js ns : List Term} (d e : Did) → Good hs ks ns d → Good ks js (ns ++ d .given) e → Good hs js ns (followed d e)
   good-followed {hs} {ks} {js} {ns} d e p q =
@@ -75,23 +96,26 @@ module _ (N : Narration) (all : List Term) where
         safe =
             λ es k. subst (λ l. Safe N all l hs ns) (sym (append-assoc (d .events) (e .events) es))
             (p .safe (e .events ++ es) (q .safe es (subst (λ l. Safe N all es js l) (sym z) k)));
+        pairs = subst (λ l. PairsAt l (d .stored ++ e .stored)) z
+            (pairs-append _ (d .stored) (e .stored) (pairs-more (e .given) _ (d .stored) (p .pairs)) (q .pairs));
       }
 
   good-nothing : {hs ns : List Term} (δ : Dictionary) → Sound δ hs ns → Good hs hs ns (nothing δ)
-  good-nothing δ s = good-still (nothing δ) refl s (λ es k. k)
+  good-nothing δ s = good-still (nothing δ) refl s (λ es k. k) tt
 
   -- ---- receive
   module _ {hs ns : List Term} (δ : Dictionary) (s : Sound δ hs ns) (x : ℕ) where
     good-compared : (t : Term) → getElem? ns x ≡ some t → buildable δ t ≡ true → Good hs hs ns (compared t x δ)
-    good-compared t e b = good-still (compared t x δ) refl s (λ es k. (t, e, image-value hs ns δ s t b, k))
+    good-compared t e b = good-still (compared t x δ) refl s (λ es k. (t, e, image-value hs ns δ s t b, k)) tt
 
     good-kept : (t : Term) → getElem? ns x ≡ some t → Good hs hs ns (kept t x δ)
-    good-kept t e = good-still (kept t x δ) refl (sound-enter δ t (Held.placeholder x) (Right.placeholder e) s) (λ es k. k)
+    good-kept t e = good-still (kept t x δ) refl (sound-enter δ t (Held.placeholder x) (Right.placeholder e) s) (λ es k. k) (e, tt)
 
     good-opened : (k : Term) (ts : Terms) (n : ℕ) → n ≡ length ns → getElem? ns x ≡ some (Term.cipher k ts) → canOpen δ (Term.cipher k ts) ≡ true
         → Good hs hs ns (opened k ts x δ n)
     unfolding canOpen
-    good-opened k ts n l e b = record { sound = sound-append (listed ts) s; safe = λ es q. (k, ts, e, l, refl, image-value hs ns δ s (partner k) b, q) }
+    good-opened k ts n l e b =
+        record { sound = sound-append (listed ts) s; safe = λ es q. (k, ts, e, l, refl, image-value hs ns δ s (partner k) b, q); pairs = tt }
 
     -- by the cases of the rule
     good-by : (t : Term) (o : Did) → getElem? ns x ≡ some t → (canOpen δ t ≡ true → Good hs hs ns o)
@@ -137,10 +161,10 @@ module _ (N : Narration) (all : List Term) where
       let b = buildAll ts δ in
       let g = buildAll-sound ns ts δ hs s in
       let v = buildAll-value ns ts δ (plus (b .made) hs) g in
-      (plus (b .made) hs, good-still (sent i b) refl g (λ es k. news-safe (b .made) (Event.sends i (b .images) ∷ []) es hs ns (ts, w, v, k)))
+      (plus (b .made) hs, good-still (sent i b) refl g (λ es k. news-safe (b .made) (Event.sends i (b .images) ∷ []) es hs ns (ts, w, v, k)) tt)
   good-act (Act.receives i ts) δ n {hs} {ns} w l s = (
     hs,
-    good-followed (arrived i ts δ n) _ (record { sound = sound-append (listed ts) s; safe = λ es k. (ts, w, l, refl, k) })
+    good-followed (arrived i ts δ n) _ (record { sound = sound-append (listed ts) s; safe = λ es k. (ts, w, l, refl, k); pairs = tt })
         (good-receiveAll ts n δ (n + count ts) (longer ns ts n l) (sound-append (listed ts) s)
         (subst (λ y. AllAt (ns ++ listed ts) y ts) (sym l) (allAt-seam ns ts))),
   )
@@ -162,7 +186,7 @@ module _ (N : Narration) (all : List Term) where
   unfolding program walked
   program-safe known acts w e =
       let g = good-walk acts (start known) 0 w refl (start-sound known) in
-      g .1 .safe (Event.ends (walk acts (start known) 0 .stored) ∷ []) ([], append-nil _ ∙ e)
+      g .1 .safe (Event.ends (walk acts (start known) 0 .stored) ∷ []) (g .1 .pairs, ([], append-nil _ ∙ e))
 
   -- what is bound is the beginning of the whole
   pub safe-begins : (es : List Event) (hs ns : List Term) → Safe N all es hs ns → (l : List Term) × (ns ++ l ≡ all)
@@ -174,4 +198,4 @@ module _ (N : Narration) (all : List Term) where
   safe-begins (Event.checks x i ∷ es) hs ns k = safe-begins es hs ns (k .3)
   safe-begins (Event.opens x f n i ∷ es) hs ns k =
       let q = safe-begins es hs _ (k .6) in (listed (k .1) ++ q .0, sym (append-assoc ns (listed (k .1)) (q .0)) ∙ q .1)
-  safe-begins (Event.ends ps ∷ es) hs ns k = safe-begins es hs ns k
+  safe-begins (Event.ends ps ∷ es) hs ns k = safe-begins es hs ns (k .1)

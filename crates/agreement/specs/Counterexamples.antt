@@ -1,5 +1,5 @@
 -- The clauses of demand 3 are not empty: each fails for a damaged program, computed. Document 01, 'Four ways to a plausible wrong
--- listing': each of them breaks a clause; and so does a step that one party skips. (That idle translators are caught by demand 2 is in
+-- listing': each of them breaks a clause; and so do a step that one party skips, and one received twice. (That idle translators are caught by demand 2 is in
 -- the translation's Idle.)
 -- Since NEW makes the atom of its row, a fresh atom in place of a missing one is found by clause (c), which looks at what is made, and
 -- not by a comparison.
@@ -7,8 +7,9 @@ use Prim.Native.Nat.{ℕ, zero, suc, _<_}
 use native.Mathlib.Omega.{arith}
 use mathlib.Core.Bool.{true, true≢false}
 use mathlib.Core.List.{List, [], _∷_, List·Memᴰ·head}
+use mathlib.Core.Logic.{⊎-elim}
 use mathlib.Core.Option.{some, Option·some-ne-none}
-use mathlib.Core.Path.{_≡_, refl, sym, subst}
+use mathlib.Core.Path.{_≡_, refl, sym, ap, subst}
 use Rattle.terms.specs.Term.{Term, Terms, Occurs}
 use Rattle.terms.specs.Image.{Image, Images}
 use Rattle.translation.specs.Receive.{Event}
@@ -18,7 +19,7 @@ use Rattle.translation.specs.Taken.{Taken, unplayable}
 use Rattle.agreement.specs.Change.{change}
 use Rattle.agreement.specs.Machine.{System, Move, begin, Reach}
 use Rattle.agreement.specs.Sequence.{sequence, sequence-reach}
-use Rattle.agreement.specs.Agree.{receiverOf, Bound, Faithful, MadeOnce, CanMove, Moves}
+use Rattle.agreement.specs.Agree.{receiverOf, Bound, Faithful, MadeOnce, CanMove, Moves, Dropped, TakesCopy, TakenOnce}
 use Rattle.agreement.specs.Flow.Laws.{does-handed}
 use Rattle.agreement.specs.Computing.{computes}
 
@@ -211,4 +212,32 @@ skipping-breaks =
       state = stuck;
       reached = sequence-reach (receiverOf twoSteps) _ (Move.own 0 ∷ Move.delivery 0 ∷ []) Reach.start;
       fails = λ h. (let z = h 1 (omega arith) (λ e. elim e [ ]) in no-move (z .who) (z .within) (z .can));
+    }
+
+-- ---- (e) a step received twice: B waits for the first step again behind its RECEIVE, and takes a second copy of it.
+unfoldable pub receiving-twice : ℕ → List Event
+receiving-twice =
+    instead 1
+    (Event.receives 0 0 1 ∷ Event.receives 0 1 1 ∷ Event.receives 1 2 1 ∷ Event.ends ((nonce, 0) ∷ (token, 2) ∷ []) ∷ [])
+    (programOf twoSteps)
+
+unfoldable pub sentOnce : System
+unfolding computes stateAfter twoSteps receiving-twice
+sentOnce = stateAfter twoSteps receiving-twice (Move.own 0 ∷ [])
+
+first-taken : Dropped twoSteps 0 sentOnce → ⊥
+unfolding sentOnce
+first-taken d = let z : _≡_ {A = ℕ} 1 0 = ap (λ (S : System). S .party 1 .done) d in omega arith
+
+second-taken : TakesCopy twoSteps 0 sentOnce → ⊥
+unfolding sentOnce
+second-taken k = let z : _≡_ {A = ℕ} 2 1 = ap (λ (S : System). S .party 1 .done) (k .noneLater Reach.start) in omega arith
+
+pub receiving-twice-breaks : Breaks twoSteps receiving-twice (TakenOnce twoSteps)
+unfolding sentOnce
+receiving-twice-breaks =
+    record {
+      state = sentOnce;
+      reached = sequence-reach (receiverOf twoSteps) _ (Move.own 0 ∷ []) Reach.start;
+      fails = λ h. ⊎-elim first-taken second-taken (h 0);
     }

@@ -9,6 +9,7 @@ pub mod Acts
 pub mod Order
 pub mod Flow
 pub mod Progress
+pub mod Once
 pub mod News
 pub mod Log
 pub mod Start

@@ -17,7 +17,7 @@ use Rattle.translation.specs.Taken.Laws.{steps-length, step-is}
 use Rattle.translation.specs.Spelled.{endAlone, Programs}
 use Rattle.translation.specs.Spelled.Laws.{accepted-plays}
 use Rattle.translation.specs.Outcome.{outcome, Plays}
-use Rattle.agreement.specs.Machine.{System, begin, Reach}
+use Rattle.agreement.specs.Machine.{System, Move, begin, Reach}
 use Rattle.agreement.specs.Agree.{meant, receiverOf, AtEnd, Agree}
 use Rattle.agreement.specs.Sound.{sightOf}
 use Rattle.agreement.specs.Safe.{Safe}
@@ -30,6 +30,7 @@ use Rattle.agreement.specs.Order.Laws.{program-rising, program-toSend}
 use Rattle.agreement.specs.Flow.{Flow}
 use Rattle.agreement.specs.Flow.Laws.{reach-flow}
 use Rattle.agreement.specs.Progress.{progress}
+use Rattle.agreement.specs.Once.{copy-once}
 use Rattle.agreement.specs.News.{news}
 use Rattle.agreement.specs.News.Laws.{program-free, program-once, program-apart}
 use Rattle.agreement.specs.Log.{Logged}
@@ -105,6 +106,8 @@ module _ (N : Narration) (Q : ℕ) (programs : ℕ → List Event) (v : Playable
           faithful = going-faithful N S reached-going;
           made = record { once = l .once; untaken = l .fresh };
           moves = progress N Q (v .senders) S reached-going reached-flow;
+          takenOnce = λ s. copy-once N s S (reached-flow .rising (receiverOf N s))
+              (reach-going N (Reach.after (Move.delivery s) r) start-going .parties (receiverOf N s) .unhalted);
         }
 
 -- ---- a book that plays, and one whose outcome is a listing

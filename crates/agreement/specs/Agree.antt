@@ -94,6 +94,7 @@ Moves N Q S = (p : ℕ) → p < Q → (AtEnd (S .party p .left) → ⊥) → Som
 -- (e) a delivery is taken once, and only by one that waits: a copy of a step is dropped, or it is the one that its receiver takes
 abbrev pub TakenOnce : Narration → System → Type 0
 TakenOnce N S = (s : ℕ) → Dropped N s S ⊎ TakesCopy N s S
+
 -- what END names: at END each of its placeholders is bound, to the term of the pair's row
 abbrev pub EndsBound : System → Type 0
 EndsBound S =

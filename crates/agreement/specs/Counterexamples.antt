@@ -1,12 +1,12 @@
 -- The clauses of demand 3 are not empty: each fails for a damaged program, computed. Document 01, 'Four ways to a plausible wrong
 -- listing': each of them breaks a clause; and so do a step that one party skips, and one received twice. (That idle translators are caught by demand 2 is in
 -- the translation's Idle.)
--- Since NEW makes the atom of its row, a fresh atom in place of a missing one is found by clause (c), which looks at what is made, and
--- not by a comparison.
+-- A fresh atom in place of a missing one is made in two ways, since NEW makes the atom of its row. Of the missing atom's row, it is found
+-- by clause (c), which looks at what is made, and by no comparison; of a row that is nobody's, by the receiver's comparison, clause (b).
 use Prim.Native.Nat.{ℕ, zero, suc, _<_}
 use native.Mathlib.Omega.{arith}
 use mathlib.Core.Bool.{true, true≢false}
-use mathlib.Core.List.{List, [], _∷_, List·Memᴰ·head}
+use mathlib.Core.List.{List, [], _∷_, List·Memᴰ·head, List·Memᴰ·cases-cons, List·Memᴰ·not-nil}
 use mathlib.Core.Logic.{⊎-elim}
 use mathlib.Core.Option.{some, Option·some-ne-none}
 use mathlib.Core.Path.{_≡_, refl, sym, ap, subst}
@@ -15,9 +15,10 @@ use Rattle.terms.specs.Image.{Image, Images}
 use Rattle.translation.specs.Receive.{Event}
 use Rattle.translation.specs.Program.{Step}
 use Rattle.translation.specs.Narration.{Narration, knownTo, programOf}
-use Rattle.translation.specs.Taken.{Taken, unplayable}
+use Rattle.translation.specs.Taken.{Taken, Nobodys, unplayable}
+use Rattle.translation.specs.Taken.Laws.{nobodys-exact}
 use Rattle.agreement.specs.Change.{change}
-use Rattle.agreement.specs.Machine.{System, Move, begin, Reach}
+use Rattle.agreement.specs.Machine.{Shown, Effect, effect, System, Move, begin, Reach}
 use Rattle.agreement.specs.Sequence.{sequence, sequence-reach}
 use Rattle.agreement.specs.Agree.{receiverOf, Bound, Faithful, MadeOnce, CanMove, Moves, Dropped, TakesCopy, TakenOnce}
 use Rattle.agreement.specs.Flow.Laws.{does-handed}
@@ -142,6 +143,56 @@ fresh-breaks =
       reached = sequence-reach (receiverOf missing) _ ms Reach.start;
       fails = λ h. h .untaken 4 (List·Memᴰ·head refl)
           (Taken.known {k = nonce ∷ []} {t = nonce} (List·Memᴰ·head refl) (List·Memᴰ·head refl) Occurs.atom);
+    }
+
+-- when A has taken the message and is about to compare it, its comparison succeeds: only what was made tells
+abbrev pub aboutToCompare : (ℕ → List Event) → System
+aboutToCompare programs = stateAfter missing programs (Move.own 1 ∷ Move.own 1 ∷ Move.delivery 0 ∷ [])
+
+pub fresh-compares :
+    let v = aboutToCompare (programOf missing) .party 0 .sight in
+    effect (Event.checks 0 (Image.itself nonce)) v ≡ Effect.does Shown.nothing v
+unfolding computes stateAfter missing
+fresh-compares = refl
+
+-- ---- (b) the same, with an atom that is nobody's: B makes that and sends it for the one that it lacks. Nothing is wrong with what is made,
+-- and A's comparison fails.
+pub missing-right : programOf missing 0
+    ≡ Event.receives 0 0 1 ∷ Event.checks 0 (Image.itself nonce) ∷ Event.ends [] ∷ []
+unfolding computes missing
+missing-right = refl
+
+unfoldable pub other-atom : ℕ → List Event
+other-atom = instead 1 (Event.new 5 ∷ Event.sends 0 (Images.cons (Image.itself token) Images.nil) ∷ Event.ends [] ∷ []) (programOf missing)
+
+unfoldable pub comparing : System
+unfolding computes stateAfter missing other-atom
+comparing = aboutToCompare other-atom
+
+pub comparing-made : MadeOnce missing comparing
+unfolding computes missing comparing
+comparing-made =
+    record {
+      once = (List·Memᴰ·not-nil, tt);
+      untaken = λ r m. ⊎-elim (λ e. subst (Nobodys missing 0) (sym e) (nobodys-exact missing 0 5 .0 refl)) (λ n. absurd (List·Memᴰ·not-nil n))
+          (List·Memᴰ·cases-cons m);
+    }
+
+pub comparison-next : comparing .party 0 .left ≡ Event.checks 0 (Image.itself nonce) ∷ Event.ends [] ∷ []
+unfolding comparing
+comparison-next = refl
+
+pub comparison-fails : effect (Event.checks 0 (Image.itself nonce)) (comparing .party 0 .sight) ≡ Effect.fails
+unfolding computes comparing
+comparison-fails = refl
+
+pub other-atom-breaks : Breaks missing other-atom (Faithful missing)
+unfolding comparing
+other-atom-breaks =
+    record {
+      state = comparing;
+      reached = sequence-reach (receiverOf missing) _ (Move.own 1 ∷ Move.own 1 ∷ Move.delivery 0 ∷ []) Reach.start;
+      fails = λ h. h .succeeds 0 _ _ comparison-next comparison-fails;
     }
 
 -- ---- (c) "Testing "taken" per party instead of over the whole book": C has never seen the atom that A made, and makes it again.

@@ -1,19 +1,24 @@
 -- Four kinds of idle program. Document 01: "One that refuses all books, one that writes a constant listing, and one that writes nothing and
 -- says "accepted" all break demand 2. One that translates the first step and skips the others would satisfy demand 3 alone." Each is
--- caught: it breaks the promise at a book of the P trials. The third says "accepted" or anything else: it is caught all the same.
+-- caught: it breaks the promise at a book of the P trials. The third says "accepted" or anything else: it is caught all the same. So are
+-- the second and the fourth if they refuse rightly and are idle only where a book is accepted.
 use Prim.Native.Nat.{ℕ}
 use mathlib.Core.List.{List, [], _∷_}
 use mathlib.Core.Path.{_≡_, sym, ap, _∙_}
 use native.Mathlib.Omega.{arith}
 use lib.ListN.{length, getD, take}
 use lib.Seq.{sets}
+use lib.Dec.{eqb}
+use borrow.Author.Tests.{ne-eqb}
+use Rattle.words.specs.Choice.{pick}
+use Rattle.words.specs.Choice.Laws.{pick-false}
 use Rattle.words.specs.Run.{values}
 use Rattle.terms.specs.Table.{number}
 use Rattle.book.specs.Layout.{table, rows, parties}
 use Rattle.book.specs.Said.{said}
 use Rattle.translation.specs.Narration.{Narration, narration, programOf}
 use Rattle.translation.specs.Listing.{programWords, framed}
-use Rattle.translation.specs.Outcome.{Outcome, Promise}
+use Rattle.translation.specs.Outcome.{Outcome, outcome, Promise}
 use Rattle.translation.specs.Trials.{trial, trials, computed}
 
 abbrev pub Translator : Type 0
@@ -44,6 +49,10 @@ firstListing b = framed (values (λ p. programWords (number (table b) (rows b)) 
 
 unfoldable pub skips-steps : Translator
 skips-steps b out = record { says = said 0 (length (firstListing b) ∷ []); lent = sets out 0 (firstListing b) }
+
+-- it refuses rightly: wherever the right number isn't 0, its outcome is the right one; where it is 0, it does as f does
+unfoldable pub refuses-rightly : Translator → Translator
+refuses-rightly f b out = pick (eqb (outcome b out .says .number) 0) (f b out) (outcome b out)
 
 -- the smallest book, with 6 words lent, and example 1, with 50 (the first and third of the trials)
 book-at : ℕ → List ℕ
@@ -79,3 +88,21 @@ writes-nothing-caught f n h =
 pub skips-steps-caught : Caught skips-steps
 unfolding computed trials book-at lent-at skips-steps firstListing firstStep first-value
 skips-steps-caught h = let e : _≡_ {A = ℕ} 22 47 = ap first-value (h (book-at 2) (lent-at 2)) in omega arith
+
+-- ---- the same, of translators that refuse rightly; this is that they do
+pub refuses-rightly-right : (f : Translator) (b out : List ℕ) → (outcome b out .says .number ≡ 0 → ⊥) → Promise b out (refuses-rightly f b out)
+unfolding refuses-rightly
+refuses-rightly-right f b out n = pick-false _ _ _ (ne-eqb _ 0 n)
+
+-- on acceptance, any words of its own choice, the same for every book
+pub constant-on-acceptance-caught : (ws : List ℕ) → Caught (refuses-rightly (writes-always ws))
+unfolding computed trials book-at lent-at refuses-rightly writes-always first-value
+constant-on-acceptance-caught ws h =
+    let d : length ws ≡ 5 = ap first-value (h (book-at 0) (lent-at 0)) in
+    let e : length ws ≡ 47 = ap first-value (h (book-at 2) (lent-at 2)) in
+    omega arith
+
+-- on acceptance, the listing of the first step only
+pub first-step-on-acceptance-caught : Caught (refuses-rightly skips-steps)
+unfolding computed trials book-at lent-at refuses-rightly skips-steps firstListing firstStep first-value
+first-step-on-acceptance-caught h = let e : _≡_ {A = ℕ} 22 47 = ap first-value (h (book-at 2) (lent-at 2)) in omega arith

@@ -15,6 +15,7 @@ use Rattle.translation.specs.Narration.{Narration}
 use Rattle.agreement.specs.Machine.{System, Move, move}
 use Rattle.agreement.specs.Agree.{receiverOf, AtEnd, Does}
 pub mod Counts
+pub mod Rounds
 pub mod Laws
 
 -- ---- events left to do: those before END
@@ -62,3 +63,22 @@ pub record Fair (N : Narration) (Q : ℕ) (ms : ℕ → Move) (S : System) : Typ
 pub record Ends (N : Narration) (Q : ℕ) (ms : ℕ → Move) (S : System) : Type 0 where
   pub time : ℕ
   pub ended : AllAtEnd Q (state (receiverOf N) ms S time)
+
+-- a sequence that is fair whatever it starts from (Finish.Rounds): in round r the parties from r down to 0 make their own moves, and then
+-- the steps from r down to 0 are handed over; the rounds are 0, 1, 2 and so on
+pub record Round : Type 0 where
+  pub number : ℕ
+  pub now : Move
+
+unfoldable pub nextIn : ℕ → Move → Round
+nextIn r (Move.own zero) = record { number = r; now = Move.delivery r }
+nextIn r (Move.own (suc p)) = record { number = r; now = Move.own p }
+nextIn r (Move.delivery zero) = record { number = suc r; now = Move.own (suc r) }
+nextIn r (Move.delivery (suc s)) = record { number = r; now = Move.delivery s }
+
+unfoldable pub roundAt : ℕ → Round
+roundAt zero = record { number = 0; now = Move.own 0 }
+roundAt (suc n) = nextIn (roundAt n .number) (roundAt n .now)
+
+abbrev pub rounds : ℕ → Move
+rounds n = roundAt n .now

@@ -18,7 +18,8 @@ use Rattle.agreement.specs.Machine.{System, Move, move, begin, started, 
 use Rattle.agreement.specs.Agree.{receiverOf, Does, CanMove}
 use Rattle.agreement.specs.Flow.Laws.{does-handed}
 use Rattle.agreement.specs.Start.{PlayableAmong, reached-going, reached-flow, reached-agree, accepted-playable}
-use Rattle.agreement.specs.Finish.{toDo, toDoAll, Lowers, EachDoes, AllAtEnd, Finishes, state, Fair, Ends}
+use Rattle.agreement.specs.Finish.{toDo, toDoAll, Lowers, EachDoes, AllAtEnd, Finishes, state, Fair, rounds, Ends}
+use Rattle.agreement.specs.Finish.Rounds.{round-fair}
 use Rattle.agreement.specs.Finish.Counts.{sum-some, end-toDo, move-lowers, does-changes, none-left}
 
 module _ (N : Narration) (Q : ℕ) (programs : ℕ → List Event) (v : PlayableAmong N Q) (w : Programs N Q programs) where
@@ -153,3 +154,7 @@ module _ (b out : List ℕ) (accepted : outcome b out .says .number ≡ 0) {S : 
   fair-ends ms f =
       ends (narration b) (parties b) (spelled b (outcome b out .lent)) (accepted-playable b out accepted) (accepted-programs b out accepted) ms S f again
       (suc (toDoAll (parties b) S)) 0 (unfold state in omega arith)
+
+  -- so do the moves that go round and round
+  pub round-ends : Ends (narration b) (parties b) rounds S
+  round-ends = fair-ends rounds (round-fair (narration b) (parties b) S)

@@ -2,7 +2,7 @@
 -- listing': each of them breaks a clause; and so do a step that one party skips, and one received twice. (That idle translators are caught by demand 2 is in
 -- the translation's Idle.)
 -- A fresh atom in place of a missing one is made in two ways, since NEW makes the atom of its row. Of the missing atom's row, it is found
--- by clause (c), which looks at what is made, and by no comparison; of a row that is nobody's, by the receiver's comparison, clause (b).
+-- by clause (c), which looks at what is made, and not by the receiver's comparison; of a row that is nobody's, by that, so by clause (b).
 use Prim.Native.Nat.{ℕ, zero, suc, _<_}
 use native.Mathlib.Omega.{arith}
 use mathlib.Core.Bool.{true, true≢false}
@@ -145,7 +145,7 @@ fresh-breaks =
           (Taken.known {k = nonce ∷ []} {t = nonce} (List·Memᴰ·head refl) (List·Memᴰ·head refl) Occurs.atom);
     }
 
--- when A has taken the message and is about to compare it, its comparison succeeds: only what was made tells
+-- when A has taken the message and is about to compare it, its comparison succeeds
 abbrev pub aboutToCompare : (ℕ → List Event) → System
 aboutToCompare programs = stateAfter missing programs (Move.own 1 ∷ Move.own 1 ∷ Move.delivery 0 ∷ [])
 

@@ -73,6 +73,12 @@ pub record Unplayable (b vs : List ℕ) : Type 0 where
   pub atom : FirstTaken (narration b) step
   pub says : vs ≡ step ∷ firstTaken (narration b) step ∷ []
 
+-- some step has a message that has no derivation, whatever the others have
+pub record SomeUnderived (b : List ℕ) : Type 0 where
+  pub step : ℕ
+  pub within : step < steps b
+  pub none : NoDerivation (narration b) step
+
 -- what a translator promises of the words b and the lent words out
 abbrev pub Promise : List ℕ → List ℕ → Outcome → Type 0
 Promise b out o = o ≡ outcome b out

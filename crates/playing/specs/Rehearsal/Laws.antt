@@ -18,8 +18,8 @@ use Rattle.book.specs.Refusals.{line, here, firstOf}
 use Rattle.book.specs.Ruled.{Ruled, AllKeep, lines, Cause}
 use Rattle.book.specs.Refusals.Laws.{append-keep, keep-append, given, passed, caused, all-keep}
 use Rattle.book.specs.Valid.{Valid}
-use Rattle.translation.specs.Outcome.{roomLine, acceptance, Outcome, Unplayable, Plays}
-use Rattle.translation.specs.Outcome.Laws.{room-line, ends-in-room, room-exact, room-says, fits-exact, laid-keeps, laid-lays, laid-past, ten, ten-lines, book-first, takenLine-exact, keep-plays, plays-keep}
+use Rattle.translation.specs.Outcome.{roomLine, acceptance, Outcome, Unplayable, SomeUnderived, Plays}
+use Rattle.translation.specs.Outcome.Laws.{room-line, ends-in-room, room-exact, room-says, fits-exact, laid-keeps, laid-lays, laid-past, ten, ten-lines, book-first, takenLine-exact, underived-exact, keep-plays, plays-keep}
 use Rattle.playing.specs.Rehearsal.{eventsDone, mostMoves, longLine, moveLine, rehearsalSays, rehearsal, BadMoves, Named, RehearsalPromise}
 
 -- ---- refusal 11
@@ -66,6 +66,10 @@ module _ (b ms : List ℕ) where
   rehearsal-exactly-10 out vs =
       let r = takenLine-exact b (moves ++ room-line (length out) (parties b) ∷ []) (said 0 (parties b ∷ [])) (omega arith) (omega arith) vs in
       (λ e. r .0 (sym (says-lines out) ∙ e), λ u. says-lines out ∙ r .1 u)
+
+  -- a valid book's rehearsal is refused 10 exactly if some step has a message that has no derivation
+  pub rehearsal-exactly-underived : Valid b → (out : List ℕ) → (rehearsalSays b ms out .number ≡ 10) ↔ SomeUnderived b
+  rehearsal-exactly-underived v out = underived-exact b (rehearsalSays b ms out) (rehearsal-exactly-10 out) v
 
   -- ---- refusal 11
   cause-long : (vs : List ℕ) → mostMoves < length ms → vs ≡ mostMoves ∷ [] → Cause (long-line ms) vs

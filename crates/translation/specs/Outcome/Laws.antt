@@ -13,6 +13,8 @@ use lib.Seq.{sets, sets-eq}
 use lib.Dec.{ltb}
 use borrow.Author.Tests.{ltb-false, le-ltb, ne-eqb, eq-eqb}
 use Rattle.words.specs.Choice.Laws.{pick-true, pick-false}
+use Rattle.words.specs.First.{first}
+use Rattle.words.specs.First.Laws.{clash, first-holds, first-fails, any-at, any-first}
 use Rattle.book.specs.Layout.{steps}
 use Rattle.book.specs.Said as Said
 use Rattle.book.specs.Said.{accepted, refusalSays}
@@ -27,7 +29,7 @@ use Rattle.translation.specs.Narration.{narration}
 use Rattle.translation.specs.Taken.{unplayable, firstTaken, Playable}
 use Rattle.translation.specs.Taken.Laws.{playable-exact, unplayable-exact, first-taken}
 use Rattle.translation.specs.Listing.{listing}
-use Rattle.translation.specs.Outcome.{takenLine, roomLine, acceptance, translationSays, Outcome, laid, outcome, came, Plays, Unplayable, Promise}
+use Rattle.translation.specs.Outcome.{takenLine, roomLine, acceptance, translationSays, Outcome, laid, outcome, came, Plays, Unplayable, SomeUnderived, Promise}
 use Rattle.translation.specs.declared.Answer.the-variants.{Written, Refused}
 
 -- ---- refusal 12 is the last, behind the lines xs: "No room is said only when there is none."
@@ -179,6 +181,42 @@ module _ (b : List ℕ) where
   -- the same with no buffer
   pub accept-10 : (vs : List ℕ) → (acceptance b ≡ Said.said 10 vs) ↔ (Valid b × Unplayable b vs)
   accept-10 vs = let r = takenLine-exact [] accepted (omega arith) (omega arith) vs in (λ e. r .0 (sym accept-lines ∙ e), λ u. accept-lines ∙ r .1 u)
+
+  -- "refused exactly if": where some step has a message with no derivation, there is a smallest such step
+  underived-unplayable : SomeUnderived b → (vs : List ℕ) × Unplayable b vs
+  underived-unplayable u =
+      let t = unplayable (narration b) in
+      let s = first t (steps b) in
+      let l = any-first t (steps b) (any-at t (steps b) (u .step) (u .within) (go (t (u .step)) refl)) in
+      let c : Cause taken-line (s ∷ firstTaken (narration b) s ∷ []) =
+      record {
+        place = s;
+        within = l;
+        broken = λ p. clash (first-holds t (steps b) l) (playable-exact (narration b) s .1 p);
+        smallest = λ k h. playable-exact (narration b) k .0 (first-fails t (steps b) k h);
+        says = refl;
+      } in
+      (s ∷ firstTaken (narration b) s ∷ [], cause-unplayable _ c)
+    where
+      go : (v : Bool) → unplayable (narration b) (u .step) ≡ v → unplayable (narration b) (u .step) ≡ true
+      go true e = e
+      go false e = absurd (unplayable-exact (narration b) (u .step) .1 (u .none) (playable-exact (narration b) (u .step) .0 e))
+
+  -- of whatever says 10 exactly for a valid and unplayable book
+  pub underived-exact : (s : Said.Said) → ((vs : List ℕ) → (s ≡ Said.said 10 vs) ↔ (Valid b × Unplayable b vs)) → Valid b
+      → (s .number ≡ 10) ↔ SomeUnderived b
+  underived-exact s r v = (
+    λ e. (let u = r (s .values) .0 (ap (λ n. Said.said n (s .values)) e) .1 in
+        record { step = u .step; within = u .within; none = u .none }),
+    λ d. (let u = underived-unplayable d in ap (λ (x : Said.Said). x .number) (r (u .0) .1 (v, u .1))),
+  )
+
+  -- a valid book is refused 10 exactly if some step has a message that has no derivation
+  pub exactly-underived : Valid b → (out : List ℕ) → (translationSays b out .number ≡ 10) ↔ SomeUnderived b
+  exactly-underived v out = underived-exact (translationSays b out) (exactly-10 out) v
+
+  pub accept-underived : Valid b → (acceptance b .number ≡ 10) ↔ SomeUnderived b
+  accept-underived v = underived-exact (acceptance b) accept-10 v
 
   -- ---- a playable book
   pub keep-plays : AllKeep ten → Plays b

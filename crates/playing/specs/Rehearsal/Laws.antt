@@ -14,12 +14,12 @@ use borrow.Author.Tests.{ltb-false, le-ltb, leb-false, lt-leb}
 use Rattle.words.specs.Run.Laws.{values-length, all-getD, getD-all}
 use Rattle.book.specs.Layout.{parties}
 use Rattle.book.specs.Said.{Said, said}
-use Rattle.book.specs.Refusals.{line, here, firstOf}
+use Rattle.book.specs.Refusals.{line, here, firstOf, verdict}
 use Rattle.book.specs.Ruled.{Ruled, AllKeep, lines, Cause}
 use Rattle.book.specs.Refusals.Laws.{append-keep, keep-append, given, passed, caused, all-keep}
 use Rattle.book.specs.Valid.{Valid}
-use Rattle.translation.specs.Outcome.{roomLine, acceptance, Outcome, Unplayable, SomeUnderived, Plays}
-use Rattle.translation.specs.Outcome.Laws.{room-line, ends-in-room, room-exact, room-says, fits-exact, laid-keeps, laid-lays, laid-past, ten, ten-lines, book-first, takenLine-exact, underived-exact, keep-plays, plays-keep}
+use Rattle.translation.specs.Outcome.{takenLine, roomLine, acceptance, Outcome, Unplayable, SomeUnderived, Plays}
+use Rattle.translation.specs.Outcome.Laws.{room-line, ends-in-room, room-exact, room-says, fits-exact, laid-keeps, laid-lays, laid-past, taken-line, ten, ten-lines, reading-exact, book-first, takenLine-exact, underived-exact, keep-plays, plays-keep}
 use Rattle.playing.specs.Rehearsal.{eventsDone, mostMoves, longLine, moveLine, rehearsalSays, rehearsal, BadMoves, Named, RehearsalPromise}
 
 -- ---- refusal 11
@@ -60,6 +60,14 @@ module _ (b ms : List ℕ) where
   all-kept k =
       let r = keep-append (ten b) moves k in
       (keep-plays b (r .0), r .1 .0 0 (omega arith), getD-all (λ q. q < parties b) ms (r .1 .1 .0))
+
+  -- ---- each of refusals 1 to 9 is given exactly when the reader gives it
+  pub rehearsal-exactly-reading : (out : List ℕ) (n : ℕ) → 0 < n → n ≤ 9 → (vs : List ℕ)
+      → (rehearsalSays b ms out ≡ said n vs) ↔ (verdict b ≡ said n vs)
+  unfolding rehearsalSays takenLine longLine moveLine roomLine
+  rehearsal-exactly-reading out n p h vs =
+      reading-exact b (taken-line b ∷ moves ++ room-line (length out) (parties b) ∷ []) (said 0 (parties b ∷ [])) n
+      (omega arith) (omega arith) p vs
 
   -- ---- refusal 10
   pub rehearsal-exactly-10 : (out vs : List ℕ) → (rehearsalSays b ms out ≡ said 10 vs) ↔ (Valid b × Unplayable b vs)

@@ -4,10 +4,11 @@
 -- words. Assumes nothing.
 use Prim.Native.Nat.{ℕ, _+_, _≤_, _<_}
 use mathlib.Core.Bool.{Bool, true, false}
-use mathlib.Core.List.{List, [], _∷_, _++_}
+use mathlib.Core.List.{List, [], _∷_, _++_, append-nil}
 use mathlib.Core.Logic.{_↔_}
 use mathlib.Core.Path.{_≡_, refl, sym, ap, ap₂, _∙_}
 use native.Mathlib.Omega.{arith}
+use native.Mathlib.Decide.{ℕ-discrete}
 use lib.ListN.{length, drop}
 use lib.Seq.{sets, sets-eq}
 use lib.Dec.{ltb}
@@ -22,7 +23,7 @@ use Rattle.book.specs.Said.Laws.{refusal-number}
 use Rattle.book.specs.declared.Refusal.{Refusal}
 use Rattle.book.specs.Refusals.{Line, line, firstOf, readingTable, verdict}
 use Rattle.book.specs.Ruled.{Ruled, AllKeep, lines, Cause, Apart}
-use Rattle.book.specs.Refusals.Laws.{append-keep, keep-append, lines-append, apart-append, given, caused, all-keep, none-given, firstOf-none, firstOf-stop}
+use Rattle.book.specs.Refusals.Laws.{append-keep, keep-append, lines-append, apart-append, given, passed, caused, all-keep, none-given, firstOf-none, firstOf-stop}
 use Rattle.book.specs.Valid.{Valid}
 use Rattle.book.specs.Valid.Laws.{nine, reading-lines, keep-valid, valid-keep}
 use Rattle.translation.specs.Narration.{narration}
@@ -133,6 +134,34 @@ module _ (b : List ℕ) where
   pub reading-first : (out : List ℕ) → (verdict b .number ≡ 0 → ⊥) → translationSays b out ≡ verdict b
   unfolding translationSays verdict
   reading-first out n = firstOf-stop (readingTable b) (takenLine b ∷ roomLine (length out) (length (listing b)) ∷ []) accepted written refl n
+
+  -- and no other: whatever lines ys of other numbers stand behind
+  pub reading-exact : (ys : List Ruled) (rest : Said.Said) (n : ℕ) → Apart n ys → (rest .number ≡ n → ⊥) → 0 < n → (vs : List ℕ)
+      → (firstOf (readingTable b ++ lines ys) rest ≡ Said.said n vs) ↔ (verdict b ≡ Said.said n vs)
+  unfolding verdict
+  reading-exact ys rest n a z p vs = (
+    λ e. elim (ℕ-discrete (verdict b .number) 0) [
+      | yes q ↦
+          let k = none-given (nine b) accepted (omega arith) (ap (λ (ls : List Line). firstOf ls accepted .number) (sym (reading-lines b)) ∙ q) in
+          let f = sym (all-keep (nine b) (lines ys) rest k) ∙ ap (λ (ls : List Line). firstOf (ls ++ lines ys) rest) (sym (reading-lines b)) ∙ e in
+          let g = passed n ys [] rest vs a (ap (λ (ls : List Line). firstOf ls rest) (append-nil (lines ys)) ∙ f) .1 in
+          absurd (z (ap (λ (s : Said.Said). s .number) (sym (firstOf-none rest) ∙ g)))
+      | no q ↦ sym (firstOf-stop (readingTable b) (lines ys) accepted rest refl q) ∙ e
+    ],
+    λ e. firstOf-stop (readingTable b) (lines ys) accepted rest refl
+        (λ q. let m = sym (ap (λ (s : Said.Said). s .number) e) ∙ q in absurd (omega arith)) ∙ e,
+  )
+
+  -- each of refusals 1 to 9 is given exactly when the reader gives it
+  pub exactly-reading : (out : List ℕ) (n : ℕ) → 0 < n → n ≤ 9 → (vs : List ℕ)
+      → (translationSays b out ≡ Said.said n vs) ↔ (verdict b ≡ Said.said n vs)
+  unfolding translationSays takenLine roomLine
+  exactly-reading out n p h vs =
+      reading-exact (taken-line ∷ room-line (length out) (length (listing b)) ∷ []) written n (omega arith) (omega arith) p vs
+
+  pub accept-reading : (n : ℕ) → 0 < n → n ≤ 9 → (vs : List ℕ) → (acceptance b ≡ Said.said n vs) ↔ (verdict b ≡ Said.said n vs)
+  unfolding acceptance takenLine
+  accept-reading n p h vs = reading-exact (taken-line ∷ []) accepted n (omega arith) (omega arith) p vs
 
   -- ---- refusals 1 to 10 are the book's, whatever lines ls stand behind
   pub book-first : (ls : List Line) (rest : Said.Said) → (acceptance b .number ≡ 0 → ⊥) → firstOf (readingTable b ++ takenLine b ∷ ls) rest

@@ -146,6 +146,12 @@ module _ (b ms : List ℕ) where
       → rehearsalSays b ms out ≡ said 0 (parties b ∷ [])
   played-says out p l a h = says-lines out ∙ room-says (ten b ++ moves) (length out) (parties b) (keep-all p l a) h
 
+  -- and so with the length that is answered
+  pub exactly-played-length : (out : List ℕ) → (rehearsalSays b ms out ≡ said 0 (parties b ∷ []))
+      ↔ (Plays b × (length ms ≤ mostMoves) × Named (parties b) ms × (parties b ≤ length out))
+  exactly-played-length out =
+      (λ e. exactly-played out .0 (ap (λ (s : Said). s .number) e), λ u. played-says out (u .0) (u .1) (u .2) (u .3))
+
   -- a refusal changes no lent word
   pub rehearsal-keeps : (out : List ℕ) → (rehearsal b ms out .says .number ≡ 0 → ⊥) → rehearsal b ms out .lent ≡ out
   unfolding rehearsal

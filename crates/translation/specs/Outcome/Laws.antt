@@ -277,6 +277,11 @@ module _ (b : List ℕ) where
   pub written-says : (out : List ℕ) → Plays b → length (listing b) ≤ length out → translationSays b out ≡ written
   written-says out p h = says-lines out ∙ room-says ten (length out) (length (listing b)) (plays-keep p) h
 
+  -- and so with the length that is answered
+  pub exactly-written-length : (out : List ℕ) → (translationSays b out ≡ Said.said 0 (length (listing b) ∷ []))
+      ↔ (Plays b × (length (listing b) ≤ length out))
+  exactly-written-length out = (λ e. exactly-written out .0 (ap (λ (s : Said.Said). s .number) e), λ u. written-says out (u .0) (u .1))
+
   -- a refusal changes no lent word
   pub refused-keeps : (out : List ℕ) → (outcome b out .says .number ≡ 0 → ⊥) → outcome b out .lent ≡ out
   unfolding outcome

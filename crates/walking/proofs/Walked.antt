@@ -102,8 +102,8 @@ module _ {b l : List ℕ} {p i k a : ℕ} {log₀ log logAfter out₀ out outAft
   acted-out = wrote-length (w .doing .wrote) ∙ wrote-length (g .along .wrote)
 
 -- ---- nothing was found
-pub walked-ends : {b : List ℕ} {p upto i k s a : ℕ} {log₀ log out₀ out : List ℕ} {x : Received}
-    → Walked b p i k log₀ log a out₀ out x → upto ≤ i → Walking b p upto k log₀ log a out₀ out (record { here = x; step = s; taken = 0 })
+pub walked-ends : {b : List ℕ} {p upto i k a : ℕ} {log₀ log out₀ out : List ℕ} {x : Received}
+    → Walked b p i k log₀ log a out₀ out x → upto ≤ i → Walking b p upto k log₀ log a out₀ out (record { here = x; step = upto; taken = 0 })
 walked-ends {i = i} g h =
     record {
       far = i;

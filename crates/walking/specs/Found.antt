@@ -21,8 +21,8 @@ pub mod Laws
 unfoldable pub foundAt : List ℕ → List ℕ → ℕ → ℕ → Dictionary → ℕ
 foundAt b l p s δ = pick (eqb (sender b s) p) (firstIn (takenIn l s) 0 (buildAll (terms (table b) (messages b s)) δ .made)) 0
 
--- of the first i steps, party p would make a taken atom first at `step`; `taken` is one more than the atom's row, and 0 if there is no
--- such step
+-- of the first i steps, party p would make a taken atom first at `step`; `taken` is one more than the atom's row. Where there is no such
+-- step, they are i and 0.
 pub data FoundBefore (b : List ℕ) (p i : ℕ) : ℕ → ℕ → Type 0 where
-  none : {s : ℕ} → Unrefused b p i → FoundBefore b p i s 0
+  none : Unrefused b p i → FoundBefore b p i i 0
   one : {s : ℕ} → s < i → refusedFor b p s ≡ true → Unrefused b p s → FoundBefore b p i s (firstTaken (narration b) s + 1)

@@ -60,6 +60,13 @@ loop-again c =
     walked-on (start .pre) (in-loop .loop-test .taken) (at-loop .loop .inv) (after-act .act .ensures)
     (else1 .if1 .left) (c .next-own2 .ensures)
 
+-- nothing was found in the steps before `upto`
+returns-2 : in-walk tie.Need-returns-2
+returns-2 c =
+    let at-loop : in-walk tie.At-loop = search in
+    let after-loop : in-walk tie.After-loop = search in
+    walked-ends (at-loop .loop .inv) (after-loop .loop-test .left)
+
 pub walk-spec : {M : Type 1} → statement M
 walk-spec =
     tie.close
@@ -80,4 +87,4 @@ walk-spec =
     loop-again
     (λ c. search wrote-length)  -- same-length-3
     (λ c. search wrote-length)  -- same-length-4
-    (λ c. search walked-ends))  -- returns-2
+    returns-2)

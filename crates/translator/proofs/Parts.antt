@@ -39,7 +39,8 @@ module _ (b : List ℕ) (q : ℕ) where
   pub length-more : length (bodies (programsTo b (q + 1))) ≡ length (bodies (programsTo b q)) + length (partWords b q)
   length-more = ap length bodies-more ∙ length-append (bodies (programsTo b q)) (partWords b q)
 
-  pub heads-more : (o : ℕ) → heads o (programsTo b (q + 1)) ≡ heads o (programsTo b q) ++ (o + length (bodies (programsTo b q))) ∷ length (partWords b q) ∷ []
+  pub heads-more : (o : ℕ) → heads o (programsTo b (q + 1)) ≡ heads o (programsTo b q) ++ (o + length (bodies (programsTo b q)))
+      ∷ length (partWords b q) ∷ []
   heads-more o = ap (heads o) parts-more ∙ heads-last o (programsTo b q) (partWords b q)
 
 -- ---- two words for each party

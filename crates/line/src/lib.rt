@@ -1,5 +1,5 @@
 // The line that is printed of a listing, and of a refusal. `listing_line` and `refusal_line` leave exactly the line's bytes,
-// decimal with single spaces and one newline at the end; `print_answer` and `print_refusal` print it at once.
+// decimal with single spaces and one newline at the end; `print` writes it out, `print_answer` and `print_refusal` do both at once.
 use book::Refusal;
 use libc::STDOUT_FILENO;
 use translation::Answer;
@@ -139,7 +139,7 @@ pub fn refusal_line(line: &mut [u8], refusal: Refusal) -> usize
 
 // Writes a line out. All of it is handed over at once and the newline comes last, so that where a
 // write fails, what went out before has no newline.
-fn print(line: &[u8]) {
+pub fn print(line: &[u8]) {
     if !io::write_all(STDOUT_FILENO, line) {
         os::fail(b"standard output");
     }

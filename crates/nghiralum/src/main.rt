@@ -1,14 +1,18 @@
 // The program: reads a book from the file that its argument names, or from standard input, and prints its listing or its refusal
-// on one line. What is printed is `translator::translate`'s answer to the words that were read.
+// on one line. `reply` leaves exactly the line's bytes, for any bytes that were read; the rest reads and prints.
 use book::Refusal;
 use input::Input;
 use libc::STDERR_FILENO;
 use libc::STDIN_FILENO;
+use translation::Answer;
+ghost use mathlib.Core.Path.{_≡_};
 ghost use Prim.Native.Nat.{_≤_};
-ghost use lib.ListN.{length};
-ghost use Rattle.input.specs.Input.{Within};
+ghost use lib.ListN.{length, take};
+ghost use Rattle.io.specs.Counts.{Counts};
+ghost use Rattle.translation.specs.Outcome.{came};
+ghost use Rattle.nghiralum.specs.Reply.{outcomeOfBytes, replyLine};
 
-// What is read and lent at most.
+// What is read, lent and printed at most.
 struct Most {}
 
 impl Most {
@@ -18,42 +22,48 @@ impl Most {
     const BYTES: usize = 50404;
 
     const LENT: usize = 16384;
+
+    // A word takes up to eleven bytes of the line, as `line` counts them.
+    const LINE: usize = 180234;
 }
 
-// Reads the book's words; answers how many bytes they were.
-fn read_words(fd: i32, name: &[u8], words: &mut [u32]) -> Input
-    requires { ⌜ 12601 ≤ length (now words) ⌝ }
-    ensures { λ r. ⌜ Within r 50404 ⌝ }
+// What comes of the bytes that were read: the words that they make are translated into the lent words, and bytes that make no whole
+// words are too short for a book.
+fn outcome_of(bytes: &[u8], lent: &mut [u32]) -> Answer
+    requires { ⌜ length (now bytes) ≤ 50404 ⌝ }
+    ensures { λ r. ⌜ came r (now (lent .exit)) ≡ outcomeOfBytes (now (bytes .entry)) (now (lent .entry)) ⌝ }
 {
-    let mut bytes = [0u8; Most::BYTES];
-    let input = input::fill(fd, name, &mut bytes);
-    match input {
-        Input::Bytes(n) => {
-            input::load(&bytes[..n], words);
-            Input::Bytes(n)
-        }
-        Input::Failed => Input::Failed,
+    if bytes.len() % 4 != 0 {
+        return Answer::Refused(Refusal::Short);
     }
+    let mut words = [0u32; Most::WORDS];
+    input::load(bytes, &mut words);
+    translator::translate(&words[..bytes.len() / 4], lent)
 }
 
-// Translates a book, and prints what comes of it.
-fn answer(book: &[u32]) {
+// The line that is printed of the bytes that were read, into the front of `line`; answers its length.
+fn reply(bytes: &[u8], line: &mut [u8]) -> usize
+    requires { ⌜ (length (now bytes) ≤ 50404) × (180234 ≤ length (now line)) ⌝ }
+    ensures { λ r. ⌜ Counts r (now (line .exit)) ⌝ }
+    ensures { λ r. ⌜ take r (now (line .exit)) ≡ replyLine (now (bytes .entry)) ⌝ }
+{
     let mut lent = [0u32; Most::LENT];
-    let answer = translator::translate(book, &mut lent);
-    line::print_answer(answer, &lent);
+    let answer = outcome_of(bytes, &mut lent);
+    match answer {
+        Answer::Written(n) => line::listing_line(line, &lent[..n]),
+        Answer::Refused(refusal) => line::refusal_line(line, refusal),
+    }
 }
 
 // Reads a book from an open file, and prints what comes of it.
 fn run(fd: i32, name: &[u8]) {
-    let mut words = [0u32; Most::WORDS];
-    let input = read_words(fd, name, &mut words);
+    let mut bytes = [0u8; Most::BYTES];
+    let input = input::fill(fd, name, &mut bytes);
     match input {
         Input::Bytes(n) => {
-            if n % 4 == 0 {
-                answer(&words[..n / 4]);
-            } else {
-                line::print_refusal(Refusal::Short);
-            }
+            let mut line = [0u8; Most::LINE];
+            let end = reply(&bytes[..n], &mut line);
+            line::print(&line[..end]);
         }
         Input::Failed => {}
     }

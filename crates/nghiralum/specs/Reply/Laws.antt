@@ -5,6 +5,7 @@ use mathlib.Core.Path.{_≡_, refl, sym, _∙_, ap, ap₂}
 use native.Mathlib.Omega.{arith}
 use native.Mathlib.Decide.{ℕ-discrete}
 use lib.ListN.{length, getD, take}
+use lib.Seq.{take-append-seam}
 use borrow.Author.Tests.{eq-eqb, ne-eqb}
 use Rattle.words.specs.Choice.Laws.{pick-true, pick-false}
 use Rattle.words.specs.Run.{values}
@@ -14,8 +15,9 @@ use Rattle.book.specs.declared.Refusal.{Refusal}
 use Rattle.book.specs.Said.{Said, refusalSays}
 use Rattle.book.specs.Said.Laws.{refusal-number}
 use Rattle.line.specs.Line.{listingLine, refusalLine}
-use Rattle.translation.specs.Outcome.{Outcome, outcome, came}
-use Rattle.translation.specs.Outcome.Laws.{exactly-written, written-says}
+use Rattle.translation.specs.Listing.{listing}
+use Rattle.translation.specs.Outcome.{Outcome, outcome, came, Plays}
+use Rattle.translation.specs.Outcome.Laws.{exactly-written, written-says, written-past}
 use Rattle.translation.specs.declared.Answer.the-variants.{Written, Refused}
 use Rattle.nghiralum.specs.Reply.{wordsOf, oddBytes, outcomeOfBytes, lineOf}
 
@@ -66,3 +68,14 @@ line-written n new = pick-true _ _ _ (eq-eqb 0 0 refl)
 pub line-refused : (f : Refusal) (new : List ℕ) → lineOf (came (Refused f) new) ≡ refusalLine (refusalSays f)
 unfolding lineOf
 line-refused f new = pick-false _ _ _ (ne-eqb _ _ (refusal-number f))
+
+-- where there is room for the listing of a book that plays, the line is the listing's
+pub line-listing : (b lent : List ℕ) → Plays b → length (listing b) ≤ length lent → lineOf (outcome b lent) ≡ listingLine (listing b)
+unfolding lineOf outcome
+line-listing b lent plays room =
+    let says = written-says b lent plays room in
+    let accepted = ap (λ (s : Said). s .number) says in
+    let long = ap (λ (s : Said). getD (s .values) 0 0) says in
+    pick-true _ _ _ (eq-eqb _ _ accepted)
+    ∙ ap₂ (λ (n : ℕ) (ws : List ℕ). listingLine (take n ws)) long (written-past b lent accepted)
+    ∙ ap listingLine (take-append-seam (listing b) _)

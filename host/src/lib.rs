@@ -10,6 +10,7 @@ pub mod edits;
 pub mod files;
 pub mod frames;
 pub mod machine;
+pub mod mutants;
 pub mod narration;
 pub mod random;
 pub mod rehearse;

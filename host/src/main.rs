@@ -2,7 +2,9 @@
 //! is given, it ends with an answer or with one message on standard error and status 2.
 
 use host::shelf::Shelf;
-use host::{bench, compare, corpus, edits, files, frames, narration, random, rehearse, show, translate, words};
+use host::{
+    bench, compare, corpus, edits, files, frames, mutants, narration, random, rehearse, show, translate, words,
+};
 use std::io::{self, Write};
 use std::path::{Path, PathBuf};
 use std::process::ExitCode;
@@ -17,6 +19,7 @@ host words FILE [OUT]                   turn decimal words (# to the line's end 
 host books [--check] DIR                write (or only check) the files derived in a folder of books
 host shelf [--check] BOOKS CRATE        write (or only check) what the program shelf reads and prints
 host edits [--check] CRATES DOC         write (or only check) the page of the must-fail edits
+host mutants SEED COUNT                 ask the prover about random mutants of the sources, at the repository's top
 host random SEED COUNT DIR              write random books
 host compare PROGRAM PATH..             compare a program over books and folders of books
 host compare PROGRAM --random SEED COUNT   compare a program over random books
@@ -109,6 +112,10 @@ fn run(arguments: &[String]) -> Result<bool, String> {
             let edits = edits::Page::of(Path::new(crates))?;
             edits.write(Path::new(page))?;
             say(&format!("{} edits in {page} are written\n", edits.edits))?;
+        }
+        ["mutants", seed, count] => {
+            let (seed, count) = (number(seed)?, number(count)? as usize);
+            mutants::run(Path::new("."), "rt", seed, count, &mut io::stdout())?;
         }
         ["random", seed, count, folder] => {
             random::write(number(seed)?, number(count)? as usize, Path::new(folder))?;

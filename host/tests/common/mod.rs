@@ -80,6 +80,13 @@ pub fn top() -> PathBuf {
 /// A folder for one test's files, empty at first.
 pub struct Folder(PathBuf);
 
+/// Nothing of a test stays behind: a source that one made would be taken for one of the repository's that no crate has.
+impl Drop for Folder {
+    fn drop(&mut self) {
+        let _ = fs::remove_dir_all(&self.0);
+    }
+}
+
 impl Folder {
     pub fn new(name: &str) -> Folder {
         let folder = Path::new(env!("CARGO_TARGET_TMPDIR")).join(name);

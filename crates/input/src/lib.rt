@@ -2,9 +2,8 @@
 // `fill` says how many bytes came, never more than there is room for. Which bytes come is the system's.
 ghost use mathlib.Core.Path.{_≡_};
 ghost use Prim.Native.Nat.{_*_, _/_, _≤_};
-ghost use lib.ListN.{length};
-ghost use Rattle.input.specs.Filled.{Filled};
-ghost use Rattle.input.specs.Input.{wordOf, wordAt, Within};
+ghost use lib.ListN.{length, take};
+ghost use Rattle.input.specs.Input.{wordOf, wordsMade, Within};
 
 // How reading ended: so many bytes came, or it failed, which was told.
 pub enum Input {
@@ -22,7 +21,7 @@ pub fn word(a: u8, b: u8, c: u8, d: u8) -> u32
 // The words of the bytes, into the front of out.
 pub fn load(bytes: &[u8], out: &mut [u32])
     requires { ⌜ length (now bytes) ≤ 4 * length (now out) ⌝ }
-    ensures { λ _. ⌜ Filled (wordAt (now (bytes .entry))) (now (out .exit)) (length (now (bytes .entry)) / 4) ⌝ }
+    ensures { λ _. ⌜ take (length (now (bytes .entry)) / 4) (now (out .exit)) ≡ wordsMade (now (bytes .entry)) ⌝ }
 {
     let n = bytes.len() / 4;
     let mut i = 0;

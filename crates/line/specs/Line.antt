@@ -3,11 +3,15 @@
 use Prim.Native.Nat.{ℕ, _+_, _-_, _^_, _≤_, _<_}
 use mathlib.Core.Path.{_≡_}
 use mathlib.Core.List.{List, [], _∷_, _++_}
-use lib.ListN.{length, take}
-use lib.Dec.{ltb}
+use lib.ListN.{length, getD, take}
+use lib.Dec.{ltb, eqb}
 use Rattle.io.specs.Digits.{digits}
+use Rattle.words.specs.Choice.{pick}
 use Rattle.words.specs.First.{first}
 use Rattle.book.specs.Said.{Said, said}
+use Rattle.translation.specs.Outcome.{Outcome}
+use Rattle.translation.specs.declared.Answer.{Answer}
+use Rattle.translation.specs.declared.Answer.the-variants.{Written, Refused}
 use Rattle.line.specs.declared.Told.{Told}
 use Rattle.line.specs.declared.Told.the-variants.{One, Two}
 pub mod Laws
@@ -44,6 +48,15 @@ refusalText s = refused ++ spacedAll (s .number ∷ s .values)
 
 unfoldable pub refusalLine : Said → List ℕ
 refusalLine s = ended (refusalText s)
+
+-- the line of an outcome: on acceptance, of so many of the lent words as its value says, from the front on
+unfoldable pub lineOf : Outcome → List ℕ
+lineOf o = pick (eqb (o .says .number) 0) (listingLine (take (getD (o .says .values) 0 0) (o .lent))) (refusalLine (o .says))
+
+-- what is said to be written lies in the lent words
+abbrev pub Inside : Answer → ℕ → Type 0
+Inside (Written n) room = n ≤ room
+Inside (Refused f) room = Unit {0}
 
 -- a refusal as the program prints it
 abbrev pub toldSays : Told → Said

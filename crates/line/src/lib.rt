@@ -8,7 +8,8 @@ ghost use Prim.Native.Nat.{_+_, _*_, _<_, _≤_};
 ghost use lib.ListN.{length, take};
 ghost use Rattle.io.specs.Counts.{Counts};
 ghost use Rattle.book.specs.Said.{refusalSays};
-ghost use Rattle.line.specs.Line.{spacedAll, ended, toldSays, listingLine, refusalText, refusalLine, Put, PutNumber};
+ghost use Rattle.translation.specs.Outcome.{came};
+ghost use Rattle.line.specs.Line.{spacedAll, ended, toldSays, listingLine, refusalText, refusalLine, lineOf, Inside, Put, PutNumber};
 
 // What a line takes at most: of a listing of 16,384 words, and of a refusal.
 struct Most {}
@@ -135,6 +136,18 @@ pub fn refusal_line(line: &mut [u8], refusal: Refusal) -> usize
 {
     let at = put_told(line, told_of(refusal));
     end(line, at)
+}
+
+// The line of what a translation or a rehearsal came to: of its words, in front of what was lent, or of its refusal.
+pub fn answer_line(line: &mut [u8], answer: Answer, lent: &[u32]) -> usize
+    requires { ⌜ (11 * length (now lent) + 10 ≤ length (now line)) × (71 ≤ length (now line)) × Inside answer (length (now lent)) ⌝ }
+    ensures { λ r. ⌜ Counts r (now (line .exit)) ⌝ }
+    ensures { λ r. ⌜ take r (now (line .exit)) ≡ lineOf (came answer (now (lent .entry))) ⌝ }
+{
+    match answer {
+        Answer::Written(n) => listing_line(line, &lent[..n]),
+        Answer::Refused(refusal) => refusal_line(line, refusal),
+    }
 }
 
 // Writes a line out. All of it is handed over at once and the newline comes last, so that where a

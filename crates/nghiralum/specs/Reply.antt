@@ -1,20 +1,15 @@
 -- What the program prints of the bytes that it read. Rule G1: "words of four bytes, low byte first". G3: "If the number of bytes read
 -- is no multiple of four it says refusal 1, place 0". G4: "A listing is printed as its words". G5: "It lends 16,384 words".
-use Prim.Native.Nat.{ℕ, _/_, _%_}
+use Prim.Native.Nat.{ℕ, _%_}
 use mathlib.Core.List.{List, [], _∷_}
-use lib.ListN.{length, getD, take, replicate}
+use lib.ListN.{length, replicate}
 use lib.Dec.{eqb}
 use Rattle.words.specs.Choice.{pick}
-use Rattle.words.specs.Run.{values}
 use Rattle.book.specs.Said.{said}
-use Rattle.input.specs.Input.{wordAt}
+use Rattle.input.specs.Input.{wordsMade}
 use Rattle.translation.specs.Outcome.{Outcome, outcome}
-use Rattle.line.specs.Line.{listingLine, refusalLine}
+use Rattle.line.specs.Line.{lineOf}
 pub mod Laws
-
--- the words that the bytes make, four bytes a word
-abbrev pub wordsOf : List ℕ → List ℕ
-wordsOf bs = values (wordAt bs) 0 (length bs / 4)
 
 -- refusal 1, place 0: no lent word changes
 abbrev pub oddBytes : List ℕ → Outcome
@@ -22,11 +17,7 @@ oddBytes lent = record { says = said 1 (0 ∷ []); lent = lent }
 
 -- of the bytes bs and the lent words
 unfoldable pub outcomeOfBytes : List ℕ → List ℕ → Outcome
-outcomeOfBytes bs lent = pick (eqb (length bs % 4) 0) (outcome (wordsOf bs) lent) (oddBytes lent)
-
--- the line of an outcome: on acceptance, of so many of the lent words as its value says, from the front on
-unfoldable pub lineOf : Outcome → List ℕ
-lineOf o = pick (eqb (o .says .number) 0) (listingLine (take (getD (o .says .values) 0 0) (o .lent))) (refusalLine (o .says))
+outcomeOfBytes bs lent = pick (eqb (length bs % 4) 0) (outcome (wordsMade bs) lent) (oddBytes lent)
 
 -- the words that the program lends
 abbrev pub lentWords : List ℕ

@@ -41,18 +41,15 @@ fn outcome_of(bytes: &[u8], lent: &mut [u32]) -> Answer
     translator::translate(&words[..bytes.len() / 4], lent)
 }
 
-// The line that is printed of the bytes that were read, into the front of `line`; answers its length.
-fn reply(bytes: &[u8], line: &mut [u8]) -> usize
-    requires { ⌜ (length (now bytes) ≤ 50404) × (180234 ≤ length (now line)) ⌝ }
+// The line that is printed of the first n bytes of those that there was room for, into the front of `line`; answers its length.
+fn reply(read: &[u8], n: usize, line: &mut [u8]) -> usize
+    requires { ⌜ (length (now read) ≡ 50404) × (n ≤ 50404) × (180234 ≤ length (now line)) ⌝ }
     ensures { λ r. ⌜ Counts r (now (line .exit)) ⌝ }
-    ensures { λ r. ⌜ take r (now (line .exit)) ≡ replyLine (now (bytes .entry)) ⌝ }
+    ensures { λ r. ⌜ take r (now (line .exit)) ≡ replyLine (take n (now (read .entry))) ⌝ }
 {
     let mut lent = [0u32; Most::LENT];
-    let answer = outcome_of(bytes, &mut lent);
-    match answer {
-        Answer::Written(n) => line::listing_line(line, &lent[..n]),
-        Answer::Refused(refusal) => line::refusal_line(line, refusal),
-    }
+    let answer = outcome_of(&read[..n], &mut lent);
+    line::answer_line(line, answer, &lent)
 }
 
 // Reads a book from an open file, and prints what comes of it.
@@ -62,7 +59,7 @@ fn run(fd: i32, name: &[u8]) {
     match input {
         Input::Bytes(n) => {
             let mut line = [0u8; Most::LINE];
-            let end = reply(&bytes[..n], &mut line);
+            let end = reply(&bytes, n, &mut line);
             line::print(&line[..end]);
         }
         Input::Failed => {}

@@ -6,7 +6,7 @@ use native.Mathlib.Omega.{arith}
 use lib.ListN.{length}
 use borrow.Author.Needs.{needs}
 use Rattle.input.specs.Filled.{Filled}
-use Rattle.input.specs.Filled.Laws.{filled-more}
+use Rattle.input.specs.Filled.Laws.{filled-more, filled-front}
 use Rattle.input.specs.Input.{wordAt}
 use Rattle.input.proofs.load.Statement.{statement}
 use Rattle.input.proofs.load.Tie as tie
@@ -34,7 +34,9 @@ loop-again c =
 returns : tie.Need-returns Inv-loop μ-loop
 returns c =
     let at-loop : tie.At-loop Inv-loop μ-loop = search in
-    λ i h. at-loop .loop .inv .2 i (omega arith)
+    let start : tie.Start Inv-loop μ-loop = search in
+    filled-front (wordAt (start .args .bytes .now)) (at-loop .loop .out) _ (omega arith)
+    (λ k l. at-loop .loop .inv .2 k (omega arith))
 
 pub load-spec : {M : Type 1} → statement M
 load-spec =

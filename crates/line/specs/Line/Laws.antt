@@ -1,23 +1,32 @@
--- Laws of the line: texts put one behind another, the digits that a number takes, numbers behind a text, the newline. Assumes nothing.
+-- Laws of the line: texts put one behind another, the digits that a number takes, numbers behind a text, the newline, and the line of
+-- what came of a call. Assumes nothing.
 use Prim.Native.Nat.{ℕ, suc, _+_, _-_, _^_, _≤_, _<_}
-use mathlib.Core.Path.{_≡_, refl, sym, _∙_, ap}
+use mathlib.Core.Path.{_≡_, refl, sym, _∙_, ap, ap₂}
 use mathlib.Core.List.{List, [], _∷_, _++_, append-assoc, append-nil}
 use native.Mathlib.Omega.{arith}
 use native.Mathlib.Numerals.{add-one}
 use native.Mathlib.Decide.{decLt}
 use native.Mathlib.Nat.{pow-le-pow-right}
 use lib.ListN.{length, take, set, getD, length-append, length-set}
-use lib.Seq.{take-suc, take-suc-set, take-take, length-take-le, take-length, paste, take-paste}
+use lib.Seq.{take-suc, take-suc-set, take-take, length-take-le, take-length, take-append-seam, paste, take-paste}
 use lib.Dec.{ltb}
-use borrow.Author.Tests.{lt-ltb, le-ltb}
+use borrow.Author.Tests.{lt-ltb, le-ltb, eq-eqb, ne-eqb}
 use Rattle.io.specs.Counts.{Counts}
 use Rattle.io.specs.Digits.{digits, Fewest}
+use Rattle.words.specs.Choice.Laws.{pick-true, pick-false}
 use Rattle.words.specs.First.{first, firstFrom}
 use Rattle.words.specs.First.Laws.{first-is}
-use Rattle.book.specs.Said.{said}
+use Rattle.book.specs.declared.Refusal.{Refusal}
+use Rattle.book.specs.Said.{Said, said, refusalSays}
+use Rattle.book.specs.Said.Laws.{refusal-number}
+use Rattle.translation.specs.Listing.{listing}
+use Rattle.translation.specs.Outcome.{Outcome, outcome, came, Plays}
+use Rattle.translation.specs.Outcome.Laws.{exactly-written, written-says, written-past}
+use Rattle.translation.specs.declared.Answer.{Answer}
+use Rattle.translation.specs.declared.Answer.the-variants.{Written, Refused}
 use Rattle.line.specs.declared.Told.{Told}
 use Rattle.line.specs.declared.Told.the-variants.{One, Two}
-use Rattle.line.specs.Line.{places, decimal, spaced, spacedAll, ended, listingLine, refused, refusalText, refusalLine, toldSays, Put}
+use Rattle.line.specs.Line.{places, decimal, spaced, spacedAll, ended, listingLine, refused, refusalText, refusalLine, lineOf, Inside, toldSays, Put}
 
 -- ---- Put
 -- a text that was copied to its end
@@ -156,3 +165,38 @@ listing-shown = refl
 pub refusal-shown : refusalLine (said 10 (1 ∷ 3 ∷ [])) ≡ refused ++ 49 ∷ 48 ∷ 32 ∷ 49 ∷ 32 ∷ 51 ∷ 10 ∷ []
 unfolding refusalLine ended spacedAll spaced decimal places first firstFrom
 refusal-shown = refl
+
+-- ---- lineOf
+-- the line of what came of a call
+pub line-written : (n : ℕ) (new : List ℕ) → lineOf (came (Written n) new) ≡ listingLine (take n new)
+unfolding lineOf
+line-written n new = pick-true _ _ _ (eq-eqb 0 0 refl)
+
+pub line-refused : (f : Refusal) (new : List ℕ) → lineOf (came (Refused f) new) ≡ refusalLine (refusalSays f)
+unfolding lineOf
+line-refused f new = pick-false _ _ _ (ne-eqb _ _ (refusal-number f))
+
+-- what is written lies in the lent words: as the code has it
+pub inside-written : {a : Answer} {n room : ℕ} → a ≡ Written n → Inside a room → n ≤ room
+inside-written e h = rw e at h
+
+-- of a translation
+pub inside-outcome : (a : Answer) (b lent new : List ℕ) {room : ℕ} → came a new ≡ outcome b lent → length lent ≤ room → Inside a room
+unfolding outcome
+inside-outcome (Written n) b lent new e h =
+    let says = ap (λ (o : Outcome). o .says) e in
+    let fits = exactly-written b lent .0 (sym (ap (λ (s : Said). s .number) says)) in
+    let long = ap (λ (s : Said). getD (s .values) 0 0) (says ∙ written-says b lent (fits .0) (fits .1)) in
+    omega (arith, fits .1)
+inside-outcome (Refused f) b lent new e h = tt
+
+-- where there is room for the listing of a book that plays, the line is the listing's
+pub line-listing : (b lent : List ℕ) → Plays b → length (listing b) ≤ length lent → lineOf (outcome b lent) ≡ listingLine (listing b)
+unfolding lineOf outcome
+line-listing b lent plays room =
+    let says = written-says b lent plays room in
+    let accepted = ap (λ (s : Said). s .number) says in
+    let long = ap (λ (s : Said). getD (s .values) 0 0) says in
+    pick-true _ _ _ (eq-eqb _ _ accepted)
+    ∙ ap₂ (λ (n : ℕ) (ws : List ℕ). listingLine (take n ws)) long (written-past b lent accepted)
+    ∙ ap listingLine (take-append-seam (listing b) _)

@@ -1,12 +1,9 @@
 -- `nghiralum::outcome_of` meets its contract: whole words are translated, and other bytes are refused. Assumes nothing.
-use mathlib.Core.Path.{_∙_, sym, ap}
-use mathlib.Core.List.{List}
-use Prim.Native.Nat.{ℕ}
+use mathlib.Core.Path.{refl, sym}
 use native.Mathlib.Omega.{arith}
 use lib.ListN.{length-take}
 use borrow.Author.Needs.{needs}
-use Rattle.translation.specs.Outcome.{outcome}
-use Rattle.nghiralum.specs.Reply.Laws.{words-made, of-words, of-odd-bytes}
+use Rattle.nghiralum.specs.Reply.Laws.{of-handed, of-odd-bytes}
 use Rattle.nghiralum.proofs.outcome_of.Statement.{statement}
 use Rattle.nghiralum.proofs.outcome_of.Tie as tie
 
@@ -23,11 +20,8 @@ returns-2 c =
     let after-load : tie.After-load = search in
     let else1 : tie.Else1 = search in
     let start : tie.Start = search in
-    let bytes = start .args .bytes .now in
-    let lent = start .args .lent .now in
-    let made = words-made bytes _ (after-load .load .ensures) in
-    after-translate .translate .ensures ∙ ap (λ (b : List ℕ). outcome b lent) (made (omega arith))
-    ∙ sym (of-words bytes lent (else1 .if1 .left))
+    let handed = of-handed (start .args .bytes .now) _ (start .args .lent .now) _ (else1 .if1 .left) in
+    handed (after-load .load .ensures) (after-translate .translate .ensures) refl
 
 pub outcome-of-spec : {M : Type 1} → statement M
 outcome-of-spec =

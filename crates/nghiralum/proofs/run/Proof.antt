@@ -1,16 +1,24 @@
 -- `nghiralum::run` meets its contract: the bytes that came are no more than there was room for. Assumes nothing.
-use Prim.Native.Nat.{_≤_}
+use Prim.Native.Nat.{ℕ, _≤_}
+use mathlib.Core.Path.{_≡_}
 use native.Mathlib.Omega.{arith}
-use lib.ListN.{length-take}
 use borrow.Author.Needs.{needs}
+use Rattle.input.specs.Input.{Within}
+use Rattle.input.specs.declared.Input.{Input}
+use Rattle.input.specs.declared.Input.the-variants.{Bytes}
 use Rattle.nghiralum.proofs.run.Statement.{statement}
 use Rattle.nghiralum.proofs.run.Tie as tie
 
--- where bytes came, they are as many as `fill` says
-few : (c : tie.After-input) → c .input .given .0 .0 ≤ 50404
-few c =
+come : {input : Input} {n room : ℕ} → input ≡ Bytes n → Within input room → n ≤ room
+come e within = rw e at within
+
+-- as many bytes as `reply` answers for were asked for, and no more came than there was room for
+reply-requires : tie.Need-reply-requires
+reply-requires c κs =
+    let after-input : tie.After-input = search in
     let after-fill : tie.After-fill = search in
-    rw (c .input .given .1) at (after-fill .fill .ensures)
+    let few = come (after-input .input .given .1) (after-fill .fill .ensures) in
+    (search needs, omega arith, search needs)
 
 pub run-spec : {M : Type 1} → statement M
 run-spec =
@@ -19,10 +27,9 @@ run-spec =
     (λ c. search needs)  -- slice-aggregate-fill
     (λ c κs. search needs)  -- fill-requires
     (λ c. search needs)  -- enum-known-input
-    (λ c. omega (arith, few (search)))  -- array-share-prefix-bytes
-    (λ c. simp length-take (omega (arith, few (search))))  -- slice-aggregate-reply
+    (λ c. search needs)  -- slice-aggregate-reply
     (λ c. search needs)  -- slice-aggregate-reply-2
-    (λ c κs. simp length-take (omega (arith, few (search))))  -- reply-requires
+    reply-requires
     (λ c. search needs)  -- array-share-prefix-line
     (λ c. search needs)  -- slice-aggregate-print
     (λ c κs. search needs)  -- print-requires

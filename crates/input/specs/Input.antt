@@ -5,6 +5,7 @@ use lib.ListN.{length, getD}
 use Rattle.words.specs.Run.{values}
 use Rattle.input.specs.declared.Input.{Input}
 use Rattle.input.specs.declared.Input.the-variants.{Bytes, Failed}
+pub mod Laws
 
 -- the word of four bytes
 abbrev pub wordOf : ℕ → ℕ → ℕ → ℕ → ℕ

@@ -1,5 +1,5 @@
-// The line that is printed of a listing, and of a refusal. `listing_line` and `refusal_line` leave exactly the line's bytes,
-// decimal with single spaces and one newline at the end; `print` writes it out, `print_answer` and `print_refusal` do both at once.
+// The line that is printed of an answer: of a listing, and of a refusal. `answer_line` leaves exactly the line's bytes, decimal with
+// single spaces and one newline at the end; `print` writes them out.
 use book::Refusal;
 use libc::STDOUT_FILENO;
 use translation::Answer;
@@ -10,17 +10,6 @@ ghost use Rattle.io.specs.Counts.{Counts};
 ghost use Rattle.book.specs.Said.{refusalSays};
 ghost use Rattle.translation.specs.Outcome.{came};
 ghost use Rattle.line.specs.Line.{spacedAll, ended, toldSays, listingLine, refusalText, refusalLine, lineOf, Inside, Put, PutNumber};
-
-// What a line takes at most: of a listing of 16,384 words, and of a refusal.
-struct Most {}
-
-impl Most {
-    // A word takes up to eleven bytes of the line, with the space behind it. Another number can take
-    // twenty-one, and wherever a number is put, there is room for that.
-    const LISTING: usize = 180234;
-
-    const REFUSAL: usize = 71;
-}
 
 // A refusal as it is printed: its number with one value, or with two.
 enum Told {
@@ -60,7 +49,8 @@ fn put_text(line: &mut [u8], at: usize, text: &[u8]) -> usize
     at + text.len()
 }
 
-// The same for a number in decimal with a space behind it.
+// The same for a number in decimal with a space behind it. A word takes up to eleven bytes of the line; another number can take
+// twenty-one, and wherever a number is put, there is room for that.
 fn put_number(line: &mut [u8], at: usize, x: u64) -> usize
     requires { ⌜ at + 21 ≤ length (now line) ⌝ }
     ensures { λ r. ⌜ PutNumber x (now (line .entry)) at (now (line .exit)) r ⌝ }
@@ -120,7 +110,7 @@ fn end(line: &mut [u8], at: usize) -> usize
 }
 
 // The line of a listing, and of a refusal.
-pub fn listing_line(line: &mut [u8], words: &[u32]) -> usize
+fn listing_line(line: &mut [u8], words: &[u32]) -> usize
     requires { ⌜ 11 * length (now words) + 10 ≤ length (now line) ⌝ }
     ensures { λ r. ⌜ Counts r (now (line .exit)) ⌝ }
     ensures { λ r. ⌜ take r (now (line .exit)) ≡ listingLine (now (words .entry)) ⌝ }
@@ -129,7 +119,7 @@ pub fn listing_line(line: &mut [u8], words: &[u32]) -> usize
     end(line, at)
 }
 
-pub fn refusal_line(line: &mut [u8], refusal: Refusal) -> usize
+fn refusal_line(line: &mut [u8], refusal: Refusal) -> usize
     requires { ⌜ 71 ≤ length (now line) ⌝ }
     ensures { λ r. ⌜ Counts r (now (line .exit)) ⌝ }
     ensures { λ r. ⌜ take r (now (line .exit)) ≡ refusalLine (refusalSays refusal) ⌝ }
@@ -150,40 +140,10 @@ pub fn answer_line(line: &mut [u8], answer: Answer, lent: &[u32]) -> usize
     }
 }
 
-// Writes a line out. All of it is handed over at once and the newline comes last, so that where a
-// write fails, what went out before has no newline.
+// Writes a line out, or several. All of it is handed over at once and a newline comes last, so that where a write fails, what went
+// out before is seen not to be whole.
 pub fn print(line: &[u8]) {
     if !io::write_all(STDOUT_FILENO, line) {
         os::fail(b"standard output");
-    }
-}
-
-fn print_listing(words: &[u32])
-    requires { ⌜ length (now words) ≤ 16384 ⌝ }
-{
-    let mut line = [0u8; Most::LISTING];
-    let n = listing_line(&mut line, words);
-    print(&line[..n]);
-}
-
-pub fn print_refusal(refusal: Refusal) {
-    let mut line = [0u8; Most::REFUSAL];
-    let n = refusal_line(&mut line, refusal);
-    print(&line[..n]);
-}
-
-// Prints what a translation or a rehearsal came to: its words, in front of what was lent, or its
-// refusal.
-pub fn print_answer(answer: Answer, lent: &[u32])
-    requires { ⌜ length (now lent) ≤ 16384 ⌝ }
-{
-    match answer {
-        Answer::Written(n) => {
-            // It always is. With the test nothing has to be known of the words here.
-            if n <= lent.len() {
-                print_listing(&lent[..n]);
-            }
-        }
-        Answer::Refused(refusal) => print_refusal(refusal),
     }
 }

@@ -3,7 +3,7 @@ use Prim.Native.Nat.{_≤_}
 use Rattle.shelf.specs.declared.Next.{Next}
 use Rattle.shelf.specs.declared.Next.the-variants.{Book, Nothing}
 
--- no more words came than there is room for
+-- no more bytes came than there is room for
 abbrev pub Fits : Next → Type 0
-Fits (Book n) = n ≤ 12601
+Fits (Book n) = n ≤ 50404
 Fits Nothing = Unit {0}

@@ -8,7 +8,7 @@ use native.Mathlib.Numerals.{add-one}
 use native.Mathlib.Decide.{decLt}
 use native.Mathlib.Nat.{pow-le-pow-right}
 use lib.ListN.{length, take, set, getD, length-append, length-set}
-use lib.Seq.{take-suc, take-suc-set, take-take, length-take-le, take-length, take-append-seam, paste, take-paste}
+use lib.Seq.{take-suc, take-suc-set, take-take, length-take-le, take-length, take-append-seam, take-append-le, take-append-add, paste, take-paste}
 use lib.Dec.{ltb}
 use borrow.Author.Tests.{lt-ltb, le-ltb, eq-eqb, ne-eqb}
 use Rattle.io.specs.Counts.{Counts}
@@ -40,11 +40,23 @@ put-paste {o} {text} {n} {at} p e h =
       next = refl;
     }
 
+-- a text that was left in front of a part, from place `at` on
+pub put-part : (old part rest : List ℕ) (at n : ℕ) {text : List ℕ} → at ≤ length old → Counts n part → take n part ≡ text
+    → Put text old at (take at old ++ (part ++ rest)) (at + n)
+put-part old part rest at n h (few, all) e =
+    let front : take (at + n) (take at old ++ (part ++ rest)) ≡ take at old ++ take n (part ++ rest) =
+    rw (length-take-le at old h) at (take-append-add (take at old) (part ++ rest) n)
+    in
+    record {
+      front = front ∙ ap (λ (l : List ℕ). take at old ++ l) (take-append-le n part rest few ∙ e);
+      next = ap (λ (m : ℕ). at + m) (all ∙ ap length e);
+    }
+
 put-one : (l : List ℕ) (at x : ℕ) → at < length l → Put (x ∷ []) l at (set l at x) (at + 1)
 put-one l at x h = record { front = rw add-one (take-suc-set l at x h); next = refl }
 
 -- one text behind another
-put-then : {t u o m n : List ℕ} {a p r : ℕ} → Put t o a m p → Put u m p n r → Put (t ++ u) o a n r
+pub put-then : {t u o m n : List ℕ} {a p r : ℕ} → Put t o a m p → Put u m p n r → Put (t ++ u) o a n r
 put-then {t} {u} {o} {a = a} x y =
     record {
       front = y .front ∙ ap (λ (l : List ℕ). l ++ u) (x .front) ∙ append-assoc (take a o) t u;
@@ -141,9 +153,12 @@ module _ {told : Told} {number place : ℕ} {o l m new : List ℕ} {a b r : ℕ}
       ∙ ap (λ s. refusalText (toldSays s)) (sym e)
 
 -- ---- ended
+pub counts-within : (n : ℕ) (l : List ℕ) → n ≤ length l → Counts n l
+counts-within n l h = (h, sym (length-take-le n l h))
+
 -- a byte that is written leaves as many to count
 pub counts-set : (n : ℕ) (l : List ℕ) (at x : ℕ) → n ≤ length l → Counts n (set l at x)
-counts-set n l at x h = (simp length-set h, sym (length-take-le n (set l at x) (simp length-set h)))
+counts-set n l at x h = counts-within n (set l at x) (simp length-set h)
 
 -- the newline, behind a text and in an empty line
 pub ended-some : (l : List ℕ) (end : ℕ) → 0 < end → end ≤ length l → take end (set l (end - 1) 10) ≡ ended (take end l)

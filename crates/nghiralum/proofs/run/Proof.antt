@@ -1,23 +1,16 @@
 -- `nghiralum::run` meets its contract: the bytes that came are no more than there was room for. Assumes nothing.
-use Prim.Native.Nat.{ℕ, _≤_}
-use mathlib.Core.Path.{_≡_}
 use native.Mathlib.Omega.{arith}
 use borrow.Author.Needs.{needs}
-use Rattle.input.specs.Input.{Within}
-use Rattle.input.specs.declared.Input.{Input}
-use Rattle.input.specs.declared.Input.the-variants.{Bytes}
+use Rattle.input.specs.Input.Laws.{within-bytes}
 use Rattle.nghiralum.proofs.run.Statement.{statement}
 use Rattle.nghiralum.proofs.run.Tie as tie
-
-come : {input : Input} {n room : ℕ} → input ≡ Bytes n → Within input room → n ≤ room
-come e within = rw e at within
 
 -- as many bytes as `reply` answers for were asked for, and no more came than there was room for
 reply-requires : tie.Need-reply-requires
 reply-requires c κs =
     let after-input : tie.After-input = search in
     let after-fill : tie.After-fill = search in
-    let few = come (after-input .input .given .1) (after-fill .fill .ensures) in
+    let few = within-bytes (after-input .input .given .1) (after-fill .fill .ensures) in
     (search needs, omega arith, search needs)
 
 pub run-spec : {M : Type 1} → statement M

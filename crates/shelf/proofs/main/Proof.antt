@@ -1,5 +1,5 @@
--- `shelf::main` meets its contract: a turn that goes on leaves fewer books; what came has room in the words.
--- Assumes nothing.
+-- `shelf::main` meets its contract: a turn that goes on leaves fewer books; what came has room in the bytes, and its
+-- lines in theirs. Assumes nothing.
 use Prim.Native.Nat.{_-_, _≤_}
 use mathlib.Core.Path.{_≡_}
 use native.Mathlib.Omega.{arith}
@@ -9,13 +9,13 @@ use Rattle.shelf.proofs.main.Statement.{statement}
 use Rattle.shelf.proofs.main.Tie as tie
 
 abbrev Inv-loop : tie.InvT-loop
-Inv-loop words₀ books₀ t4 words books = (books ≤ 65536) × (length words ≡ 12601)
+Inv-loop bytes₀ out₀ books₀ t6 bytes out books = (books ≤ 65536) × (length bytes ≡ 50404) × (length out ≡ 181350)
 
 abbrev μ-loop : tie.MeasureT-loop
-μ-loop words₀ books₀ t4 words books = 65536 - books
+μ-loop bytes₀ out₀ books₀ t6 bytes out books = 65536 - books
 
--- where a book came, it has as many words as `read_book` says: no more than there is room for
-few : (c : tie.After-n Inv-loop μ-loop) → c .n .given .0 .0 ≤ 12601
+-- where a book came, it has as many bytes as `read_book` says: no more than there is room for
+few : (c : tie.After-n Inv-loop μ-loop) → c .n .given .0 .0 ≤ 50404
 few c =
     let after-read-book : tie.After-read-book Inv-loop μ-loop = search in
     rw (c .n .given .1) at (after-read-book .read-book .ensures)
@@ -32,9 +32,13 @@ main-spec =
     (λ c. search needs)  -- enum-known-n
     (λ c. search needs)  -- enum-told
     (λ c. search needs)  -- returns
-    (λ c. omega (arith, few (search)))  -- array-share-prefix-words
-    (λ c. simp length-take (omega (arith, few (search))))  -- slice-aggregate-trial
-    (λ c κs. search needs)  -- trial-requires
+    (λ c. omega (arith, few (search)))  -- array-share-prefix-bytes
+    (λ c. simp length-take (omega (arith, few (search))))  -- slice-aggregate-lines-of
+    (λ c. search needs)  -- slice-aggregate-lines-of-2
+    (λ c κs. simp length-take (omega (arith, few (search))))  -- lines-of-requires
+    (λ c. search needs)  -- array-share-prefix-out
+    (λ c. search needs)  -- slice-aggregate-print
+    (λ c κs. search needs)  -- print-requires
     (λ c. search needs)  -- add-books
     (λ c. search needs)  -- loop-less
     (λ c. search needs)  -- loop-again

@@ -1,9 +1,11 @@
 -- `nghiralum::outcome_of` meets its contract: whole words are translated, and other bytes are refused. Assumes nothing.
-use mathlib.Core.Path.{refl, sym}
+use mathlib.Core.Path.{refl, sym, _∙_}
 use native.Mathlib.Omega.{arith}
 use lib.ListN.{length-take}
 use borrow.Author.Needs.{needs}
-use Rattle.nghiralum.specs.Reply.Laws.{of-handed, of-odd-bytes}
+use Rattle.input.specs.Input.Laws.{of-made}
+use Rattle.translation.specs.Outcome.{outcome}
+use Rattle.nghiralum.specs.Reply.Laws.{of-words, of-odd-bytes}
 use Rattle.nghiralum.proofs.outcome_of.Statement.{statement}
 use Rattle.nghiralum.proofs.outcome_of.Tie as tie
 
@@ -20,8 +22,10 @@ returns-2 c =
     let after-load : tie.After-load = search in
     let else1 : tie.Else1 = search in
     let start : tie.Start = search in
-    let handed = of-handed (start .args .bytes .now) _ (start .args .lent .now) _ (else1 .if1 .left) in
-    handed (after-load .load .ensures) (after-translate .translate .ensures) refl
+    let bytes = start .args .bytes .now in
+    let lent = start .args .lent .now in
+    of-made (λ b. outcome b lent) bytes _ _ (after-load .load .ensures) (after-translate .translate .ensures) refl
+    ∙ sym (of-words bytes lent (else1 .if1 .left))
 
 pub outcome-of-spec : {M : Type 1} → statement M
 outcome-of-spec =

@@ -1,10 +1,10 @@
 -- Laws of what comes of the bytes: whole words are translated, other bytes are refused, and what is written had room. Assumes nothing.
-use Prim.Native.Nat.{ℕ, _/_, _%_, _≤_}
+use Prim.Native.Nat.{ℕ, _%_, _≤_}
 use mathlib.Core.List.{List}
-use mathlib.Core.Path.{_≡_, sym, _∙_, ap}
+use mathlib.Core.Path.{_≡_, _∙_, ap}
 use native.Mathlib.Omega.{arith}
 use native.Mathlib.Decide.{ℕ-discrete}
-use lib.ListN.{length, take}
+use lib.ListN.{length}
 use borrow.Author.Tests.{eq-eqb, ne-eqb}
 use Rattle.words.specs.Choice.Laws.{pick-true, pick-false}
 use Rattle.input.specs.Input.{wordsMade}
@@ -18,11 +18,6 @@ use Rattle.nghiralum.specs.Reply.{oddBytes, outcomeOfBytes}
 pub of-words : (bs lent : List ℕ) → length bs % 4 ≡ 0 → outcomeOfBytes bs lent ≡ outcome (wordsMade bs) lent
 unfolding outcomeOfBytes
 of-words bs lent e = pick-true _ _ _ (eq-eqb _ _ e)
-
--- the words ws that are handed over are so many of the list that was filled with them
-pub of-handed : (bs words lent ws : List ℕ) {o : Outcome} → length bs % 4 ≡ 0 → take (length bs / 4) words ≡ wordsMade bs
-    → o ≡ outcome ws lent → ws ≡ take (length bs / 4) words → o ≡ outcomeOfBytes bs lent
-of-handed bs words lent ws whole made e all = e ∙ ap (λ (b : List ℕ). outcome b lent) (all ∙ made) ∙ sym (of-words bs lent whole)
 
 pub of-odd-bytes : (bs lent : List ℕ) → (length bs % 4 ≡ 0 → ⊥) → outcomeOfBytes bs lent ≡ oddBytes lent
 unfolding outcomeOfBytes

@@ -1,8 +1,9 @@
 -- `shelf::lines_of` meets its contract: the lines are those of the words that the bytes make. Assumes nothing.
-use mathlib.Core.Path.{_∙_, ap}
+use mathlib.Core.Path.{refl}
 use native.Mathlib.Omega.{arith}
 use lib.ListN.{length-take}
 use borrow.Author.Needs.{needs}
+use Rattle.input.specs.Input.Laws.{of-made}
 use Rattle.shelf.specs.Lines.{bookLines}
 use Rattle.shelf.proofs.lines_of.Statement.{statement}
 use Rattle.shelf.proofs.lines_of.Tie as tie
@@ -11,8 +12,9 @@ returns : tie.Need-returns
 returns c =
     let after-seven-lines : tie.After-seven-lines = search in
     let after-load : tie.After-load = search in
+    let start : tie.Start = search in
     let (counts, lines) = after-seven-lines .seven-lines .ensures in
-    (counts, lines ∙ ap bookLines (after-load .load .ensures))
+    (counts, of-made bookLines (start .args .bytes .now) _ _ (after-load .load .ensures) lines refl)
 
 pub lines-of-spec : {M : Type 1} → statement M
 lines-of-spec =

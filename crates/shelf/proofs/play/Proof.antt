@@ -1,15 +1,9 @@
 -- `shelf::play` meets its contract: the line is the one of what came of the rehearsal, under the schedule that was
 -- made (`fill_turns`); what was written lies in the lent words (`inside-rehearsal`). Assumes nothing.
-use Prim.Native.Nat.{ℕ}
-use mathlib.Core.Path.{_∙_, ap}
-use mathlib.Core.List.{List}
+use mathlib.Core.Path.{refl, _∙_}
 use native.Mathlib.Omega.{arith}
-use lib.ListN.{replicate}
 use borrow.Author.Needs.{needs}
-use Rattle.playing.specs.Rehearsal.{rehearsal}
-use Rattle.line.specs.Line.{lineOf}
-use Rattle.shelf.specs.Lines.{rehearsedLine}
-use Rattle.shelf.specs.Lines.Laws.{inside-rehearsal}
+use Rattle.shelf.specs.Lines.Laws.{inside-rehearsal, rehearsed-came}
 use Rattle.shelf.proofs.play.Statement.{statement}
 use Rattle.shelf.proofs.play.Tie as tie
 
@@ -22,7 +16,6 @@ answer-line-requires c κs =
 
 -- the line of what came of the schedule
 returns : tie.Need-returns
-unfolding rehearsedLine
 returns c =
     let after-answer-line : tie.After-answer-line = search in
     let after-rehearse : tie.After-rehearse = search in
@@ -30,8 +23,8 @@ returns c =
     let start : tie.Start = search in
     let book = start .args .book .now in
     let (counts, line) = after-answer-line .answer-line .ensures in
-    let under = ap (λ (ms : List ℕ). lineOf (rehearsal book ms (replicate 16 0))) (after-fill-turns .fill-turns .ensures) in
-    (counts, line ∙ ap lineOf (after-rehearse .rehearse .ensures) ∙ under)
+    let turns = after-fill-turns .fill-turns .ensures in
+    (counts, line ∙ rehearsed-came book _ _ _ _ _ _ (after-rehearse .rehearse .ensures) turns refl)
 
 pub play-spec : {M : Type 1} → statement M
 play-spec =

@@ -1,12 +1,10 @@
 -- `line::answer_line` meets its contract: by the answer (`line-written`, `line-refused`); what was written lies in
 -- the lent words. Assumes nothing.
 use Prim.Native.Nat.{_≤_}
-use mathlib.Core.Path.{_∙_, sym, ap}
+use mathlib.Core.Path.{refl}
 use native.Mathlib.Omega.{arith}
 use lib.ListN.{length, length-take}
 use borrow.Author.Needs.{needs}
-use Rattle.translation.specs.Outcome.{came}
-use Rattle.line.specs.Line.{lineOf}
 use Rattle.line.specs.Line.Laws.{line-written, line-refused, inside-written}
 use Rattle.line.proofs.answer_line.Statement.{statement}
 use Rattle.line.proofs.answer_line.Tie as tie
@@ -25,9 +23,9 @@ returns c =
     let after-listing-line : tie.After-listing-line = search in
     let after-answer : tie.After-answer = search in
     let start : tie.Start = search in
-    let lent = start .args .lent .now in
+    let given = after-answer .answer .given in
     let (counts, line) = after-listing-line .listing-line .ensures in
-    (counts, line ∙ sym (line-written _ lent) ∙ ap (λ a. lineOf (came a lent)) (sym (after-answer .answer .given .1)))
+    (counts, line-written _ (start .args .lent .now) (given .0 .0) _ (given .1) line refl)
 
 -- the line of the refusal
 returns-2 : tie.Need-returns-2
@@ -35,10 +33,9 @@ returns-2 c =
     let after-refusal-line : tie.After-refusal-line = search in
     let after-answer : tie.After-answer2 = search in
     let start : tie.Start = search in
-    let lent = start .args .lent .now in
-    let (counts, line) = after-refusal-line .refusal-line .ensures in
     let given = after-answer .answer2 .given in
-    (counts, line ∙ sym (line-refused (given .0 .0) lent) ∙ ap (λ a. lineOf (came a lent)) (sym (given .1)))
+    let (counts, line) = after-refusal-line .refusal-line .ensures in
+    (counts, line-refused _ (start .args .lent .now) (given .0 .0) (given .1) line)
 
 pub answer-line-spec : {M : Type 1} → statement M
 answer-line-spec =

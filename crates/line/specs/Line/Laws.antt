@@ -182,14 +182,17 @@ unfolding refusalLine ended spacedAll spaced decimal places first firstFrom
 refusal-shown = refl
 
 -- ---- lineOf
--- the line of what came of a call
-pub line-written : (n : ℕ) (new : List ℕ) → lineOf (came (Written n) new) ≡ listingLine (take n new)
-unfolding lineOf
-line-written n new = pick-true _ _ _ (eq-eqb 0 0 refl)
+-- the line of what came of a call: of the words ws, so many of the lent ones, or of the refusal
+module _ (a : Answer) (new : List ℕ) {line : List ℕ} where
+  pub line-written : (n : ℕ) (ws : List ℕ) → a ≡ Written n → line ≡ listingLine ws → ws ≡ take n new → line ≡ lineOf (came a new)
+  unfolding lineOf
+  line-written n ws e of all =
+      of ∙ ap listingLine all ∙ sym (pick-true _ _ _ (eq-eqb 0 0 refl)) ∙ ap (λ (r : Answer). lineOf (came r new)) (sym e)
 
-pub line-refused : (f : Refusal) (new : List ℕ) → lineOf (came (Refused f) new) ≡ refusalLine (refusalSays f)
-unfolding lineOf
-line-refused f new = pick-false _ _ _ (ne-eqb _ _ (refusal-number f))
+  pub line-refused : (f : Refusal) → a ≡ Refused f → line ≡ refusalLine (refusalSays f) → line ≡ lineOf (came a new)
+  unfolding lineOf
+  line-refused f e of =
+      of ∙ sym (pick-false _ _ _ (ne-eqb _ _ (refusal-number f))) ∙ ap (λ (r : Answer). lineOf (came r new)) (sym e)
 
 -- what is written lies in the lent words: as the code has it
 pub inside-written : {a : Answer} {n room : ℕ} → a ≡ Written n → Inside a room → n ≤ room

@@ -5,11 +5,11 @@ use input::Input;
 use libc::STDERR_FILENO;
 use libc::STDIN_FILENO;
 ghost use mathlib.Core.Path.{_≡_};
-ghost use Prim.Native.Nat.{_+_, _≤_, _<_};
+ghost use Prim.Native.Nat.{_+_, _*_, _^_, _≤_, _<_};
 ghost use lib.ListN.{length, take};
 ghost use Rattle.io.specs.Counts.{Counts};
 ghost use Rattle.words.specs.Run.{values};
-ghost use Rattle.input.specs.Input.{wordsMade};
+ghost use Rattle.input.specs.Input.{wordAt, wordsMade};
 ghost use Rattle.line.specs.Line.{Put};
 ghost use Rattle.shelf.specs.Lines.{translatedLine, rehearsedLine, playedLines, refusedLines, bookLines};
 ghost use Rattle.shelf.specs.Next.{Fits};
@@ -73,6 +73,13 @@ fn read_bytes(bytes: &mut [u8]) -> Next
     }
 }
 
+// How many bytes a book takes: four for each of its words, whose count is the word that the first four bytes make.
+fn size_of(head: &[u8; 4]) -> usize
+    ensures { λ r. ⌜ (r ≡ 4 * wordAt (now (head .entry)) 0) × (r < 2 ^ 34) ⌝ }
+{
+    4 * words::wide(input::word(head[0], head[1], head[2], head[3]))
+}
+
 // Reads a book: its count of words, and then these.
 fn read_book(bytes: &mut [u8]) -> Next
     requires { ⌜ 50404 ≤ length (now bytes) ⌝ }
@@ -88,11 +95,11 @@ fn read_book(bytes: &mut [u8]) -> Next
             if n < 4 {
                 return stop(b"standard input ends inside a book\n");
             }
-            let count = words::wide(input::word(head[0], head[1], head[2], head[3]));
-            if Most::WORDS < count {
+            let size = size_of(&head);
+            if Most::BYTES < size {
                 return stop(b"a book has more than 12601 words\n");
             }
-            read_bytes(&mut bytes[0..4 * count])
+            read_bytes(&mut bytes[0..size])
         }
         Input::Failed => Next::Nothing,
     }

@@ -16,16 +16,10 @@ read-book-spec =
     (λ c. search needs)  -- slice-aggregate-stop
     (λ c κs. search needs)  -- stop-requires
     (λ c. search needs)  -- returns-2
-    (λ c. search needs)  -- array-read-word
-    (λ c. search needs)  -- array-read-word-2
-    (λ c. search needs)  -- array-read-word-3
-    (λ c. search needs)  -- array-read-word-4
-    (λ c κs. search needs)  -- word-requires
-    (λ c κs. search needs)  -- wide-requires
+    (λ c κs. search needs)  -- size-of-requires
     (λ c. search needs)  -- slice-aggregate-stop-2
     (λ c κs. search needs)  -- stop-requires-2
     (λ c. search needs)  -- returns-3
-    (λ c. search needs)  -- mul-read-bytes
     (λ c. search needs)  -- sub-read-bytes
     (λ c. search needs)  -- part-read-bytes-start
     (λ c. omega arith)  -- part-read-bytes-end

@@ -11,7 +11,7 @@ pub struct Place {}
 
 impl Place {
     // Counting stops here, above every slice's length.
-    pub const CAP: usize = 4611686018427387904;
+    pub const CAP: usize = 9223372036854775808;
 }
 
 // A word as an index.

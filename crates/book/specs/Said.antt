@@ -4,6 +4,8 @@ use Prim.Native.Nat.{ℕ}
 use mathlib.Core.List.{List, [], _∷_}
 use Rattle.book.specs.declared.Refusal.{Refusal}
 use Rattle.book.specs.declared.Refusal.the-variants.{Short, Count, Offset, Row, Size, Repeat, Party, Step, Sum, Taken, Move, Room}
+use Rattle.book.specs.declared.Told.{Told}
+use Rattle.book.specs.declared.Told.the-variants.{One, Two}
 use Rattle.book.specs.declared.Reading.{Reading}
 use Rattle.book.specs.declared.Reading.the-variants.{Accepted, Refused}
 pub mod Laws
@@ -36,3 +38,8 @@ refusalSays (Room n) = said 12 (n ∷ [])
 abbrev pub readingSays : Reading → Said
 readingSays Accepted = accepted
 readingSays (Refused f) = refusalSays f
+
+-- a refusal as it is told
+abbrev pub toldSays : Told → Said
+toldSays (One n x) = said n (x ∷ [])
+toldSays (Two n x y) = said n (x ∷ y ∷ [])

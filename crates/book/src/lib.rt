@@ -7,6 +7,7 @@ ghost use Prim.Native.Nat.{_+_, _^_, _≤_, _<_};
 ghost use Rattle.book.specs.Headed.{Headed};
 ghost use Rattle.terms.specs.Kind.{isHalf, otherHalf};
 ghost use Rattle.book.specs.Kinds.{OfKind};
+ghost use Rattle.book.specs.Said.{refusalSays, toldSays};
 ghost use Rattle.book.specs.Span.{entry as entryAt, Span};
 ghost use Rattle.book.specs.Valid.{Valid};
 ghost use Rattle.book.specs.Layout.{rows as rowsOf, parties as partiesOf, steps as stepsOf, pool as poolOf, field, pooled as pooledAt};
@@ -26,6 +27,12 @@ pub enum Refusal {
     Taken(u32, u32),
     Move(u32),
     Room(usize),
+}
+
+// A refusal as it is told: its number with one value, or with two.
+pub enum Told {
+    One(u64, u64),
+    Two(u64, u64, u64),
 }
 
 // What the reader says of a book.
@@ -353,4 +360,24 @@ pub fn first_part(book: &[u32], row: u32) -> u32
 {
     let from = row_first(book, row);
     pooled(book, from, 0)
+}
+
+// The number and the values of a refusal.
+pub fn told_of(refusal: Refusal) -> Told
+    ensures { λ r. ⌜ toldSays r ≡ refusalSays refusal ⌝ }
+{
+    match refusal {
+        Refusal::Short => Told::One(1, 0),
+        Refusal::Count(word) => Told::One(2, word as u64),
+        Refusal::Offset(word) => Told::One(3, word as u64),
+        Refusal::Row(row) => Told::One(4, row as u64),
+        Refusal::Size(row) => Told::One(5, row as u64),
+        Refusal::Repeat(row) => Told::One(6, row as u64),
+        Refusal::Party(party) => Told::One(7, party as u64),
+        Refusal::Step(step) => Told::One(8, step as u64),
+        Refusal::Sum => Told::One(9, 0),
+        Refusal::Taken(step, row) => Told::Two(10, step as u64, row as u64),
+        Refusal::Move(place) => Told::One(11, place as u64),
+        Refusal::Room(needed) => Told::One(12, needed as u64),
+    }
 }

@@ -8,12 +8,10 @@ use lib.Dec.{ltb, eqb}
 use Rattle.io.specs.Digits.{digits}
 use Rattle.words.specs.Choice.{pick}
 use Rattle.words.specs.First.{first}
-use Rattle.book.specs.Said.{Said, said}
+use Rattle.book.specs.Said.{Said}
 use Rattle.translation.specs.Outcome.{Outcome}
 use Rattle.translation.specs.declared.Answer.{Answer}
 use Rattle.translation.specs.declared.Answer.the-variants.{Written, Refused}
-use Rattle.line.specs.declared.Told.{Told}
-use Rattle.line.specs.declared.Told.the-variants.{One, Two}
 pub mod Laws
 
 -- how many digits a number below 10^20 takes
@@ -57,11 +55,6 @@ lineOf o = pick (eqb (o .says .number) 0) (listingLine (take (getD (o .says .val
 abbrev pub Inside : Answer → ℕ → Type 0
 Inside (Written n) room = n ≤ room
 Inside (Refused f) room = Unit {0}
-
--- a refusal as the program prints it
-abbrev pub toldSays : Told → Said
-toldSays (One n x) = said n (x ∷ [])
-toldSays (Two n x y) = said n (x ∷ y ∷ [])
 
 -- a text was put at a place of a line: what stands before the next place is what stood before the first, and then the text
 pub record Put (text old : List ℕ) (at : ℕ) (new : List ℕ) (r : ℕ) : Type 0 where

@@ -1,40 +1,17 @@
 // The line that is printed of an answer: of a listing, and of a refusal. `answer_line` leaves exactly the line's bytes, decimal with
 // single spaces and one newline at the end; `print` writes them out.
 use book::Refusal;
+use book::Told;
+use book::told_of;
 use libc::STDOUT_FILENO;
 use translation::Answer;
 ghost use mathlib.Core.Path.{_≡_};
 ghost use Prim.Native.Nat.{_+_, _*_, _<_, _≤_};
 ghost use lib.ListN.{length, take};
 ghost use Rattle.io.specs.Counts.{Counts};
-ghost use Rattle.book.specs.Said.{refusalSays};
+ghost use Rattle.book.specs.Said.{refusalSays, toldSays};
 ghost use Rattle.translation.specs.Outcome.{came};
-ghost use Rattle.line.specs.Line.{spacedAll, ended, toldSays, listingLine, refusalText, refusalLine, lineOf, Inside, Put, PutNumber};
-
-// A refusal as it is printed: its number with one value, or with two.
-enum Told {
-    One(u64, u64),
-    Two(u64, u64, u64),
-}
-
-fn told_of(refusal: Refusal) -> Told
-    ensures { λ r. ⌜ toldSays r ≡ refusalSays refusal ⌝ }
-{
-    match refusal {
-        Refusal::Short => Told::One(1, 0),
-        Refusal::Count(word) => Told::One(2, word as u64),
-        Refusal::Offset(word) => Told::One(3, word as u64),
-        Refusal::Row(row) => Told::One(4, row as u64),
-        Refusal::Size(row) => Told::One(5, row as u64),
-        Refusal::Repeat(row) => Told::One(6, row as u64),
-        Refusal::Party(party) => Told::One(7, party as u64),
-        Refusal::Step(step) => Told::One(8, step as u64),
-        Refusal::Sum => Told::One(9, 0),
-        Refusal::Taken(step, row) => Told::Two(10, step as u64, row as u64),
-        Refusal::Move(place) => Told::One(11, place as u64),
-        Refusal::Room(needed) => Told::One(12, needed as u64),
-    }
-}
+ghost use Rattle.line.specs.Line.{spacedAll, ended, listingLine, refusalText, refusalLine, lineOf, Inside, Put, PutNumber};
 
 // Puts a text at a place of the line; answers the place behind it.
 fn put_text(line: &mut [u8], at: usize, text: &[u8]) -> usize

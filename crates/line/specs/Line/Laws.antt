@@ -17,16 +17,16 @@ use Rattle.words.specs.Choice.Laws.{pick-true, pick-false}
 use Rattle.words.specs.First.{first, firstFrom}
 use Rattle.words.specs.First.Laws.{first-is}
 use Rattle.book.specs.declared.Refusal.{Refusal}
-use Rattle.book.specs.Said.{Said, said, refusalSays}
+use Rattle.book.specs.Said.{Said, said, refusalSays, toldSays}
 use Rattle.book.specs.Said.Laws.{refusal-number}
 use Rattle.translation.specs.Listing.{listing}
 use Rattle.translation.specs.Outcome.{Outcome, outcome, came, Plays}
 use Rattle.translation.specs.Outcome.Laws.{exactly-written, written-says, written-past}
 use Rattle.translation.specs.declared.Answer.{Answer}
 use Rattle.translation.specs.declared.Answer.the-variants.{Written, Refused}
-use Rattle.line.specs.declared.Told.{Told}
-use Rattle.line.specs.declared.Told.the-variants.{One, Two}
-use Rattle.line.specs.Line.{places, decimal, spaced, spacedAll, ended, listingLine, refused, refusalText, refusalLine, lineOf, Inside, toldSays, Put}
+use Rattle.book.specs.declared.Told.{Told}
+use Rattle.book.specs.declared.Told.the-variants.{One, Two}
+use Rattle.line.specs.Line.{places, decimal, spaced, spacedAll, ended, listingLine, refused, refusalText, refusalLine, lineOf, Inside, Put}
 
 -- ---- Put
 -- a text that was copied to its end

@@ -1,9 +1,9 @@
--- `line::told_of` meets its contract: by the refusal, whose number and values are told as they stand. Assumes nothing.
+-- `book::told_of` meets its contract: by the refusal, whose number and values are told as they stand. Assumes nothing.
 use mathlib.Core.Path.{sym, ap}
 use borrow.Author.Needs.{needs}
 use Rattle.book.specs.Said.{refusalSays}
-use Rattle.line.proofs.told_of.Statement.{statement}
-use Rattle.line.proofs.told_of.Tie as tie
+use Rattle.book.proofs.told_of.Statement.{statement}
+use Rattle.book.proofs.told_of.Tie as tie
 
 pub told-of-spec : {M : Type 1} → statement M
 told-of-spec =

@@ -1,23 +1,20 @@
 -- The walk, step by step: `Walked` says how far it got, and its laws are the loop's. Assumes nothing.
 use Prim.Native.Nat.{ℕ, _+_, _≤_, _<_}
-use native.Mathlib.Numerals.{add-one}
 use native.Mathlib.Omega.{arith}
 use mathlib.Core.List.{List, map}
-use mathlib.Core.Path.{_≡_, sym, ap, ap₂, _∙_}
-use lib.ListN.{length, length-append}
+use mathlib.Core.Path.{_≡_, _∙_}
+use lib.ListN.{length}
 use Rattle.words.specs.Choice.{pick}
 use Rattle.words.specs.Overlay.Laws.{wrote-length}
 use Rattle.terms.specs.Table.{term}
 use Rattle.book.specs.Layout.{table, steps, known}
 use Rattle.translation.specs.Dictionary.{start}
-use Rattle.translation.specs.Receive.{Did, followed}
 use Rattle.translation.specs.Narration.{narration}
 use Rattle.translation.specs.Taken.{firstTaken}
-use Rattle.translation.specs.Steps.{stepDid, before}
-use Rattle.translation.specs.Steps.Laws.{before-none, before-more}
-use Rattle.translation.specs.Long.Laws.{all-within}
-use Rattle.holding.specs.View.{rowOf, view}
-use Rattle.holding.specs.Doing.Laws.{doing-none, doing-then, doing-as}
+use Rattle.translation.specs.Steps.{before}
+use Rattle.translation.specs.Steps.Laws.{before-none}
+use Rattle.holding.specs.View.{view}
+use Rattle.holding.specs.Doing.Laws.{doing-none, doing-as}
 use Rattle.receiving.specs.declared.Dictionary.{Dictionary}
 use Rattle.receiving.specs.declared.Received.{Received}
 use Rattle.receiving.specs.Receiving.{Fits}
@@ -27,6 +24,7 @@ use Rattle.walking.specs.Walk.Laws.{before-skip}
 use Rattle.walking.specs.Found.{FoundBefore}
 use Rattle.walking.specs.Found.Laws.{found-exact, found-here, unrefused-on, unrefused-skip}
 use Rattle.walking.specs.Walking.{actDid, Acting, WalkReady, Along, Walking}
+use Rattle.walking.specs.Walking.Laws.{along-fits, along-on}
 
 -- party p came through the first i steps, with the places k and a at the start, and none of them is refused for it
 pub record Walked (b : List ℕ) (p i k : ℕ) (log₀ log : List ℕ) (a : ℕ) (out₀ out : List ℕ) (x : Received) : Type 0 where
@@ -51,26 +49,13 @@ module _ {b l : List ℕ} {p upto i k a : ℕ} {log₀ log out₀ out : List ℕ
   in-book : i < steps b
   in-book = let u = ready .within in omega arith
 
-  -- what the party does in step i, from where it stands, is what it does there
-  same-did : actDid b p i x ≡ stepDid b p i (before b p i .dictionary) (length (before b p i .given))
-  same-did = let n = g .along .goes in ap₂ (stepDid b p i) (g .along .holds) (omega arith)
-
-  one-more : before b p (i + 1) ≡ followed (before b p i) (actDid b p i x)
-  one-more = ap (before b p) (add-one i) ∙ before-more b p i ∙ ap (followed (before b p i)) (sym same-did)
-
   -- ---- there is room for the placeholders of one step more
   pub walked-fits : Fits x (actDid b p i x)
-  walked-fits =
-      let n = g .along .goes in
-      let j = in-book in
-      let w = all-within b (ready .valid) (rowOf b) p (i + 1) (omega arith) .given in
-      let e = ap (λ (d : Did). length (d .given)) one-more in
-      let c = length-append (before b p i .given) (actDid b p i x .given) in
-      omega arith
+  walked-fits = along-fits b p i (g .along) (ready .valid) in-book
 
   module _ {logAfter outAfter : List ℕ} {r : Acted} (w : Acting b l p i x log logAfter out outAfter r) where
     further : Along b p (i + 1) k log₀ logAfter a out₀ outAfter (r .here)
-    further = doing-as (doing-then b _ _ (g .along) (w .doing)) one-more
+    further = along-on b p i (g .along) (w .doing)
 
     -- what the step found is what refusal 10 says of it
     exact : r .taken ≡ pick (refusedFor b p i) (firstTaken (narration b) i + 1) 0

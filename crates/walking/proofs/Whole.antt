@@ -1,17 +1,15 @@
 -- The whole program: a walk through all steps that finds nothing has its events, and END has what was stored. Assumes nothing.
 use Prim.Native.Nat.{ℕ, _+_, _/_, _≤_, _<_}
 use native.Mathlib.Omega.{arith}
-use mathlib.Core.List.{List, [], _∷_, _++_, append-nil}
+use mathlib.Core.List.{List, [], _∷_}
 use mathlib.Core.Path.{_≡_, sym, ap, _∙_}
 use lib.ListN.{length, take}
 use Rattle.words.specs.Overlay.{Wrote}
 use Rattle.words.specs.Overlay.Laws.{wrote-then, wrote-as, wrote-take}
 use Rattle.book.specs.Layout.{parties, steps}
 use Rattle.book.specs.Valid.{Valid}
-use Rattle.translation.specs.Listing.{programWords, pairWords, eventWords, partWords}
-use Rattle.translation.specs.Listing.Laws.{program-append}
+use Rattle.translation.specs.Listing.{pairWords, partWords}
 use Rattle.translation.specs.Steps.{before}
-use Rattle.translation.specs.Steps.Laws.{before-all}
 use Rattle.translation.specs.Long.Laws.{pairs-length, part-length}
 use Rattle.holding.specs.View.{rowOf}
 use Rattle.receiving.specs.declared.Received.{Received}
@@ -19,6 +17,7 @@ use Rattle.walking.specs.declared.Passed.{Passed}
 use Rattle.walking.specs.Walk.{Unrefused}
 use Rattle.walking.specs.Found.Laws.{found-unrefused}
 use Rattle.walking.specs.Walking.{Along, Walking}
+use Rattle.walking.specs.Walking.Laws.{part-words}
 use Rattle.walking.proofs.Lengths.{ends-at, ends-kept, few-pairs}
 
 module _ {b : List ℕ} (v : Valid b) {p : ℕ} (h : p < parties b) where
@@ -44,12 +43,9 @@ module _ {b : List ℕ} (v : Valid b) {p : ℕ} (h : p < parties b) where
       → length log ≡ 2048 → upto ≡ steps b → Unrefused b p (steps b) → Walking b p upto 0 log logAfter a out middle r
       → m ≡ r .here .dictionary .kept / 2 → Wrote (6 ∷ m ∷ []) middle (r .here .at) between i
       → Wrote (take (r .here .dictionary .kept) logAfter) between i outAfter j → Wrote (partWords b p) out a outAfter j
-  unfolding partWords programWords eventWords
   programmed {log = log} {logAfter = logAfter} {out = out} {middle = middle} {a = a} {r = r} l q x g d w f =
       let t : Along b p (steps b) 0 log logAfter a out middle (r .here) = rw (g .whole (found-unrefused x (rw q at (g .found))) q) at (g .along) in
       let k = ends-kept v p (omega arith) t in
       let pairs : r .here .dictionary .kept / 2 ≡ length (before b p (steps b) .stored) = omega arith in
-      let events = programWords (rowOf b) (before b p (steps b) .events) in
       let parts = wrote-then (t .wrote) (wrote-then (rw (d ∙ pairs) at w) (wrote-as f (sym (logged l (few-pairs v g) t)))) in
-      wrote-as parts
-      (ap (programWords (rowOf b)) (before-all b p h) ∙ program-append (rowOf b) (before b p (steps b) .events) _ ∙ ap (λ l. events ++ l) (append-nil _))
+      wrote-as parts (part-words b p h)

@@ -14,6 +14,7 @@ use Rattle.receiving.specs.Receiving.{Fits, Led}
 use Rattle.walking.specs.declared.Acted.{Acted}
 use Rattle.walking.specs.declared.Passed.{Passed}
 use Rattle.walking.specs.Found.{foundAt, FoundBefore}
+pub mod Laws
 
 -- ---- one step
 -- what party p does in step s, from x on

@@ -1,6 +1,6 @@
 // A party's way through the steps of a valid book. `walk` writes its events up to a step, or to the first at which it would make
 // a taken atom; `measure` counts its program's words and finds that step; `write_program` writes the program of a party that
-// makes no taken atom.
+// makes no taken atom; `act` and `next_own` are a walk's parts: one step, and the way to the next.
 use book::ByRow;
 use book::Code;
 use book::rows;
@@ -45,7 +45,7 @@ pub struct Passed {
 }
 
 // A party's part in one step.
-fn act(
+pub fn act(
     book: &[u32],
     since: &ByRow,
     from: Received,
@@ -106,7 +106,7 @@ fn act(
 
 // The first step from `from` on that the party sends or receives, or the number of steps: a party's dictionary is not handed on
 // where nothing is to do.
-fn next_own(book: &[u32], party: u32, from: u32) -> u32
+pub fn next_own(book: &[u32], party: u32, from: u32) -> u32
     requires { ⌜ Valid (now book) × (from ≤ stepsOf (now book)) ⌝ }
     ensures { λ r. ⌜ IdleUntil (now (book .entry)) party from r ⌝ }
 {

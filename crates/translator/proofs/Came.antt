@@ -1,5 +1,5 @@
--- What came of translating: refusals 1 to 9 are the reader's; of a valid book refusal 10 comes next, then refusal 12, and then the
--- output. Assumes nothing.
+-- What translating says, and what comes of it: refusals 1 to 9 are the reader's; of a valid book refusal 10 comes next, then refusal
+-- 12, and then the output. Assumes nothing.
 use Prim.Native.Nat.{ℕ, _-_, _≤_, _<_}
 use mathlib.Core.List.{List, [], _∷_, _++_}
 use mathlib.Core.Path.{_≡_, refl, sym, ap, _∙_}
@@ -21,18 +21,18 @@ use Rattle.book.specs.Valid.Laws.{nine, reading-lines, valid-keep, accepted-val
 use Rattle.translation.specs.Narration.{narration}
 use Rattle.translation.specs.Taken.{unplayable, firstTaken}
 use Rattle.translation.specs.Listing.{listing}
-use Rattle.translation.specs.Outcome.{takenLine, roomLine, acceptance, translationSays, outcome, came, Plays}
-use Rattle.translation.specs.Outcome.Laws.{book-came, came-refused, came-written, accepted-plays, exactly-12, written-says}
+use Rattle.translation.specs.Outcome.{takenLine, acceptance, translationSays, outcome, answerSays, came, Plays}
+use Rattle.translation.specs.Outcome.Laws.{book-first, came-refused, came-written, accepted-plays, exactly-12, written-says}
 use Rattle.translation.specs.declared.Answer.the-variants.{Written, Refused}
-use Rattle.translation.specs.Long.Laws.{listing-short}
 use Rattle.translator.specs.Among.{FoundAmong}
 use Rattle.translator.specs.Among.Laws.{found-none, found-one}
+use Rattle.translator.specs.Plan.{Planned}
+use Rattle.translator.specs.declared.Plan.{Plan}
 
 -- a refusal that is the book's
-refusal-came : (b out : List ℕ) (f : Refusal) → readingSays (reading.Refused f) ≡ acceptance b → came (Refused f) out ≡ outcome b out
-unfolding outcome translationSays
-refusal-came b out f e =
-    book-came b (roomLine (length out) (length (listing b)) ∷ []) (said 0 (length (listing b) ∷ [])) out (listing b) f e
+refusal-says : (b out : List ℕ) (f : Refusal) → readingSays (reading.Refused f) ≡ acceptance b → refusalSays f ≡ translationSays b out
+unfolding translationSays
+refusal-says b out f e = e ∙ sym (book-first b _ _ (λ z. refusal-number f (ap (λ (x : Said). x .number) e ∙ z)))
 
 -- ---- the reader's answer
 module _ (b : List ℕ) (r : Reading) (f : Refusal) (d : readingSays r ≡ verdict b) (k : r ≡ reading.Refused f) where
@@ -49,8 +49,8 @@ module _ (b : List ℕ) (r : Reading) (f : Refusal) (d : readingSays r ≡ verdi
   unfolding acceptance verdict
   refused-accept = says-why ∙ sym (firstOf-stop (readingTable b) (takenLine b ∷ []) accepted accepted refl refused)
 
-  pub refused-came : (out : List ℕ) → came (Refused f) out ≡ outcome b out
-  refused-came out = refusal-came b out f refused-accept
+  pub refused-says : (out : List ℕ) → refusalSays f ≡ translationSays b out
+  refused-says out = refusal-says b out f refused-accept
 
 pub accepted-book : (b : List ℕ) (r : Reading) → readingSays r ≡ verdict b → r ≡ reading.Accepted → Valid b
 accepted-book b r d k = accepted-valid b .0 (sym d ∙ ap readingSays k)
@@ -85,26 +85,28 @@ module _ {b : List ℕ} (v : Valid b) where
         let on = scan-on 10 (steps b) (unplayable (narration b)) place [] accepted (steps b) nowhere (omega arith) in
         sym (passes _ accepted ∙ on ∙ firstOf-none accepted)
 
-    pub taken-came : (out : List ℕ) → (t ≡ 0 → ⊥) → came (Refused (Taken s (t - 1))) out ≡ outcome b out
-    taken-came out z = refusal-came b out (Taken s (t - 1)) (taken-accept z)
+    pub taken-says : (out : List ℕ) → (t ≡ 0 → ⊥) → refusalSays (Taken s (t - 1)) ≡ translationSays b out
+    taken-says out z = refusal-says b out (Taken s (t - 1)) (taken-accept z)
 
     -- ---- refusal 12 and the output: nothing was found, and the output has n words
-    module _ (out : List ℕ) (z : t ≡ 0) {n : ℕ} (m : n ≡ length (listing b)) where
+    module _ (z : t ≡ 0) {n : ℕ} (m : n ≡ length (listing b)) (out : List ℕ) where
       -- it was accepted, so it plays
       plays : Plays b
       plays = accepted-plays b .0 (sym (none-accept z))
 
-      pub room-came : length out < n → came (Refused (Room n)) out ≡ outcome b out
-      unfolding outcome
-      room-came h =
-          let says = exactly-12 b out (n ∷ []) .1 (plays, omega arith, ap (λ i. i ∷ []) m) in
-          came-refused (translationSays b out) out (listing b) (Room n) says
+      pub room-says : length out < n → refusalSays (Room n) ≡ translationSays b out
+      room-says h = sym (exactly-12 b out (n ∷ []) .1 (plays, omega arith, ap (λ i. i ∷ []) m))
 
-      pub output-came : {new : List ℕ} {r : ℕ} → n ≤ length out → Wrote (listing b) out 0 new r → came (Written r) new ≡ outcome b out
-      unfolding outcome
-      output-came {new} {r} h w =
-          let k = listing-short b v in
-          let x = w .next in
-          let e : length (listing b) ≡ r = omega arith in
-          let says = written-says b out plays (omega arith) ∙ ap (λ i. said 0 (i ∷ [])) e in
-          came-written (translationSays b out) out (listing b) new r says (w .list)
+      pub length-says : n ≤ length out → said 0 (n ∷ []) ≡ translationSays b out
+      length-says h = ap (λ i. said 0 (i ∷ [])) m ∙ sym (written-says b out plays (omega arith))
+
+-- ---- the plan is carried out: what it says came of the call
+module _ {b : List ℕ} {room : ℕ} {plan : Plan} (p : Planned b room plan) (out : List ℕ) (e : length out ≡ room) where
+  pub refused-came : {f : Refusal} → plan .answer ≡ Refused f → came (Refused f) out ≡ outcome b out
+  unfolding outcome
+  refused-came {f} k = came-refused (translationSays b out) out (listing b) f (sym (sym (ap answerSays k) ∙ p .says out e))
+
+  pub written-came : {n r : ℕ} {new : List ℕ} → plan .answer ≡ Written n → Wrote (listing b) out 0 new r → came (Written n) new ≡ outcome b out
+  unfolding outcome
+  written-came {n} {new = new} k w =
+      came-written (translationSays b out) out (listing b) new n (sym (sym (ap answerSays k) ∙ p .says out e)) (w .list)

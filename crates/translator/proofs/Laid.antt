@@ -9,7 +9,7 @@ use Rattle.words.specs.Run.{values}
 use Rattle.book.specs.Layout.{parties}
 use Rattle.translation.specs.Listing.{bodies, partWords}
 use Rattle.translator.specs.Parts.{programsTo, bodiesOf}
-use Rattle.translator.proofs.Parts.{bodies-more}
+use Rattle.translator.specs.Parts.Laws.{bodies-more}
 
 -- those of the first q of n parties
 pub record Laid (b : List ℕ) (n q : ℕ) (old : List ℕ) (at : ℕ) (new : List ℕ) (next : ℕ) : Type 0 where

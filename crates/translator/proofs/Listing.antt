@@ -1,18 +1,17 @@
 -- The whole output: its heads, kept in a list of their own, and the parts that it is written in. Assumes nothing.
-use Prim.Native.Nat.{ℕ, _+_, _*_, _≤_}
+use Prim.Native.Nat.{ℕ, _*_}
 use mathlib.Core.List.{List, [], _∷_, _++_}
 use mathlib.Core.Path.{_≡_, sym, ap, _∙_}
 use native.Mathlib.Omega.{arith}
-use lib.ListN.{length, take, length-take}
+use lib.ListN.{length, take}
 use Rattle.words.specs.Overlay.{Wrote}
 use Rattle.words.specs.Overlay.Laws.{wrote-then, wrote-cons, wrote-as, wrote-take}
-use Rattle.words.specs.Run.Laws.{values-length}
 use Rattle.book.specs.Layout.{parties}
 use Rattle.book.specs.Valid.{Valid}
 use Rattle.book.specs.Headed.Laws.{valid-headed}
-use Rattle.translation.specs.Listing.{heads, framed, partWords, listing}
-use Rattle.translator.specs.Parts.{programsTo, headsOf, HeadsIn, bodiesOf}
-use Rattle.translator.proofs.Parts.{heads-count}
+use Rattle.translation.specs.Listing.{listing}
+use Rattle.translator.specs.Parts.{headsOf, HeadsIn, bodiesOf}
+use Rattle.translator.specs.Parts.Laws.{heads-count, listing-parts}
 
 -- ---- HeadsIn
 -- in 32 words there is room for the heads of 16 parties
@@ -22,15 +21,7 @@ heads-found {b} v {new = new} l w =
     let f = valid-headed b v .fewParties in
     ap (λ k. take k new) (sym c) ∙ wrote-take w (omega arith)
 
--- they are all there
-pub heads-there : (b hs : List ℕ) → HeadsIn b hs → 2 * parties b ≤ length hs
-heads-there b hs h = let c = heads-count b in let l = ap length h in let k = length-take (2 * parties b) hs in omega arith
-
 -- ---- listing
-listing-parts : (b : List ℕ) → listing b ≡ parties b ∷ (headsOf b ++ bodiesOf b)
-unfolding listing framed
-listing-parts b = ap (λ k. k ∷ (heads (1 + 2 * k) (programsTo b (parties b)) ++ bodiesOf b)) (values-length (partWords b) 0 (parties b))
-
 -- the number of parties, the heads and the programs, written one after another
 pub listing-wrote : (b hs : List ℕ) (n m : ℕ) {old one two new : List ℕ} {p q r : ℕ} → n ≡ parties b → m ≡ n → HeadsIn b hs
     → Wrote (n ∷ []) old 0 one p → Wrote (take (2 * m) hs) one p two q → Wrote (bodiesOf b) two q new r → Wrote (listing b) old 0 new r

@@ -17,7 +17,7 @@ use Rattle.translator.specs.Among.{FoundAmong}
 use Rattle.translator.specs.Among.Laws.{among-none, among-all, among-stays, among-sooner}
 use Rattle.translator.specs.Parts.{programsTo}
 use Rattle.translator.specs.Survey.{WroteHeads}
-use Rattle.translator.proofs.Parts.{length-more, heads-more}
+use Rattle.translator.specs.Parts.Laws.{length-more, heads-more}
 
 -- of the first q of n parties: while nothing is found, the heads and the length are those of the programs; the numbers fit in any case
 pub record Measuring (b : List ℕ) (n q : ℕ) (old : List ℕ) (at : ℕ) (new : List ℕ) (next end step taken : ℕ) : Type 0 where

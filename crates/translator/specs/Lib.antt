@@ -1,4 +1,5 @@
 pub mod Among
 pub mod Parts
+pub mod Plan
 pub mod Ready
 pub mod Survey

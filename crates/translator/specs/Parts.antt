@@ -7,6 +7,7 @@ use lib.ListN.{take}
 use Rattle.words.specs.Run.{values}
 use Rattle.book.specs.Layout.{parties}
 use Rattle.translation.specs.Listing.{heads, bodies, partWords}
+pub mod Laws
 
 -- the programs of the first q parties
 abbrev pub programsTo : List ℕ → ℕ → List (List ℕ)

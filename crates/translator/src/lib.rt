@@ -1,5 +1,6 @@
 // The translator. `translate` answers, for any words and any lent words, the first refusal of 1 to 10 and 12 that applies, or
-// leaves the listing; no other lent word changes. `accept` answers refusals 1 to 10, with no buffer.
+// leaves the listing; no other lent word changes. `prepare` answers the same for so much room, with what writing takes; `accept` answers
+// refusals 1 to 10, with no buffer.
 use book::ByRow;
 use book::Reading;
 use book::Refusal;
@@ -22,6 +23,7 @@ ghost use Rattle.book.specs.Said.{readingSays};
 ghost use Rattle.translation.specs.Listing.{listing};
 ghost use Rattle.translation.specs.Outcome.{acceptance, outcome, came};
 ghost use Rattle.translator.specs.Parts.{HeadsIn, bodiesOf};
+ghost use Rattle.translator.specs.Plan.{Planned};
 ghost use Rattle.translator.specs.Ready.{Ready, Writable};
 ghost use Rattle.translator.specs.Survey.{WroteHeads, Survey};
 
@@ -39,6 +41,13 @@ struct Surveyed {
     end: usize,
     step: u32,
     taken: u32,
+}
+
+// What a translation answers, with what writing the output takes where it is accepted.
+pub struct Plan {
+    pub answer: Answer,
+    pub since: ByRow,
+    pub heads: [u32; 32],
 }
 
 // Offset and count of each party's program; the first begins behind them. Where a party would make a taken atom there is no output, so
@@ -113,22 +122,36 @@ fn survey(book: &[u32], since: &ByRow) -> Surveyed
     }
 }
 
-// Refusals 10 and 12, or the output.
-fn write_valid(book: &[u32], out: &mut [u32]) -> Answer
+// Refusals 10 and 12, or the output's length.
+fn prepare_valid(book: &[u32], room: usize) -> Plan
     requires { ⌜ Valid (now book) ⌝ }
-    ensures { λ r. ⌜ came r (now (out .exit)) ≡ outcome (now (book .entry)) (now (out .entry)) ⌝ }
+    ensures { λ r. ⌜ Planned (now (book .entry)) room r ⌝ }
 {
     let since = claims(book);
     let all = survey(book, &since);
-    if all.taken != 0 {
-        return Answer::Refused(Refusal::Taken(all.step, all.taken - 1));
-    }
-    if out.len() < all.end {
-        return Answer::Refused(Refusal::Room(all.end));
-    }
     let heads = all.heads;
-    let n = write_listing(book, &since, &heads, out);
-    Answer::Written(n)
+    if all.taken != 0 {
+        let answer = Answer::Refused(Refusal::Taken(all.step, all.taken - 1));
+        return Plan {
+            answer,
+            since,
+            heads,
+        };
+    }
+    if room < all.end {
+        let answer = Answer::Refused(Refusal::Room(all.end));
+        return Plan {
+            answer,
+            since,
+            heads,
+        };
+    }
+    let answer = Answer::Written(all.end);
+    Plan {
+        answer,
+        since,
+        heads,
+    }
 }
 
 // Refusal 10, or acceptance.
@@ -144,13 +167,34 @@ fn accept_valid(book: &[u32]) -> Reading
     Reading::Accepted
 }
 
+// What a translation of any words answers, where there is room for so many words; the steps are walked once.
+pub fn prepare(book: &[u32], room: usize) -> Plan
+    ensures { λ r. ⌜ Planned (now (book .entry)) room r ⌝ }
+{
+    match read(book) {
+        Reading::Refused(why) => Plan {
+            answer: Answer::Refused(why),
+            since: [0u32; 1024],
+            heads: [0u32; 32],
+        },
+        Reading::Accepted => prepare_valid(book, room),
+    }
+}
+
 // The output of any words into any lent buffer, or the first refusal that applies.
 pub fn translate(book: &[u32], out: &mut [u32]) -> Answer
     ensures { λ r. ⌜ came r (now (out .exit)) ≡ outcome (now (book .entry)) (now (out .entry)) ⌝ }
 {
-    match read(book) {
-        Reading::Refused(why) => Answer::Refused(why),
-        Reading::Accepted => write_valid(book, out),
+    let plan = prepare(book, out.len());
+    let answer = plan.answer;
+    match answer {
+        Answer::Refused(why) => Answer::Refused(why),
+        Answer::Written(n) => {
+            let since = plan.since;
+            let heads = plan.heads;
+            write_listing(book, &since, &heads, out);
+            Answer::Written(n)
+        }
     }
 }
 

@@ -1,18 +1,48 @@
--- `translator::translate` meets its contract: the reader's refusal is given first, and an accepted book is valid.
--- Assumes nothing.
-use Rattle.translator.proofs.Came.{refused-came, accepted-book}
+-- `translator::translate` meets its contract: what the plan says, and where it accepts, the listing is written. Assumes
+-- nothing.
+use mathlib.Core.Path.{refl, ap}
 use borrow.Author.Needs.{needs}
+use Rattle.translation.specs.Outcome.{answerSays}
+use Rattle.translator.proofs.Came.{refused-came, written-came}
 use Rattle.translator.proofs.translate.Statement.{statement}
 use Rattle.translator.proofs.translate.Tie as tie
+
+-- the plan accepts, so the book is as writing asks
+write-listing-requires : tie.Need-write-listing-requires
+write-listing-requires c κs =
+    let after-answer : tie.After-answer2 = search in
+    let after-prepare : tie.After-prepare = search in
+    let plan = after-prepare .prepare .ensures in
+    let accepted = ap (λ a. answerSays a .number) (after-answer .answer2 .given .1) in
+    (plan .writable accepted, plan .heads accepted)
+
+-- the plan's refusal
+returns : tie.Need-returns
+returns c =
+    let after-answer : tie.After-answer = search in
+    let after-prepare : tie.After-prepare = search in
+    let start : tie.Start = search in
+    refused-came (after-prepare .prepare .ensures) (start .args .out .now) refl (after-answer .answer .given .1)
+
+-- the plan's length, and the listing over what was lent
+returns-2 : tie.Need-returns-2
+returns-2 c =
+    let after-write-listing : tie.After-write-listing = search in
+    let after-answer : tie.After-answer2 = search in
+    let after-prepare : tie.After-prepare = search in
+    let start : tie.Start = search in
+    written-came (after-prepare .prepare .ensures) (start .args .out .now) refl (after-answer .answer2 .given .1)
+    (after-write-listing .write-listing .ensures)
 
 pub translate-spec : {M : Type 1} → statement M
 translate-spec =
     tie.close
     (tie.spec
-    (λ c κs. search needs)  -- read-requires
-    (λ c. search needs)  -- enum-known-why
-    (λ c. search needs)  -- enum-told
-    (λ c κs. search accepted-book)  -- write-valid-requires
-    (λ c. search refused-came)  -- returns
+    (λ c κs. search needs)  -- prepare-requires
+    (λ c. search needs)  -- enum-known-answer
+    (λ c. search needs)  -- enum-known-answer-2
+    (λ c. search needs)  -- slice-aggregate-write-listing
+    write-listing-requires
+    returns
     (λ c. search needs)  -- same-length
-    (λ c. search needs))  -- returns-2
+    returns-2)

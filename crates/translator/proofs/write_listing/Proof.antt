@@ -3,7 +3,8 @@
 use native.Mathlib.Omega.{arith}
 use borrow.Author.Needs.{needs}
 use Rattle.book.specs.Headed.Laws.{valid-headed}
-use Rattle.translator.proofs.Listing.{heads-there, listing-wrote}
+use Rattle.translator.specs.Parts.Laws.{heads-there}
+use Rattle.translator.proofs.Listing.{listing-wrote}
 use Rattle.translator.proofs.write_listing.Statement.{statement}
 use Rattle.translator.proofs.write_listing.Tie as tie
 

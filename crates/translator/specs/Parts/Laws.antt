@@ -1,15 +1,15 @@
--- Laws of a listing's parts: what one party more adds to its bodies and its heads. Assumes nothing.
-use Prim.Native.Nat.{ℕ, suc, _+_, _*_}
+-- Laws of a listing's parts: what one party more adds to its bodies and its heads, and the whole from its parts. Assumes nothing.
+use Prim.Native.Nat.{ℕ, suc, _+_, _*_, _≤_}
 use mathlib.Core.List.{List, [], _∷_, _++_, append-nil, append-assoc}
 use mathlib.Core.Path.{_≡_, sym, ap, _∙_}
 use native.Mathlib.Omega.{arith}
 use native.Mathlib.Nat.{add-zero}
-use lib.ListN.{length, length-append}
+use lib.ListN.{length, length-append, length-take}
 use Rattle.words.specs.Run.Laws.{values-last, values-length}
 use Rattle.book.specs.Layout.{parties}
-use Rattle.translation.specs.Listing.{heads, bodies, partWords}
+use Rattle.translation.specs.Listing.{heads, bodies, framed, partWords, listing}
 use Rattle.translation.specs.Spelling.Laws.{heads-length}
-use Rattle.translator.specs.Parts.{programsTo, headsOf}
+use Rattle.translator.specs.Parts.{programsTo, headsOf, HeadsIn, bodiesOf}
 
 -- ---- one program more, in any list of programs
 bodies-last : (ls : List (List ℕ)) (l : List ℕ) → bodies (ls ++ l ∷ []) ≡ bodies ls ++ l
@@ -46,3 +46,12 @@ module _ (b : List ℕ) (q : ℕ) where
 -- ---- two words for each party
 pub heads-count : (b : List ℕ) → length (headsOf b) ≡ 2 * parties b
 heads-count b = heads-length (1 + 2 * parties b) (programsTo b (parties b)) ∙ ap (λ k. 2 * k) (values-length (partWords b) 0 (parties b))
+
+-- where the heads stand, they are all there
+pub heads-there : (b hs : List ℕ) → HeadsIn b hs → 2 * parties b ≤ length hs
+heads-there b hs h = let c = heads-count b in let l = ap length h in let k = length-take (2 * parties b) hs in omega arith
+
+-- ---- the number of parties, the heads and the programs
+pub listing-parts : (b : List ℕ) → listing b ≡ parties b ∷ (headsOf b ++ bodiesOf b)
+unfolding listing framed
+listing-parts b = ap (λ k. k ∷ (heads (1 + 2 * k) (programsTo b (parties b)) ++ bodiesOf b)) (values-length (partWords b) 0 (parties b))

@@ -25,6 +25,7 @@ pub mod Returned
 pub mod Came
 pub mod Rehearsals
 pub mod Idle
+pub mod Low
 
 -- ---- the play
 -- the move that party p makes with these events left: it takes the copy of the step that it waits for, or moves by itself

@@ -13,6 +13,7 @@ pub mod Listing
 pub mod Places
 pub mod Spelling
 pub mod Long
+pub mod Low
 pub mod Sized
 pub mod Outcome
 pub mod Spelled

@@ -1,0 +1,127 @@
+-- A party's events written step by step as bytes: `Flushed` says how far it got, and its laws are the loop's. Assumes nothing.
+use Prim.Native.Nat.{ℕ, _+_, _≤_, _<_}
+use native.Mathlib.Omega.{arith}
+use mathlib.Core.List.{List, [], _++_, map}
+use mathlib.Core.Path.{_≡_, refl, sym, ap, _∙_}
+use lib.ListN.{length, take}
+use Rattle.words.specs.Overlay.{forward, Wrote}
+use Rattle.words.specs.Overlay.Laws.{sets-far, wrote-length, wrote-take, wrote-as}
+use Rattle.octets.specs.Octets.{bytesOfAll}
+use Rattle.octets.specs.Octets.Laws.{bytes-none, bytes-then}
+use Rattle.terms.specs.Table.{term}
+use Rattle.book.specs.Layout.{table, steps, known}
+use Rattle.book.specs.Valid.{Valid}
+use Rattle.translation.specs.Dictionary.{start}
+use Rattle.translation.specs.Receive.{Did}
+use Rattle.translation.specs.Listing.{programWords}
+use Rattle.translation.specs.Listing.Laws.{program-append}
+use Rattle.translation.specs.Steps.{before}
+use Rattle.translation.specs.Steps.Laws.{before-none}
+use Rattle.translation.specs.Long.{stepWords}
+use Rattle.translation.specs.Long.Laws.{step-within}
+use Rattle.holding.specs.View.{rowOf, view}
+use Rattle.holding.specs.Doing.{Doing}
+use Rattle.holding.specs.Doing.Laws.{doing-none, doing-as}
+use Rattle.receiving.specs.declared.Dictionary.{Dictionary}
+use Rattle.receiving.specs.declared.Received.{Received}
+use Rattle.walking.specs.declared.Acted.{Acted}
+use Rattle.walking.specs.Walk.{IdleUntil}
+use Rattle.walking.specs.Walk.Laws.{before-skip}
+use Rattle.walking.specs.Walking.{actDid, ActReady, Acting, Along}
+use Rattle.walking.specs.Walking.Laws.{along-more, along-fits, along-on}
+use Rattle.editor.specs.Events.{EventsReady, WroteEvents}
+
+-- words that are only counted
+counted : (ws : List ℕ) (a : ℕ) → Wrote ws [] a [] (forward a (length ws))
+counted ws a = record { list = sym (sets-far ws [] a (omega arith)); next = refl; room = λ z. omega arith }
+
+-- a doing whose words went to a buffer, as one whose words are counted from another place on
+doing-counted : {b : List ℕ} {d : Did} {n k : ℕ} {l m : List ℕ} {a : ℕ} {o s x : List ℕ} {i j q : ℕ} → Doing b d n k l m a o s x i j q → (c : ℕ)
+    → Doing b d n k l m c [] [] x i j (forward c (length (programWords (rowOf b) (d .events))))
+doing-counted f c = record { holds = f .holds; goes = f .goes; wrote = counted _ c; keeps = f .keeps }
+
+-- standing at a place with the dictionary d
+abbrev standing : Dictionary → ℕ → Received
+standing d a = record { dictionary = d; at = a }
+
+-- party p came through the first i steps: `count` words, whose bytes were written from a on
+pub record Flushed (b : List ℕ) (p i : ℕ) (log₀ log out₀ : List ℕ) (a : ℕ) (out : List ℕ) (next : ℕ) (d : Dictionary) (step : List ℕ)
+    : Type 0 where
+  pub valid : Valid b
+  pub within : i ≤ steps b
+  pub count : ℕ
+  pub along : Along b p i 0 log₀ log 0 [] [] (standing d count)
+  pub wrote : Wrote (bytesOfAll (programWords (rowOf b) (before b p i .events))) out₀ a out next
+  pub size : length step ≡ stepWords
+
+-- steps in which the party has no part add nothing
+module _ {b : List ℕ} {p i j : ℕ} (valid : Valid b) (idle : IdleUntil b p i j) {log₀ log out₀ : List ℕ} {a : ℕ} {out : List ℕ} {next : ℕ} {d : Dictionary}
+    {step : List ℕ} where
+  skip : {c : ℕ} → Along b p i 0 log₀ log 0 [] [] (standing d c) → Wrote (bytesOfAll (programWords (rowOf b) (before b p i .events))) out₀ a out next
+      → length step ≡ stepWords → Flushed b p j log₀ log out₀ a out next d step
+  skip {c} g w l =
+      let same = before-skip b p idle in
+      record {
+        valid = valid;
+        within = idle .within;
+        count = c;
+        along = doing-as g same;
+        wrote = wrote-as w (ap (λ (e : Did). bytesOfAll (programWords (rowOf b) (e .events))) same);
+        size = l;
+      }
+
+-- ---- at the start the party holds what it knows
+pub flushed-start : {b : List ℕ} {p i : ℕ} {log out e : List ℕ} {a : ℕ} {d : Dictionary} {step : List ℕ}
+    → Valid b → view b e ≡ start (map (term (table b)) (known b p)) → (d .entries ≡ e) × (d .next ≡ 0) × (d .kept ≡ 0) → IdleUntil b p 0 i
+    → length step ≡ stepWords → Flushed b p i log log out a out a d step
+unfolding programWords
+flushed-start {b} {p} {e = e} v h w idle l =
+    let none = before-none b p in
+    skip v idle {d = _} {c = 0} (rw (w .0, w .1, w .2) (doing-as (rw (← h) (doing-none {b = b} {x = e})) none))
+    (wrote-as bytes-none (ap (λ (f : Did). bytesOfAll (programWords (rowOf b) (f .events))) none)) l
+
+module _ {b : List ℕ} {p i : ℕ} (h : i < steps b) {log₀ log out₀ : List ℕ} {a : ℕ} {out : List ℕ} {next : ℕ} {d : Dictionary}
+    {step : List ℕ} (g : Flushed b p i log₀ log out₀ a out next d step) where
+  -- ---- a step more can be done
+  pub flushed-ready : ActReady b p i (standing d 0)
+  flushed-ready = record { valid = g .valid; step = h; fits = along-fits b p i (g .along) (g .valid) h }
+
+  module _ {l logAfter stepAfter : List ℕ} {r : Acted} (w : Acting b l p i (standing d 0) log logAfter step stepAfter r) where
+    -- the step's words stand in front of the buffer
+    abbrev did : Did
+    did = actDid b p i (standing d 0)
+
+    few : length (programWords (rowOf b) (did .events)) ≤ stepWords
+    few = step-within b (g .valid) (rowOf b) p i h _ _ .words
+
+    pub flushed-size : length stepAfter ≡ stepWords
+    flushed-size = wrote-length (w .doing .wrote) ∙ g .size
+
+    behind : r .here .at ≡ length (programWords (rowOf b) (did .events))
+    behind = let n = w .doing .wrote .next in let f = few in omega arith
+
+    pub flushed-few : r .here .at ≤ length stepAfter
+    flushed-few = let e = behind in let f = few in let s = flushed-size in omega arith
+
+    front : take (r .here .at) stepAfter ≡ programWords (rowOf b) (did .events)
+    front =
+        let f = few in
+        let s = g .size in
+        ap (λ k. take k stepAfter) behind ∙ wrote-take (w .doing .wrote) (omega arith)
+
+    -- ---- and its bytes are behind those of the steps before
+    pub flushed-on : {j : ℕ} {outAfter : List ℕ} {after : ℕ} → Wrote (bytesOfAll (take (r .here .at) stepAfter)) out next outAfter after
+        → IdleUntil b p (i + 1) j → Flushed b p j log₀ logAfter out₀ a outAfter after (r .here .dictionary) stepAfter
+    flushed-on {j} {outAfter} {after} put idle =
+        let events = programWords (rowOf b) (before b p i .events) in
+        let both = bytes-then events (programWords (rowOf b) (did .events)) (g .wrote) (wrote-as put (ap bytesOfAll (sym front))) in
+        let more = ap (λ (f : Did). programWords (rowOf b) (f .events)) (along-more b p i (g .along)) ∙ program-append (rowOf b) (before b p i .events) (did .events) in
+        skip (g .valid) idle (along-on b p i (g .along) (doing-counted (w .doing) (g .count))) (wrote-as both (ap bytesOfAll more)) flushed-size
+
+-- ---- all steps
+pub flushed-end : {b : List ℕ} {p i n : ℕ} {log₀ log out₀ : List ℕ} {a : ℕ} {out : List ℕ} {next : ℕ} {d : Dictionary} {step : List ℕ}
+    → n ≡ steps b → n ≤ i → Flushed b p i log₀ log out₀ a out next d step → WroteEvents b p log₀ log out₀ a out next (d .kept)
+flushed-end {b} {p} {i} e h g =
+    let l = g .within in
+    let all : i ≡ steps b = omega arith in
+    record { wrote = rw all at (g .wrote); keeps = rw all at (g .along .keeps) }

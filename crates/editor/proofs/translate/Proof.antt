@@ -1,0 +1,51 @@
+-- `editor::translate` meets its contract: bytes that make whole words are loaded, and so many of them are enough
+-- (`long-book`). Assumes nothing.
+use Prim.Native.Nat.{_≤_}
+use mathlib.Core.Path.{_≡_, refl, sym, ap, _∙_}
+use mathlib.Core.List.{List}
+use Prim.Native.Nat.{ℕ}
+use native.Mathlib.Omega.{arith}
+use lib.ListN.{length-take}
+use borrow.Author.Needs.{needs}
+use Rattle.octets.specs.Octets.{wordsIn}
+use Rattle.octets.specs.Octets.Laws.{loaded-many, loaded-front}
+use Rattle.editor.specs.Bytes.{translated}
+use Rattle.editor.specs.Bytes.Laws.{of-whole, of-odd, long-book}
+use Rattle.editor.proofs.translate.Statement.{statement}
+use Rattle.editor.proofs.translate.Tie as tie
+
+-- what was loaded has room
+few : (c : tie.After-load) → c .load .result ≤ 12601
+few c = let start : tie.Start = search in loaded-many (start .args .book .now) refl (c .load .ensures)
+
+-- the bytes are no multiple of four
+returns : tie.Need-returns
+returns c =
+    let start : tie.Start = search in
+    sym (of-odd (start .args .book .now) (start .args .out .now) (c .if1 .taken))
+
+-- they are, and the words that were loaded are as good as all
+returns-2 : tie.Need-returns-2
+returns-2 c =
+    let after-translate-words : tie.After-translate-words = search in
+    let after-load : tie.After-load = search in
+    let else1 : tie.Else1 = search in
+    let start : tie.Start = search in
+    let bytes = start .args .book .now in
+    let out = start .args .out .now in
+    after-translate-words .translate-words .ensures
+    ∙ ap (λ (b : List ℕ). translated b out) (loaded-front bytes refl (after-load .load .ensures) (omega arith))
+    ∙ long-book (wordsIn bytes) (wordsIn bytes) out ∙ sym (of-whole bytes out (else1 .if1 .left))
+
+pub translate-spec : {M : Type 1} → statement M
+translate-spec =
+    tie.close
+    (tie.spec
+    returns
+    (λ c. search needs)  -- slice-aggregate-load
+    (λ c κs. search needs)  -- load-requires
+    (λ c. omega (arith, few (search)))  -- array-share-prefix-words
+    (λ c. simp length-take (omega (arith, few (search))))  -- slice-aggregate-translate-words
+    (λ c κs. search needs)  -- translate-words-requires
+    (λ c. search needs)  -- same-length
+    returns-2)

@@ -1,0 +1,47 @@
+-- The outcome on bytes, of any length each. Document 02, [1]: "translation and rehearsal callable .. on plain byte slices, low byte
+-- first, same answers. A book or schedule whose byte length isn't a multiple of four is refusal 1, before all else, place 0. Refusal
+-- 12 still counts words; up to three spare output bytes are untouched."
+use Prim.Native.Nat.{ℕ, _%_}
+use mathlib.Core.Bool.{Bool, _&&_}
+use mathlib.Core.List.{List, [], _∷_}
+use mathlib.Core.Path.{_≡_}
+use lib.ListN.{length}
+use lib.Dec.{eqb}
+use Rattle.words.specs.Choice.{pick}
+use Rattle.octets.specs.Octets.{wordsIn, spare, bytesOfAll}
+use Rattle.book.specs.Said.{said}
+use Rattle.translation.specs.Listing.{listing}
+use Rattle.translation.specs.Outcome.{Outcome, translationSays, laid}
+use Rattle.playing.specs.Rehearsal.{eventsDone, rehearsalSays}
+pub mod Laws
+
+-- the bytes make whole words
+abbrev pub whole : List ℕ → Bool
+whole bs = eqb (length bs % 4) 0
+
+-- refusal 1, place 0: no lent byte changes
+abbrev pub odd : List ℕ → Outcome
+odd out = record { says = said 1 (0 ∷ []); lent = out }
+
+-- of the words b, and of the schedule ms, into lent bytes: what is said is what is said where the words are lent that these bytes make,
+-- and on acceptance the bytes of the output are laid over them
+abbrev pub translated : List ℕ → List ℕ → Outcome
+translated b out = laid (translationSays b (wordsIn out)) out (bytesOfAll (listing b))
+
+abbrev pub rehearsed : List ℕ → List ℕ → List ℕ → Outcome
+rehearsed b ms out = laid (rehearsalSays b ms (wordsIn out)) out (bytesOfAll (eventsDone b ms))
+
+-- of the bytes of a book, and of a schedule
+unfoldable pub translationBytes : List ℕ → List ℕ → Outcome
+translationBytes bs out = pick (whole bs) (translated (wordsIn bs) out) (odd out)
+
+unfoldable pub rehearsalBytes : List ℕ → List ℕ → List ℕ → Outcome
+rehearsalBytes bs ms out = pick (whole bs && whole ms) (rehearsed (wordsIn bs) (wordsIn ms) out) (odd out)
+
+-- ---- what is said of it
+-- the outcome t on bytes is the outcome o on words: it says the same, its bytes make the same words, and the spare bytes are as they were
+pub record AsWords (o : Outcome) (out : List ℕ) (t : Outcome) : Type 0 where
+  pub says : t .says ≡ o .says
+  pub words : wordsIn (t .lent) ≡ o .lent
+  pub spares : spare (t .lent) ≡ spare out
+  pub size : length (t .lent) ≡ length out

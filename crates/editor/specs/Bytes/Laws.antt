@@ -1,0 +1,327 @@
+-- Laws of the outcome on bytes: it is the outcome on words, with the spare bytes as they were; and what is longer than a book or a
+-- schedule may be changes nothing by its length. Assumes nothing.
+use Prim.Native.Nat.{ℕ, zero, suc, _+_, _*_, _/_, _%_, _≤_, _<_, min}
+use mathlib.Core.Bool.{Bool, true, false}
+use mathlib.Core.List.{List, [], _∷_, _++_}
+use mathlib.Core.Path.{_≡_, refl, sym, ap, ap₂, _∙_}
+use native.Mathlib.Omega.{arith}
+use native.Mathlib.Decide.{ℕ-discrete, decLt, decLe}
+use lib.ListN.{length, getD, take}
+use lib.Dec.{eqb, ltb}
+use lib.Seq.{sets, length-sets, length-take-le, take-all, getD-take}
+use borrow.Author.Count.{below-more}
+use borrow.Author.Tests.{eq-eqb, ne-eqb, lt-ltb, le-ltb}
+use Rattle.words.specs.Choice.{pick}
+use Rattle.words.specs.Choice.Laws.{pick-true, pick-false}
+use Rattle.words.specs.Run.{All}
+use Rattle.words.specs.First.{first}
+use Rattle.words.specs.First.Laws.{first-same, first-le, first-at, first-end, first-holds, first-fails}
+use Rattle.octets.specs.Octets.{wordsIn, spare, bytesOfAll}
+use Rattle.octets.specs.Octets.Laws.{words-length, words-laid, spare-laid}
+use Rattle.book.specs.Layout.{header, counted, begins, offset, rows, parties, steps, pool}
+use Rattle.book.specs.Rules.{countBreaks, OffsetRule, stated, offsetBreaks}
+use Rattle.book.specs.Rules.Laws.{count-exact, offset-exact, differs-true}
+use Rattle.book.specs.Said.{Said, said, accepted}
+use Rattle.book.specs.Refusals.{Line, line, here, firstOf, readingTable, verdict}
+use Rattle.book.specs.Refusals.Laws.{scan-here, scan-on}
+use Rattle.translation.specs.Listing.{listing}
+use Rattle.book.specs.Headed.Laws.{rules-headed, valid-headed}
+use Rattle.translation.specs.Low.Laws.{listing-low}
+use Rattle.translation.specs.Outcome.{Outcome, roomLine, acceptance, translationSays, laid, outcome}
+use Rattle.translation.specs.Outcome.Laws.{laid-keeps, laid-lays, exactly-reading, exactly-written, book-first}
+use Rattle.playing.specs.Rehearsal.{eventsDone, rehearsalSays, rehearsal, BadMoves}
+use Rattle.playing.specs.Rehearsal.Laws.{rehearsal-acceptance-first, rehearsal-exactly-reading, rehearsal-exactly-11, exactly-played, done-length}
+use Rattle.playing.specs.Rehearsal.Low.{done-low}
+use Rattle.editor.specs.Bytes.{odd, translated, rehearsed, translationBytes, rehearsalBytes, AsWords}
+use Rattle.editor.specs.Packed.{unpack, packed, Small}
+use Rattle.editor.specs.Packed.Laws.{unpack-pack, plays-from, translation-small, rehearsal-small}
+
+-- ---- a book that is longer than a book can be
+-- of the first 12,601 words of more words
+module _ (b : List ℕ) (long : 12601 < length b) where
+  abbrev front : List ℕ
+  front = take 12601 b
+
+  front-length : length front ≡ 12601
+  front-length = length-take-le 12601 b (omega arith)
+
+  same-at : (k : ℕ) → k < 12601 → getD front k 0 ≡ getD b k 0
+  same-at k h = getD-take 12601 b k 0 h
+
+  same-count : (i : ℕ) → i < 4 → countBreaks front i ≡ countBreaks b i
+  unfolding countBreaks
+  same-count i h = rw (same-at (2 * i) (omega arith))
+
+  same-offset : (i : ℕ) → i ≤ 4 → offset front i ≡ offset b i
+  unfolding offset
+  same-offset zero h = refl
+  same-offset (suc i) h = rw (same-offset i (omega arith), same-at (2 * i) (omega arith))
+
+  same-breaks : (i : ℕ) → i < 4 → offsetBreaks front i ≡ offsetBreaks b i
+  unfolding offsetBreaks stated pick
+  same-breaks i h = rw (lt-ltb i 4 h, same-at (2 * i + 1) (omega arith), same-offset i (omega arith))
+
+-- where counts and offsets are what they have to be, the length breaks the rule
+length-breaks : (b : List ℕ) → 12600 < length b → ((i : ℕ) → i < 4 → countBreaks b i ≡ false) → ((i : ℕ) → i < 4 → offsetBreaks b i ≡ false)
+    → offsetBreaks b 4 ≡ true
+length-breaks b h counts offsets = go (offsetBreaks b 4) refl
+  where
+    go : (v : Bool) → offsetBreaks b 4 ≡ v → offsetBreaks b 4 ≡ true
+    go true e = e
+    go false e =
+        let each : (i : ℕ) → i < 5 → OffsetRule b i = below-more (λ i. OffsetRule b i) 4 (λ i l. offset-exact b i .0 (offsets i l)) (offset-exact b 4 .0 e) in
+        let headed = rules-headed b (λ i l. count-exact b i .0 (counts i l)) each in
+        let long = headed .long in
+        let r = headed .fewRows in
+        let p = headed .fewParties in
+        let s = headed .fewSteps in
+        let w = headed .smallPool in
+        absurd (omega arith)
+
+-- the place of refusal 3 among the first four offsets, or 4
+place-at : (b : List ℕ) (r : ℕ) → r ≤ 4 → ((k : ℕ) → k < r → offsetBreaks b k ≡ false) → offsetBreaks b r ≡ true → r ≡ first (offsetBreaks b) 5
+place-at b r h below holds = first-at (offsetBreaks b) 5 r (omega arith) below holds
+
+-- the place that both name
+record Third (b c : List ℕ) : Type 0 where
+  place : ℕ
+  within : place < 5
+  one : place ≡ first (offsetBreaks b) 5
+  other : place ≡ first (offsetBreaks c) 5
+
+third : (b : List ℕ) → 12601 < length b → ((i : ℕ) → i < 4 → countBreaks b i ≡ false) → Third (take 12601 b) b
+third b long counts =
+    let same = same-breaks b long in
+    elim (decLt (first (offsetBreaks b) 4) 4) [
+      | yes h ↦
+          let r = first (offsetBreaks b) 4 in
+          let holds = first-holds (offsetBreaks b) 4 h in
+          let below : (k : ℕ) → k < r → offsetBreaks b k ≡ false = first-fails (offsetBreaks b) 4 in
+          record {
+            place = r;
+            within = omega arith;
+            one = place-at (take 12601 b) r (omega arith) (λ k l. same k (omega arith) ∙ below k l) (same r h ∙ holds);
+            other = place-at b r (omega arith) below holds;
+          }
+      | no h ↦
+          let n = front-length b long in
+          let below : (k : ℕ) → k < 4 → offsetBreaks b k ≡ false = λ k l. first-fails (offsetBreaks b) 4 k (omega arith) in
+          let below-front : (k : ℕ) → k < 4 → offsetBreaks (take 12601 b) k ≡ false = λ k l. same k l ∙ below k l in
+          let counts-front : (k : ℕ) → k < 4 → countBreaks (take 12601 b) k ≡ false = λ k l. same-count b long k l ∙ counts k l in
+          record {
+            place = 4;
+            within = omega arith;
+            one = place-at (take 12601 b) 4 (omega arith) below-front (length-breaks (take 12601 b) (omega arith) counts-front below-front);
+            other = place-at b 4 (omega arith) below (length-breaks b (omega arith) counts below);
+          }
+    ]
+
+-- refusal 2 or 3, and of which place
+pub record Misfit (b c : List ℕ) : Type 0 where
+  pub number : ℕ
+  pub values : List ℕ
+  pub some : 0 < number
+  pub few : number ≤ 9
+  pub one : verdict b ≡ said number values
+  pub other : verdict c ≡ said number values
+
+module _ (b : List ℕ) (long : 12601 < length b) where
+  -- the first line is passed
+  not-short : (c : List ℕ) → 8 ≤ length c → 1 ≡ first (λ i. ltb (length c) header) 1
+  not-short c h = first-end (λ i. ltb (length c) header) 1 1 refl (λ k l. le-ltb (length c) 8 h)
+
+  pub misfit : Misfit (take 12601 b) b
+  unfolding verdict readingTable
+  misfit =
+      let n = front-length b long in
+      elim (decLt (first (countBreaks b) 4) 4) [
+        | yes h ↦
+            let r = first (countBreaks b) 4 in
+            record {
+              number = 2;
+              values = 2 * r ∷ [];
+              some = omega arith;
+              few = omega arith;
+              one = scan-on 1 1 _ _ _ accepted 1 (not-short (take 12601 b) (omega arith)) (omega arith)
+                  ∙ scan-here 2 4 _ _ _ accepted r (sym (first-same (countBreaks (take 12601 b)) (countBreaks b) 4 (same-count b long))) h;
+              other = scan-on 1 1 _ _ _ accepted 1 (not-short b (omega arith)) (omega arith) ∙ scan-here 2 4 _ _ _ accepted r refl h;
+            }
+        | no h ↦
+            let counts : (i : ℕ) → i < 4 → countBreaks b i ≡ false = λ i l. first-fails (countBreaks b) 4 i (omega arith) in
+            let r = third b long counts in
+            let four : 4 ≡ first (countBreaks b) 4 = (let l = first-le (countBreaks b) 4 in omega arith) in
+            let passes : 4 ≡ first (countBreaks (take 12601 b)) 4 =
+            four ∙ sym (first-same (countBreaks (take 12601 b)) (countBreaks b) 4 (same-count b long)) in
+            record {
+              number = 3;
+              values = min header (2 * r .place + 1) ∷ [];
+              some = omega arith;
+              few = omega arith;
+              one = scan-on 1 1 _ _ _ accepted 1 (not-short (take 12601 b) (omega arith)) (omega arith)
+                  ∙ scan-on 2 4 _ _ _ accepted 4 passes (omega arith) ∙ scan-here 3 5 _ _ _ accepted (r .place) (r .one) (r .within);
+              other = scan-on 1 1 _ _ _ accepted 1 (not-short b (omega arith)) (omega arith) ∙ scan-on 2 4 _ _ _ accepted 4 four (omega arith)
+                  ∙ scan-here 3 5 _ _ _ accepted (r .place) (r .other) (r .within);
+            }
+      ]
+
+-- ---- a refusal, whatever the output would be
+abbrev of : Said → List ℕ → Outcome
+of s l = record { says = s; lent = l }
+
+refused-same : (s t : Said) (out ws vs : List ℕ) → s ≡ t → (t .number ≡ 0 → ⊥) → laid s out ws ≡ laid t out vs
+refused-same s t out ws vs e n =
+    ap₂ of e (laid-keeps s out ws (λ z. n (ap (λ (x : Said). x .number) (sym e) ∙ z)) ∙ sym (laid-keeps t out vs n))
+
+-- so much of a book is enough
+module _ (b ms out : List ℕ) where
+  pub long-book : translated (take 12601 b) out ≡ translated b out
+  long-book = elim (decLt 12601 (length b)) [
+    | yes h ↦
+        let m = misfit b h in
+        let says : (c : List ℕ) → verdict c ≡ said (m .number) (m .values) → translationSays c (wordsIn out) ≡ said (m .number) (m .values) =
+        λ c. exactly-reading c (wordsIn out) (m .number) (m .some) (m .few) (m .values) .1 in
+        let some = m .some in
+        let theirs = says b (m .other) in
+        refused-same _ _ out (bytesOfAll (listing (take 12601 b))) (bytesOfAll (listing b)) (says (take 12601 b) (m .one) ∙ sym theirs)
+        (λ z. let e = ap (λ (s : Said). s .number) theirs in absurd (omega arith))
+    | no h ↦ ap (λ (c : List ℕ). translated c out) (take-all 12601 b (omega arith))
+  ]
+
+  pub long-played-book : rehearsed (take 12601 b) ms out ≡ rehearsed b ms out
+  long-played-book = elim (decLt 12601 (length b)) [
+    | yes h ↦
+        let m = misfit b h in
+        let says : (c : List ℕ) → verdict c ≡ said (m .number) (m .values) → rehearsalSays c ms (wordsIn out) ≡ said (m .number) (m .values) =
+        λ c. rehearsal-exactly-reading c ms (wordsIn out) (m .number) (m .some) (m .few) (m .values) .1 in
+        let some = m .some in
+        let theirs = says b (m .other) in
+        refused-same _ _ out (bytesOfAll (eventsDone (take 12601 b) ms)) (bytesOfAll (eventsDone b ms)) (says (take 12601 b) (m .one) ∙ sym theirs)
+        (λ z. let e = ap (λ (s : Said). s .number) theirs in absurd (omega arith))
+    | no h ↦ ap (λ (c : List ℕ). rehearsed c ms out) (take-all 12601 b (omega arith))
+  ]
+
+  -- so much of a schedule is enough
+  pub long-schedule : rehearsed b (take 4097 ms) out ≡ rehearsed b ms out
+  long-schedule = elim (decLt 4097 (length ms)) [
+    | no h ↦ ap (λ (l : List ℕ). rehearsed b l out) (take-all 4097 ms (omega arith))
+    | yes h ↦ elim (ℕ-discrete (acceptance b .number) 0) [
+      | no n ↦
+          let first : (l : List ℕ) → rehearsalSays b l (wordsIn out) ≡ acceptance b = λ l. rehearsal-acceptance-first b l (wordsIn out) n in
+          refused-same _ _ out (bytesOfAll (eventsDone b (take 4097 ms))) (bytesOfAll (eventsDone b ms)) (first (take 4097 ms) ∙ sym (first ms)) (λ z. n (ap (λ (s : Said). s .number) (sym (first ms)) ∙ z))
+      | yes z ↦
+          let plays = plays-from b z in
+          let n = length-take-le 4097 ms (omega arith) in
+          let says : (l : List ℕ) → 4096 < length l → rehearsalSays b l (wordsIn out) ≡ said 11 (4096 ∷ []) =
+          λ l k. rehearsal-exactly-11 b l (wordsIn out) (4096 ∷ []) .1 (plays, BadMoves.long k refl) in
+          let theirs = says ms (omega arith) in
+          refused-same _ _ out (bytesOfAll (eventsDone b (take 4097 ms))) (bytesOfAll (eventsDone b ms)) (says (take 4097 ms) (omega arith) ∙ sym theirs)
+          (λ e. let f = ap (λ (s : Said). s .number) theirs in absurd (omega arith))
+    ]
+  ]
+
+-- ---- a rehearsal needs room for no more than 16 words
+room-most : (room q : ℕ) → q ≤ 16 → ltb (min 16 room) q ≡ ltb room q
+room-most room q h = elim (decLt room q) [
+  | yes l ↦ lt-ltb (min 16 room) q (omega arith) ∙ sym (lt-ltb room q l)
+  | no l ↦ le-ltb (min 16 room) q (omega arith) ∙ sym (le-ltb room q (omega arith))
+]
+
+pub room-enough : (b ms out lent : List ℕ) → length lent ≡ min 16 (length out) → rehearsalSays b ms lent ≡ rehearsalSays b ms out
+unfolding rehearsalSays roomLine
+room-enough b ms out lent e = elim (ℕ-discrete (acceptance b .number) 0) [
+  | no n ↦ book-first b _ _ n ∙ sym (book-first b _ _ n)
+  | yes z ↦
+      let few = valid-headed b (plays-from b z .valid) .fewParties in
+      rw (e, room-most (length out) (parties b) few)
+]
+
+-- ---- the outcome on words
+laid-words : (s : Said) (out ws : List ℕ) → (s .number ≡ 0 → All (λ w. w < 4294967296) ws × (length ws ≤ length out / 4))
+    → AsWords (laid s (wordsIn out) ws) out (laid s out (bytesOfAll ws))
+laid-words s out ws fits = elim (ℕ-discrete (s .number) 0) [
+  | no n ↦
+      let bytes = laid-keeps s out (bytesOfAll ws) n in
+      record {
+        says = refl;
+        words = ap wordsIn bytes ∙ sym (laid-keeps s (wordsIn out) ws n);
+        spares = ap spare bytes;
+        size = ap length bytes;
+      }
+  | yes z ↦
+      let bytes = laid-lays s out (bytesOfAll ws) z in
+      let low = fits z .0 in
+      let room = fits z .1 in
+      record {
+        says = refl;
+        words = ap wordsIn bytes ∙ words-laid ws out low room ∙ sym (laid-lays s (wordsIn out) ws z);
+        spares = ap spare bytes ∙ spare-laid ws out low room;
+        size = ap length bytes ∙ length-sets out 0 (bytesOfAll ws);
+      }
+]
+
+module _ (bs out : List ℕ) (e : length bs % 4 ≡ 0) where
+  pub of-whole : translationBytes bs out ≡ translated (wordsIn bs) out
+  unfolding translationBytes
+  of-whole = pick-true _ _ _ (eq-eqb _ _ e)
+
+  pub translation-words : AsWords (outcome (wordsIn bs) (wordsIn out)) out (translationBytes bs out)
+  unfolding outcome
+  translation-words =
+      rw of-whole (laid-words (translationSays (wordsIn bs) (wordsIn out)) out (listing (wordsIn bs))
+      (λ z. let fits = exactly-written (wordsIn bs) (wordsIn out) .0 z in
+      let n = words-length out in
+      let room = fits .1 in
+      (listing-low (wordsIn bs) (fits .0 .valid), omega arith)))
+
+  module _ (ms : List ℕ) (f : length ms % 4 ≡ 0) where
+    pub of-wholes : rehearsalBytes bs ms out ≡ rehearsed (wordsIn bs) (wordsIn ms) out
+    unfolding rehearsalBytes
+    of-wholes = pick-true _ _ _ (rw (eq-eqb _ _ e, eq-eqb _ _ f))
+
+    pub rehearsal-words : AsWords (rehearsal (wordsIn bs) (wordsIn ms) (wordsIn out)) out (rehearsalBytes bs ms out)
+    unfolding rehearsal
+    rehearsal-words =
+        rw of-wholes (laid-words (rehearsalSays (wordsIn bs) (wordsIn ms) (wordsIn out)) out (eventsDone (wordsIn bs) (wordsIn ms))
+        (λ z. let fits = exactly-played (wordsIn bs) (wordsIn ms) (wordsIn out) .0 z in
+        let n = words-length out in
+        let d = done-length (wordsIn bs) (wordsIn ms) in
+        let room = fits .3 in
+        (done-low (wordsIn bs) (wordsIn ms) (fits .1), omega arith)))
+
+-- ---- refusal 1, place 0, before all else
+pub of-odd : (bs out : List ℕ) → (length bs % 4 ≡ 0 → ⊥) → translationBytes bs out ≡ odd out
+unfolding translationBytes
+of-odd bs out n = pick-false _ _ _ (ne-eqb _ _ n)
+
+pub of-odd-book : (bs ms out : List ℕ) → (length bs % 4 ≡ 0 → ⊥) → rehearsalBytes bs ms out ≡ odd out
+unfolding rehearsalBytes
+of-odd-book bs ms out n = pick-false _ _ _ (rw (ne-eqb _ _ n))
+
+pub of-odd-schedule : (bs ms out : List ℕ) → length bs % 4 ≡ 0 → (length ms % 4 ≡ 0 → ⊥) → rehearsalBytes bs ms out ≡ odd out
+unfolding rehearsalBytes
+of-odd-schedule bs ms out e n = pick-false _ _ _ (rw (eq-eqb _ _ e, ne-eqb _ _ n))
+
+-- ---- every answer fits one number, and is read back from it
+odd-small : Small (said 1 (0 ∷ []))
+odd-small = Small.one {n = 1} {v = 0} (omega arith) (omega arith) (omega arith)
+
+pub translation-bytes-small : (bs out : List ℕ) → Small (translationBytes bs out .says)
+translation-bytes-small bs out = elim (ℕ-discrete (length bs % 4) 0) [
+  | yes e ↦ rw (of-whole bs out e) (translation-small (wordsIn bs) (wordsIn out))
+  | no n ↦ rw (of-odd bs out n) odd-small
+]
+
+pub rehearsal-bytes-small : (bs ms out : List ℕ) → Small (rehearsalBytes bs ms out .says)
+rehearsal-bytes-small bs ms out = elim (ℕ-discrete (length bs % 4) 0) [
+  | yes e ↦ elim (ℕ-discrete (length ms % 4) 0) [
+    | yes f ↦ rw (of-wholes bs out e ms f) (rehearsal-small (wordsIn bs) (wordsIn ms) (wordsIn out))
+    | no n ↦ rw (of-odd-schedule bs ms out e n) odd-small
+  ]
+  | no n ↦ rw (of-odd-book bs ms out n) odd-small
+]
+
+pub translation-unpacked : (bs out : List ℕ) → unpack (packed (translationBytes bs out) .answer) ≡ translationBytes bs out .says
+translation-unpacked bs out = unpack-pack (translationBytes bs out .says) (translation-bytes-small bs out)
+
+pub rehearsal-unpacked : (bs ms out : List ℕ) → unpack (packed (rehearsalBytes bs ms out) .answer) ≡ rehearsalBytes bs ms out .says
+rehearsal-unpacked bs ms out = unpack-pack (rehearsalBytes bs ms out .says) (rehearsal-bytes-small bs ms out)

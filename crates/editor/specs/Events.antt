@@ -1,0 +1,22 @@
+-- What writing a party's program as bytes asks for, and what its events leave behind.
+use Prim.Native.Nat.{ℕ, _*_, _<_}
+use mathlib.Core.List.{List}
+use mathlib.Core.Path.{_≡_}
+use lib.ListN.{length}
+use Rattle.words.specs.Overlay.{Wrote}
+use Rattle.octets.specs.Octets.{bytesOfAll}
+use Rattle.book.specs.Layout.{parties, steps}
+use Rattle.book.specs.Valid.{Valid}
+use Rattle.translation.specs.Listing.{programWords, pairWords}
+use Rattle.translation.specs.Steps.{before}
+use Rattle.holding.specs.View.{rowOf}
+
+-- a party of a valid book. That it makes no taken atom is not asked: its events are what they are in any case
+pub record EventsReady (b : List ℕ) (p : ℕ) : Type 0 where
+  pub valid : Valid b
+  pub party : p < parties b
+
+-- the bytes of the events of all steps were written, and the stored pairs were kept
+pub record WroteEvents (b : List ℕ) (p : ℕ) (log logAfter out : List ℕ) (a : ℕ) (outAfter : List ℕ) (next kept : ℕ) : Type 0 where
+  pub wrote : Wrote (bytesOfAll (programWords (rowOf b) (before b p (steps b) .events))) out a outAfter next
+  pub keeps : Wrote (pairWords (rowOf b) (before b p (steps b) .stored)) log 0 logAfter kept

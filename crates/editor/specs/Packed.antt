@@ -1,0 +1,35 @@
+-- An answer in one number, for callers in another language: an answer that came back through a lent place would be a lent word that a
+-- refusal changes.
+use Prim.Native.Nat.{ℕ, _+_, _*_, _/_, _%_, _<_}
+use mathlib.Core.List.{List, [], _∷_}
+use mathlib.Core.Path.{_≡_}
+use lib.ListN.{getD}
+use lib.Dec.{eqb}
+use Rattle.words.specs.Choice.{pick}
+use Rattle.book.specs.Said.{Said, said}
+use Rattle.translation.specs.Outcome.{Outcome}
+pub mod Laws
+
+-- the answer's number in 8 bits, its first value in 32, its second, or 0, in 24
+unfoldable pub pack : Said → ℕ
+pack s = s .number + 256 * getD (s .values) 0 0 + 1099511627776 * getD (s .values) 1 0
+
+-- of the values, refusal 10 alone has two
+unfoldable pub unpack : ℕ → Said
+unpack n = said (n % 256) (n / 256 % 4294967296 ∷ pick (eqb (n % 256) 10) (n / 1099511627776 ∷ []) [])
+
+-- an answer that fits
+pub data Small : Said → Type 0 where
+  one : {n v : ℕ} → n < 256 → (n ≡ 10 → ⊥) → v < 4294967296 → Small (said n (v ∷ []))
+  two : {v w : ℕ} → v < 4294967296 → w < 16777216 → Small (said 10 (v ∷ w ∷ []))
+
+-- what such a caller gets: the number, and the lent bytes afterwards
+pub record Returned : Type 0 where
+  pub answer : ℕ
+  pub lent : List ℕ
+
+abbrev pub returned : ℕ → List ℕ → Returned
+returned n bs = record { answer = n; lent = bs }
+
+abbrev pub packed : Outcome → Returned
+packed o = returned (pack (o .says)) (o .lent)

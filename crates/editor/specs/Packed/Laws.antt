@@ -1,0 +1,144 @@
+-- Laws of an answer in one number: an answer that fits is read back from it, and so is every answer of a translation and of a rehearsal.
+-- Assumes nothing.
+use Prim.Native.Nat.{ℕ, _+_, _*_, _/_, _%_, _≤_, _<_, min}
+use mathlib.Core.Bool.{Bool, true, false}
+use mathlib.Core.List.{List, [], _∷_, _++_, append-nil}
+use mathlib.Core.Path.{_≡_, refl, sym, ap, ap₂, _∙_}
+use native.Mathlib.Omega.{arith}
+use native.Mathlib.Decide.{ℕ-discrete, decLt}
+use lib.ListN.{length}
+use borrow.Author.Tests.{eq-eqb, ne-eqb, ltb-false}
+use Rattle.words.specs.Choice.Laws.{pick-true, pick-false}
+use Rattle.words.specs.First.{first}
+use Rattle.words.specs.First.Laws.{first-holds, first-fails}
+use Rattle.book.specs.Layout.{rows, parties, steps}
+use Rattle.book.specs.Rules.Laws.{count-exact}
+use Rattle.book.specs.Said.{Said, said, accepted}
+use Rattle.book.specs.Refusals.{Line, line, firstOf, readingTable, verdict}
+use Rattle.book.specs.Refusals.Laws.{scan-here, scan-on, firstOf-none, firstOf-stop, all-keep, none-given}
+use Rattle.book.specs.Valid.{Valid}
+use Rattle.book.specs.Valid.Laws.{nine, reading-lines, keep-valid, valid-keep}
+use Rattle.book.specs.Headed.Laws.{valid-headed}
+use Rattle.translation.specs.Listing.{listing}
+use Rattle.translation.specs.Long.Laws.{listing-short}
+use Rattle.translation.specs.Low.Laws.{taken-low}
+use Rattle.translation.specs.Outcome.{takenLine, roomLine, acceptance, translationSays, Plays}
+use Rattle.translation.specs.Outcome.Laws.{ten, ten-lines, book-first, keep-plays, plays-keep}
+use Rattle.playing.specs.Rehearsal.{longLine, moveLine, rehearsalSays}
+use Rattle.editor.specs.Packed.{pack, unpack, Small}
+
+-- ---- read back
+pub unpack-pack : (s : Said) → Small s → unpack (pack s) ≡ s
+unfolding pack unpack
+unpack-pack _ (Small.one {n} {v} ln other lv) =
+    let p = n + 256 * v + 1099511627776 * 0 in
+    let number : p % 256 ≡ n = omega arith in
+    let rest : p / 256 ≡ v = omega arith in
+    let low : v % 4294967296 ≡ v = omega arith in
+    let value : p / 256 % 4294967296 ≡ v = ap (λ x. x % 4294967296) rest ∙ low in
+    ap₂ said number (ap₂ _∷_ value (pick-false _ _ _ (ne-eqb (p % 256) 10 (λ z. other (omega arith)))))
+unpack-pack _ (Small.two {v} {w} lv lw) =
+    let p = 10 + 256 * v + 1099511627776 * w in
+    let number : p % 256 ≡ 10 = omega arith in
+    let rest : p / 256 ≡ v + 4294967296 * w = omega arith in
+    let low : (v + 4294967296 * w) % 4294967296 ≡ v = omega arith in
+    let value : p / 256 % 4294967296 ≡ v = ap (λ x. x % 4294967296) rest ∙ low in
+    let second : p / 1099511627776 ≡ w = omega arith in
+    ap₂ said number (ap₂ _∷_ value (pick-true _ _ _ (eq-eqb (p % 256) 10 number) ∙ ap (λ x. x ∷ []) second))
+
+-- ---- an answer of a table, line by line
+line-says : (P : Said → Type 0) (n m : ℕ) (t : ℕ → Bool) (f : ℕ → List ℕ) (ls : List Line) (rest : Said)
+    → ((i : ℕ) → i < m → t i ≡ true → P (said n (f i))) → (((i : ℕ) → i < m → t i ≡ false) → P (firstOf ls rest))
+    → P (firstOf (line n m t f ∷ ls) rest)
+line-says P n m t f ls rest here on = elim (decLt (first t m) m) [
+  | yes h ↦ rw (scan-here n m t f ls rest (first t m) refl h) (here (first t m) h (first-holds t m h))
+  | no h ↦ rw (scan-on n m t f ls rest (first t m) refl (omega arith)) (on (λ i l. first-fails t m i (omega arith)))
+]
+
+last-says : (P : Said → Type 0) (rest : Said) → P rest → P (firstOf [] rest)
+last-says P rest p = rw (firstOf-none rest) p
+
+-- a refusal that fits
+abbrev Refuses : Said → Type 0
+Refuses s = (s .number ≡ 0 → ⊥) → Small s
+
+one-small : (n v : ℕ) → n < 10 → v < 4294967296 → Refuses (said n (v ∷ []))
+one-small n v l h z = Small.one {n = n} {v = v} (omega arith) (omega arith) h
+
+module _ (b : List ℕ) where
+  -- ---- refusals 1 to 9
+  verdict-small : Refuses (verdict b)
+  unfolding verdict readingTable
+  verdict-small =
+      line-says Refuses 1 1 _ _ _ accepted (λ i h t. one-small 1 0 (omega arith) (omega arith)) (λ long.
+      line-says Refuses 2 4 _ _ _ accepted (λ i h t. one-small 2 (2 * i) (omega arith) (omega arith)) (λ counts.
+      let few : rows b ≤ 1024 = count-exact b 0 .0 (counts 0 (omega arith)) .high in
+      let parts : parties b ≤ 16 = count-exact b 1 .0 (counts 1 (omega arith)) .high in
+      let short : steps b ≤ 64 = count-exact b 2 .0 (counts 2 (omega arith)) .high in
+      line-says Refuses 3 5 _ _ _ accepted (λ i h t. one-small 3 (min 8 (2 * i + 1)) (omega arith) (omega arith)) (λ offsets.
+      line-says Refuses 4 (rows b) _ _ _ accepted (λ i h t. one-small 4 i (omega arith) (omega arith)) (λ rowsKeep.
+      line-says Refuses 5 (rows b) _ _ _ accepted (λ i h t. one-small 5 i (omega arith) (omega arith)) (λ sizes.
+      line-says Refuses 6 (rows b) _ _ _ accepted (λ i h t. one-small 6 i (omega arith) (omega arith)) (λ single.
+      line-says Refuses 7 (parties b) _ _ _ accepted (λ i h t. one-small 7 i (omega arith) (omega arith)) (λ partiesKeep.
+      line-says Refuses 8 (steps b) _ _ _ accepted (λ i h t. one-small 8 i (omega arith) (omega arith)) (λ stepsKeep.
+      line-says Refuses 9 1 _ _ [] accepted (λ i h t. one-small 9 0 (omega arith) (omega arith)) (λ total.
+      last-says Refuses accepted (λ z. absurd (z refl)))))))))))
+
+  -- ---- refusals 1 to 10
+  valid-from : verdict b .number ≡ 0 → Valid b
+  unfolding verdict
+  valid-from z = keep-valid b (none-given (nine b) accepted (omega arith) (ap (λ (ls : List Line). firstOf ls accepted .number) (sym (reading-lines b)) ∙ z))
+
+  acceptance-small : Refuses (acceptance b)
+  unfolding acceptance verdict takenLine
+  acceptance-small = elim (ℕ-discrete (verdict b .number) 0) [
+    | no n ↦ rw (firstOf-stop (readingTable b) (takenLine b ∷ []) accepted accepted refl n) verdict-small
+    | yes z ↦
+        let v = valid-from z in
+        let few = valid-headed b v .fewRows in
+        let short = valid-headed b v .fewSteps in
+        rw (reading-lines b, all-keep (nine b) (takenLine b ∷ []) accepted (valid-keep b v))
+        (line-says Refuses 10 (steps b) _ _ [] accepted
+        (λ s h t n. Small.two (omega arith) (let r = taken-low b v s h t in omega arith)) (λ plays. last-says Refuses accepted (λ n. absurd (n refl))))
+  ]
+
+  pub plays-from : acceptance b .number ≡ 0 → Plays b
+  unfolding acceptance
+  plays-from z =
+      keep-plays b (none-given (ten b) accepted (omega arith)
+      (ap (λ (ls : List Line). firstOf ls accepted .number) (sym (ten-lines b [] ∙ append-nil _)) ∙ z))
+
+  -- ---- and 12, or acceptance
+  pub translation-small : (out : List ℕ) → Small (translationSays b out)
+  unfolding translationSays roomLine
+  translation-small out = elim (ℕ-discrete (acceptance b .number) 0) [
+    | no n ↦ rw (book-first b (roomLine (length out) (length (listing b)) ∷ []) (said 0 (length (listing b) ∷ [])) n) (acceptance-small n)
+    | yes z ↦
+        let p = plays-from z in
+        let short = listing-short b (p .valid) in
+        let rest = said 0 (length (listing b) ∷ []) in
+        let line12 = roomLine (length out) (length (listing b)) in
+        rw (ten-lines b (line12 ∷ []), all-keep (ten b) (line12 ∷ []) rest (plays-keep b p))
+        (line-says Small 12 1 _ _ [] rest (λ i h t. Small.one {n = 12} (omega arith) (omega arith) (omega arith))
+        (λ room. last-says Small rest (Small.one {n = 0} (omega arith) (omega arith) (omega arith))))
+  ]
+
+  -- ---- of a rehearsal 11, too
+  pub rehearsal-small : (ms out : List ℕ) → Small (rehearsalSays b ms out)
+  unfolding rehearsalSays longLine moveLine roomLine
+  rehearsal-small ms out = elim (ℕ-discrete (acceptance b .number) 0) [
+    | no n ↦ rw (book-first b _ _ n) (acceptance-small n)
+    | yes z ↦
+        let p = plays-from z in
+        let few = valid-headed b (p .valid) .fewParties in
+        let rest = said 0 (parties b ∷ []) in
+        rw (
+          ten-lines b (longLine ms ∷ moveLine (parties b) ms ∷ roomLine (length out) (parties b) ∷ []),
+          all-keep (ten b) (longLine ms ∷ moveLine (parties b) ms ∷ roomLine (length out) (parties b) ∷ []) rest (plays-keep b p),
+        )
+        (line-says Small 11 1 _ _ _ rest (λ i h t. Small.one {n = 11} (omega arith) (omega arith) (omega arith)) (λ short.
+        line-says Small 11 (length ms) _ _ _ rest
+        (λ i h t. Small.one {n = 11} (omega arith) (omega arith) (let l = ltb-false 4096 (length ms) (short 0 (omega arith)) in omega arith)) (λ named.
+        line-says Small 12 1 _ _ [] rest (λ i h t. Small.one {n = 12} (omega arith) (omega arith) (omega arith))
+        (λ room. last-says Small rest (Small.one {n = 0} (omega arith) (omega arith) (omega arith))))))
+  ]

@@ -1,0 +1,257 @@
+// The faces on bytes, low byte first, for callers in other languages. `nghiralum_translate` and `nghiralum_rehearse` answer for any
+// bytes what the faces on words answer for the words that they make, in one number, and leave the same words as bytes; a book or a
+// schedule that makes no whole words is refused before all else.
+use book::ByRow;
+use book::Code;
+use book::Refusal;
+use book::Told;
+use book::parties;
+use book::steps;
+use book::told_of;
+use holding::start;
+use octets::load;
+use octets::put_words;
+use receiving::Dictionary;
+use receiving::Received;
+use translation::Answer;
+use translator::prepare;
+use walking::act;
+use walking::next_own;
+use words::narrow;
+use words::put;
+use words::put_all;
+use words::put2;
+use words::wide;
+ghost use mathlib.Core.Path.{_≡_};
+ghost use Prim.Native.Nat.{_/_, min};
+ghost use lib.ListN.{length};
+ghost use Rattle.words.specs.Overlay.{Wrote};
+ghost use Rattle.octets.specs.Octets.{bytesOfAll};
+ghost use Rattle.book.specs.Layout.{parties as partiesOf};
+ghost use Rattle.book.specs.Said.{toldSays};
+ghost use Rattle.book.specs.Valid.{Valid};
+ghost use Rattle.translation.specs.Listing.{listing, partWords};
+ghost use Rattle.translation.specs.Outcome.{answerSays, came};
+ghost use Rattle.claims.specs.Claims.{Claims};
+ghost use Rattle.walking.specs.Walk.{Unrefused};
+ghost use Rattle.translator.specs.Parts.{HeadsIn, bodiesOf};
+ghost use Rattle.translator.specs.Ready.{Writable};
+ghost use Rattle.editor.specs.Bytes.{translated, rehearsed, translationBytes, rehearsalBytes};
+ghost use Rattle.editor.specs.Events.{EventsReady, WroteEvents};
+ghost use Rattle.editor.specs.Packed.{pack as packOf, Small, returned, packed};
+
+// What is read and kept at most.
+struct Most {}
+
+impl Most {
+    // One word more than the longest book has, and one move more than a schedule may have: what is longer is refused all the same.
+    const WORDS: usize = 12601;
+
+    const MOVES: usize = 4097;
+
+    // The words of a step's events, and of the pairs that a party stores.
+    const STEP: usize = 16388;
+
+    const PAIRS: usize = 2048;
+
+    const PARTIES: usize = 16;
+}
+
+// Behind a party's events: where the next byte goes, and the words of the pairs that it stored.
+struct Events {
+    at: usize,
+    kept: usize,
+}
+
+// A party's events, step by step: each step's words go to a buffer that has room for any step's, and from there, as bytes, to the output.
+fn write_events(
+    book: &[u32],
+    since: &ByRow,
+    party: u32,
+    log: &mut [u32],
+    out: &mut [u8],
+    at: usize,
+) -> Events
+    requires { ⌜ EventsReady (now book) party ⌝ }
+    ensures { λ r. ⌜ WroteEvents (now (book .entry)) party (now (log .entry)) (now (log .exit)) (now (out .entry)) at (now (out .exit)) (r .at) (r .kept) ⌝ }
+{
+    let mut step = [0u32; Most::STEP];
+    let n = steps(book);
+    let entries = start(book, party);
+    let mut dictionary = Dictionary::new(entries, 0);
+    let mut next = at;
+    let mut i = next_own(book, party, 0);
+    while i < n {
+        let here = Received { dictionary, at: 0 };
+        let acted = act(book, since, here, party, i, log, &mut step);
+        let there = acted.here;
+        dictionary = there.dictionary;
+        next = put_words(out, next, &step, there.at);
+        i = next_own(book, party, i + 1);
+    }
+    Events {
+        at: next,
+        kept: dictionary.kept,
+    }
+}
+
+// The program of a party that makes no taken atom, as bytes.
+fn write_program(book: &[u32], since: &ByRow, party: u32, out: &mut [u8], at: usize) -> usize
+    requires { ⌜ EventsReady (now book) party ⌝ }
+    ensures { λ r. ⌜ Wrote (bytesOfAll (partWords (now (book .entry)) party)) (now (out .entry)) at (now (out .exit)) r ⌝ }
+{
+    let mut log = [0u32; Most::PAIRS];
+    let events = write_events(book, since, party, &mut log, out, at);
+    let mut end = [0u32; 2];
+    put2(&mut end, 0, Code::END, narrow(events.kept / 2));
+    let pairs = put_words(out, events.at, &end, 2);
+    put_words(out, pairs, &log, events.kept)
+}
+
+// The programs, in party order, as bytes.
+fn write_bodies(book: &[u32], since: &ByRow, out: &mut [u8], at: usize) -> usize
+    requires { ⌜ Writable (now book) (now since) ⌝ }
+    ensures { λ r. ⌜ Wrote (bytesOfAll (bodiesOf (now (book .entry)))) (now (out .entry)) at (now (out .exit)) r ⌝ }
+{
+    let n = parties(book);
+    let mut next = at;
+    let mut party = 0;
+    while party < n {
+        next = write_program(book, since, party, out, next);
+        party += 1;
+    }
+    next
+}
+
+// The whole output, as bytes: its heads were found before.
+fn write_listing(book: &[u32], since: &ByRow, heads: &[u32], out: &mut [u8]) -> usize
+    requires { ⌜ Writable (now book) (now since) × HeadsIn (now book) (now heads) ⌝ }
+    ensures { λ r. ⌜ Wrote (bytesOfAll (listing (now (book .entry)))) (now (out .entry)) 0 (now (out .exit)) r ⌝ }
+{
+    let n = parties(book);
+    let mut front = [0u32; 1];
+    put(&mut front, 0, n);
+    let first = put_words(out, 0, &front, 1);
+    let next = put_words(out, first, heads, 2 * wide(n));
+    write_bodies(book, since, out, next)
+}
+
+// The output of any words into any lent bytes, or the first refusal that applies.
+fn translate_words(book: &[u32], out: &mut [u8]) -> Answer
+    ensures { λ r. ⌜ came r (now (out .exit)) ≡ translated (now (book .entry)) (now (out .entry)) ⌝ }
+{
+    let plan = prepare(book, out.len() / 4);
+    let answer = plan.answer;
+    match answer {
+        Answer::Refused(why) => Answer::Refused(why),
+        Answer::Written(n) => {
+            let since = plan.since;
+            let heads = plan.heads;
+            write_listing(book, &since, &heads, out);
+            Answer::Written(n)
+        }
+    }
+}
+
+// The same for the bytes of a book.
+pub fn translate(book: &[u8], out: &mut [u8]) -> Answer
+    ensures { λ r. ⌜ came r (now (out .exit)) ≡ translationBytes (now (book .entry)) (now (out .entry)) ⌝ }
+{
+    if book.len() % 4 != 0 {
+        return Answer::Refused(Refusal::Short);
+    }
+    let mut words = [0u32; Most::WORDS];
+    let n = load(book, &mut words);
+    translate_words(&words[..n], out)
+}
+
+// The smaller of two.
+fn smaller(m: usize, n: usize) -> usize
+    ensures { λ r. ⌜ r ≡ min m n ⌝ }
+{
+    if m < n {
+        return m;
+    }
+    n
+}
+
+// A rehearsal into words, and from there, as bytes, to the output. There are as many words as the output has room for, or as parties
+// can be.
+fn rehearse_through(book: &[u32], schedule: &[u32], done: &mut [u32], out: &mut [u8]) -> Answer
+    requires { ⌜ length (now done) ≡ min 16 (length (now out) / 4) ⌝ }
+    ensures { λ r. ⌜ came r (now (out .exit)) ≡ rehearsed (now (book .entry)) (now (schedule .entry)) (now (out .entry)) ⌝ }
+{
+    let answer = rehearsal::rehearse(book, schedule, done);
+    match answer {
+        Answer::Refused(why) => Answer::Refused(why),
+        Answer::Written(n) => {
+            put_words(out, 0, done, n);
+            Answer::Written(n)
+        }
+    }
+}
+
+// The events done by each party of any words under any schedule, into any lent bytes, or the first refusal that applies.
+fn rehearse_words(book: &[u32], schedule: &[u32], out: &mut [u8]) -> Answer
+    ensures { λ r. ⌜ came r (now (out .exit)) ≡ rehearsed (now (book .entry)) (now (schedule .entry)) (now (out .entry)) ⌝ }
+{
+    let mut done = [0u32; Most::PARTIES];
+    let room = smaller(Most::PARTIES, out.len() / 4);
+    rehearse_through(book, schedule, &mut done[..room], out)
+}
+
+// The same for the bytes of a book and of a schedule.
+pub fn rehearse(book: &[u8], schedule: &[u8], out: &mut [u8]) -> Answer
+    ensures { λ r. ⌜ came r (now (out .exit)) ≡ rehearsalBytes (now (book .entry)) (now (schedule .entry)) (now (out .entry)) ⌝ }
+{
+    if book.len() % 4 != 0 {
+        return Answer::Refused(Refusal::Short);
+    }
+    if schedule.len() % 4 != 0 {
+        return Answer::Refused(Refusal::Short);
+    }
+    let mut words = [0u32; Most::WORDS];
+    let n = load(book, &mut words);
+    let mut moves = [0u32; Most::MOVES];
+    let m = load(schedule, &mut moves);
+    rehearse_words(&words[..n], &moves[..m], out)
+}
+
+// An answer's number and values in one number.
+fn pack_told(told: Told) -> u64
+    requires { ⌜ Small (toldSays told) ⌝ }
+    ensures { λ r. ⌜ r ≡ packOf (toldSays told) ⌝ }
+{
+    match told {
+        Told::One(number, first) => number + 256 * first,
+        Told::Two(number, first, second) => number + 256 * first + 1099511627776 * second,
+    }
+}
+
+fn pack(answer: Answer) -> u64
+    requires { ⌜ Small (answerSays answer) ⌝ }
+    ensures { λ r. ⌜ r ≡ packOf (answerSays answer) ⌝ }
+{
+    match answer {
+        Answer::Written(n) => pack_told(Told::One(0, n as u64)),
+        Answer::Refused(refusal) => pack_told(told_of(refusal)),
+    }
+}
+
+// The translation for callers in other languages.
+#[no_mangle]
+pub extern "C" fn nghiralum_translate(book: &[u8], out: &mut [u8]) -> u64
+    ensures { λ r. ⌜ returned r (now (out .exit)) ≡ packed (translationBytes (now (book .entry)) (now (out .entry))) ⌝ }
+{
+    let answer = translate(book, out);
+    pack(answer)
+}
+
+// The rehearsal for them.
+#[no_mangle]
+pub extern "C" fn nghiralum_rehearse(book: &[u8], schedule: &[u8], out: &mut [u8]) -> u64
+    ensures { λ r. ⌜ returned r (now (out .exit)) ≡ packed (rehearsalBytes (now (book .entry)) (now (schedule .entry)) (now (out .entry))) ⌝ }
+{
+    let answer = rehearse(book, schedule, out);
+    pack(answer)
+}

@@ -2,16 +2,15 @@
 //! first, and only equal ones are timed; the outcome is told in tables.
 
 mod cases;
-mod library;
 mod plot;
 mod timing;
 
 use crate::book::{Refusal, MOST_PARTIES};
 use crate::files;
+use crate::library::Library;
 use crate::rehearse::{self, MOST_MOVES};
 use crate::translate::{self, LENT};
 use cases::{Case, Group};
-use library::Library;
 use plot::Point;
 use std::hint::black_box;
 use std::io::Write;

@@ -9,6 +9,7 @@ pub mod corpus;
 pub mod edits;
 pub mod files;
 pub mod frames;
+pub mod library;
 pub mod machine;
 pub mod mutants;
 pub mod narration;

@@ -1,0 +1,252 @@
+//! The proved code as a shared library, made for the machine at hand by the script `host/library`: its functions found
+//! by name, those on words called as Rattle's own code calls them, those on bytes as C does.
+
+use crate::book::Refusal;
+use std::ffi::{c_char, c_int, c_void, CStr, CString};
+use std::mem;
+use std::path::Path;
+
+unsafe extern "C" {
+    fn dlopen(name: *const c_char, how: c_int) -> *mut c_void;
+    fn dlsym(library: *mut c_void, name: *const c_char) -> *mut c_void;
+    fn dlerror() -> *const c_char;
+}
+
+/// All names are looked up at once, so that a call never waits for one.
+const NOW: c_int = 2;
+
+const TRANSLATE: &CStr = c"translator::translate";
+const REHEARSE: &CStr = c"rehearsal::rehearse";
+const TRANSLATE_BYTES: &CStr = c"nghiralum_translate";
+const REHEARSE_BYTES: &CStr = c"nghiralum_rehearse";
+
+/// A slice as Rattle hands it over: the address of these two.
+#[repr(C)]
+struct Slice {
+    words: *const u32,
+    length: usize,
+}
+
+impl Slice {
+    fn of(words: &[u32]) -> Slice {
+        Slice {
+            words: words.as_ptr(),
+            length: words.len(),
+        }
+    }
+
+    fn of_lent(words: &mut [u32]) -> Slice {
+        Slice {
+            words: words.as_mut_ptr(),
+            length: words.len(),
+        }
+    }
+}
+
+/// Rattle's `Answer`: case 0 with a length, or 1 with a refusal.
+#[repr(C)]
+#[derive(Default)]
+struct Answer {
+    case: u8,
+    value: Value,
+}
+
+/// A length, or a refusal: its case in the first byte, then its values, each where its own size lets it stand.
+#[repr(C, align(8))]
+#[derive(Default, Clone, Copy)]
+struct Value {
+    bytes: [u8; 16],
+}
+
+impl Value {
+    fn word(self, at: usize) -> u32 {
+        let four = [0, 1, 2, 3].map(|byte| self.bytes[at + byte]);
+        u32::from_ne_bytes(four)
+    }
+
+    fn length(self, at: usize) -> usize {
+        let eight = [0, 1, 2, 3, 4, 5, 6, 7].map(|byte| self.bytes[at + byte]);
+        u64::from_ne_bytes(eight) as usize
+    }
+}
+
+impl Answer {
+    /// The answer as the host gives it. Rattle's `Refusal` has a case for each number, in their order and without gaps,
+    /// so a case's place is the number less one; and which values a case has, this can only take from its number. A
+    /// refusal whose number leaves a gap, or a case with other values, needs a line here. All bytes were set before the
+    /// call, so whatever case comes back, what is read here was written.
+    fn read(&self) -> Result<usize, Refusal> {
+        if self.case == 0 {
+            return Ok(self.value.length(0));
+        }
+        let number = u32::from(self.value.bytes[0]) + 1;
+        let place = match number {
+            1 | 9 => vec![0],
+            10 => vec![self.value.word(4), self.value.word(8)],
+            12 => vec![self.value.length(8) as u32],
+            _ => vec![self.value.word(4)],
+        };
+        Err(Refusal { number, place })
+    }
+}
+
+/// An answer as the functions on bytes give it, in one number: the refusal's in the lowest byte, 0 for none; above it
+/// four bytes for the first value, a length in words or a place, and three for a second place.
+pub fn packed(answer: &Result<usize, Refusal>) -> u64 {
+    let (number, place) = match answer {
+        Ok(length) => (0, vec![*length as u64]),
+        Err(Refusal { number, place }) => (u64::from(*number), place.iter().map(|word| u64::from(*word)).collect()),
+    };
+    let value = |at: usize| place.get(at).copied().unwrap_or(0);
+    number | value(0) << 8 | value(1) << 40
+}
+
+type Translate = unsafe extern "C" fn(*mut Answer, *const Slice, *const Slice);
+type Rehearse = unsafe extern "C" fn(*mut Answer, *const Slice, *const Slice, *const Slice);
+type TranslateBytes = unsafe extern "C" fn(*const u8, usize, *mut u8, usize) -> u64;
+type RehearseBytes = unsafe extern "C" fn(*const u8, usize, *const u8, usize, *mut u8, usize) -> u64;
+
+/// The functions that a library has. It is never closed: they live as long as the command.
+pub struct Library {
+    translate: Option<Translate>,
+    rehearse: Option<Rehearse>,
+    translate_bytes: Option<TranslateBytes>,
+    rehearse_bytes: Option<RehearseBytes>,
+}
+
+impl Library {
+    /// Opens a library. What it holds is believed to be what the script puts there.
+    pub fn open(path: &Path) -> Result<Library, String> {
+        let library = opened(path)?;
+        let find = |name: &CStr| {
+            // SAFETY: the library is open, and the name ends with a zero.
+            let found = unsafe { dlsym(library, name.as_ptr()) };
+            (!found.is_null()).then_some(found)
+        };
+        // SAFETY: the IR declares the first two with pointers alone, the other two as C does, in this order.
+        Ok(unsafe {
+            Library {
+                translate: find(TRANSLATE).map(|found| mem::transmute::<*mut c_void, Translate>(found)),
+                rehearse: find(REHEARSE).map(|found| mem::transmute::<*mut c_void, Rehearse>(found)),
+                translate_bytes: find(TRANSLATE_BYTES)
+                    .map(|found| mem::transmute::<*mut c_void, TranslateBytes>(found)),
+                rehearse_bytes: find(REHEARSE_BYTES).map(|found| mem::transmute::<*mut c_void, RehearseBytes>(found)),
+            }
+        })
+    }
+
+    /// The names of the functions that the library doesn't have.
+    pub fn missing(&self) -> Vec<&'static str> {
+        let all = [
+            (TRANSLATE, self.translate.is_some()),
+            (REHEARSE, self.rehearse.is_some()),
+            (TRANSLATE_BYTES, self.translate_bytes.is_some()),
+            (REHEARSE_BYTES, self.rehearse_bytes.is_some()),
+        ];
+        let missing = all.into_iter().filter(|(_, there)| !there);
+        missing
+            .map(|(name, _)| name.to_str().expect("names are plain"))
+            .collect()
+    }
+
+    pub fn has_translate(&self) -> bool {
+        self.translate.is_some()
+    }
+
+    pub fn has_rehearse(&self) -> bool {
+        self.rehearse.is_some()
+    }
+
+    /// The proved `translator::translate`, which the library must have.
+    pub fn translate(&self, book: &[u32], out: &mut [u32]) -> Result<usize, Refusal> {
+        let translate = self.translate.expect("the library has `translate`");
+        let mut answer = Answer::default();
+        let (book, out) = (Slice::of(book), Slice::of_lent(out));
+        // SAFETY: the slices are what they say, and the answer is as large as Rattle's.
+        unsafe { translate(&mut answer, &book, &out) };
+        answer.read()
+    }
+
+    /// The proved `rehearsal::rehearse`, which the library must have.
+    pub fn rehearse(&self, book: &[u32], schedule: &[u32], out: &mut [u32]) -> Result<usize, Refusal> {
+        let rehearse = self.rehearse.expect("the library has `rehearse`");
+        let mut answer = Answer::default();
+        let (book, schedule, out) = (Slice::of(book), Slice::of(schedule), Slice::of_lent(out));
+        // SAFETY: as above.
+        unsafe { rehearse(&mut answer, &book, &schedule, &out) };
+        answer.read()
+    }
+
+    /// The proved `nghiralum_translate`, which the library must have: its answer as it is packed.
+    pub fn translate_bytes(&self, book: &[u8], out: &mut [u8]) -> u64 {
+        let translate = self.translate_bytes.expect("the library has `nghiralum_translate`");
+        // SAFETY: the slices are what they say.
+        unsafe { translate(book.as_ptr(), book.len(), out.as_mut_ptr(), out.len()) }
+    }
+
+    /// The proved `nghiralum_rehearse`, which the library must have: its answer as it is packed.
+    pub fn rehearse_bytes(&self, book: &[u8], schedule: &[u8], out: &mut [u8]) -> u64 {
+        let rehearse = self.rehearse_bytes.expect("the library has `nghiralum_rehearse`");
+        let (moves, count) = (schedule.as_ptr(), schedule.len());
+        // SAFETY: as above.
+        unsafe { rehearse(book.as_ptr(), book.len(), moves, count, out.as_mut_ptr(), out.len()) }
+    }
+}
+
+fn opened(path: &Path) -> Result<*mut c_void, String> {
+    let told = |what: &str| format!("{}: {what}", path.display());
+    // A name without a slash would be looked for in the system's folders.
+    let whole = path.canonicalize();
+    let whole = whole.map_err(|error| told(&error.to_string()))?;
+    let name = CString::new(whole.as_os_str().as_encoded_bytes());
+    let name = name.map_err(|_| told("no name of a file"))?;
+    // SAFETY: the name ends with a zero. The library has no code that runs when it is opened.
+    let library = unsafe { dlopen(name.as_ptr(), NOW) };
+    if library.is_null() {
+        // SAFETY: after a failure this is a text that ends with a zero.
+        let why = unsafe { CStr::from_ptr(dlerror()) };
+        return Err(told(&why.to_string_lossy()));
+    }
+    Ok(library)
+}
+
+#[cfg(test)]
+mod tests {
+    use super::*;
+
+    fn answer(case: u8, bytes: [u8; 16]) -> Result<usize, Refusal> {
+        let value = Value { bytes };
+        Answer { case, value }.read()
+    }
+
+    #[test]
+    fn answers_are_read() {
+        assert_eq!(mem::size_of::<Answer>(), 24);
+        let mut bytes = [0; 16];
+        bytes[..8].copy_from_slice(&300u64.to_ne_bytes());
+        assert_eq!(answer(0, bytes), Ok(300));
+        assert_eq!(answer(1, [0; 16]), Err(Refusal::new(1, &[0])));
+        let mut bytes = [0; 16];
+        bytes[0] = 9;
+        bytes[4..8].copy_from_slice(&5u32.to_ne_bytes());
+        bytes[8..12].copy_from_slice(&700u32.to_ne_bytes());
+        assert_eq!(answer(1, bytes), Err(Refusal::new(10, &[5, 700])));
+        bytes[0] = 3;
+        assert_eq!(answer(1, bytes), Err(Refusal::new(4, &[5])));
+        let mut bytes = [0; 16];
+        bytes[0] = 11;
+        bytes[8..].copy_from_slice(&20_000u64.to_ne_bytes());
+        assert_eq!(answer(1, bytes), Err(Refusal::new(12, &[20_000])));
+        // Whatever comes back is read.
+        assert!(answer(0xff, [0xff; 16]).is_err());
+    }
+
+    #[test]
+    fn answers_are_packed() {
+        assert_eq!(packed(&Ok(0)), 0);
+        assert_eq!(packed(&Ok(47)), 47 << 8);
+        assert_eq!(packed(&Err(Refusal::new(1, &[0]))), 1);
+        assert_eq!(packed(&Err(Refusal::new(12, &[33_558_593]))), 33_558_593 << 8 | 12);
+        assert_eq!(packed(&Err(Refusal::new(10, &[63, 1_023]))), 1_023 << 40 | 63 << 8 | 10);
+    }
+}

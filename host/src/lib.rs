@@ -4,6 +4,7 @@
 
 pub mod bench;
 pub mod book;
+pub mod bytes;
 pub mod compare;
 pub mod corpus;
 pub mod edits;
@@ -15,6 +16,7 @@ pub mod mutants;
 pub mod narration;
 pub mod random;
 pub mod rehearse;
+pub mod routes;
 pub mod shelf;
 pub mod show;
 pub mod term;

@@ -3,7 +3,7 @@
 
 use host::shelf::Shelf;
 use host::{
-    bench, compare, corpus, edits, files, frames, mutants, narration, random, rehearse, show, translate, words,
+    bench, compare, corpus, edits, files, frames, mutants, narration, random, rehearse, routes, show, translate, words,
 };
 use std::io::{self, Write};
 use std::path::{Path, PathBuf};
@@ -25,6 +25,7 @@ host compare PROGRAM PATH..             compare a program over books and folders
 host compare PROGRAM --random SEED COUNT   compare a program over random books
 host frames OBJECT [NAME..]             print the stack frames of an object's functions, in bytes (x86-64)
 host bench LIB BOOKS [PLOT]             time proved code, a library made by host/library, against this on books
+host routes LIB SEED COUNT [DIR..]      compare proved bytes, proved words and this on books and schedules
 host help                               print this
 ";
 
@@ -138,6 +139,11 @@ fn run(arguments: &[String]) -> Result<bool, String> {
             let (library, books) = (Path::new(library), Path::new(books));
             let plot = plot.first().map(Path::new);
             bench::run(library, books, plot, &mut io::stdout())?;
+        }
+        ["routes", library, seed, count, folders @ ..] => {
+            let (seed, count) = (number(seed)?, number(count)? as usize);
+            let folders: Vec<PathBuf> = folders.iter().map(PathBuf::from).collect();
+            return routes::run(Path::new(library), seed, count, &folders, &mut io::stdout());
         }
         [command, ..] => {
             return Err(format!("what is asked with `{command}` isn't clear\n\n{USE}"));

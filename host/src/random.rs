@@ -11,6 +11,7 @@ use std::fs;
 use std::path::Path;
 
 /// A small generator of pseudorandom numbers (splitmix64): the same seed, the same books.
+#[derive(Clone)]
 pub struct Random {
     state: u64,
 }
@@ -50,14 +51,16 @@ impl Random {
 
 /// The files of random books, one after another. Each hangs on the seed and its number alone.
 pub fn books(seed: u64, count: usize) -> impl Iterator<Item = Vec<u8>> {
-    (0..count).map(move |number| {
-        let mut random = at(seed, number);
-        if random.percent(35) {
-            damage::bytes(&mut random)
-        } else {
-            words::to_bytes(&shape::book(&mut random).words())
-        }
-    })
+    (0..count).map(move |number| book(&mut at(seed, number)))
+}
+
+/// The file of a random book, damaged or not.
+pub fn book(random: &mut Random) -> Vec<u8> {
+    if random.percent(35) {
+        damage::bytes(random)
+    } else {
+        words::to_bytes(&shape::book(random).words())
+    }
 }
 
 /// Random books that keep their rules, up to the `size` of the shapes (0 tiny to 3 full).
@@ -71,7 +74,7 @@ pub fn playable(seed: u64, count: usize, rows: usize, parties: usize, steps: usi
 }
 
 /// The generator of one book.
-fn at(seed: u64, number: usize) -> Random {
+pub fn at(seed: u64, number: usize) -> Random {
     let start = Random::new(seed).word();
     Random::new(start ^ Random::new(number as u64).word())
 }

@@ -82,11 +82,8 @@ impl Shelf {
 
 /// The schedules of a book: long ones, a short one, one that names a party too many in each round, one
 /// with a move too many. A book that can't have so many parties as it says has schedules for one.
-fn schedules(book: &[u32]) -> [Vec<u32>; 6] {
-    let parties = match book.get(2) {
-        Some(&said @ 1..=book::MOST_PARTIES) => said,
-        _ => 1,
-    };
+pub fn schedules(book: &[u32]) -> [Vec<u32>; 6] {
+    let parties = parties(book);
     let on: Vec<u32> = (0..parties).collect();
     let back: Vec<u32> = on.iter().rev().copied().collect();
     let over: Vec<u32> = (0..=parties).collect();
@@ -98,6 +95,14 @@ fn schedules(book: &[u32]) -> [Vec<u32>; 6] {
         turns(&over, 1, 48),
         turns(&on, 1, rehearse::MOST_MOVES + 1),
     ]
+}
+
+/// The parties that a book says it has; one, if it can't have so many.
+pub fn parties(book: &[u32]) -> u32 {
+    match book.get(2) {
+        Some(&said @ 1..=book::MOST_PARTIES) => said,
+        _ => 1,
+    }
 }
 
 /// Each party of a round moves so many times in a row, round and round.

@@ -100,6 +100,7 @@ fn help() {
         "compare",
         "frames",
         "bench",
+        "routes",
     ] {
         assert!(text.contains(&format!("host {command} ")), "{command}");
     }

@@ -1,0 +1,235 @@
+//! The routes: the proved functions on bytes, the proved functions on words, and this implementation, in one process,
+//! on the same books and schedules. Buffers are full of marks before a call; answers, and every byte and every word
+//! afterwards, have to be the same on all three.
+
+mod tally;
+mod trial;
+
+use crate::book::Refusal;
+use crate::bytes;
+use crate::files;
+use crate::library::{packed, Library};
+use crate::random::Random;
+use crate::words;
+use std::io::Write;
+use std::ops::Range;
+use std::path::{Path, PathBuf};
+use std::sync::atomic::{AtomicUsize, Ordering};
+use std::thread;
+use tally::Tally;
+pub use trial::Trials;
+use trial::{Room, Trial};
+
+/// As a thread has it that nobody thought about: the proved code runs on it.
+const STACK: usize = 2 << 20;
+/// So many bytes are watched on either side of those that are lent.
+const GUARD: usize = 16;
+/// Differences are told up to so many.
+const TOLD: usize = 10;
+
+type Answer = Result<usize, Refusal>;
+
+/// The proved functions, on words and on bytes; those on bytes answer with one packed number.
+pub trait Proved: Sync {
+    fn translate(&self, book: &[u32], out: &mut [u32]) -> Answer;
+    fn rehearse(&self, book: &[u32], schedule: &[u32], out: &mut [u32]) -> Answer;
+    fn translate_bytes(&self, book: &[u8], out: &mut [u8]) -> u64;
+    fn rehearse_bytes(&self, book: &[u8], schedule: &[u8], out: &mut [u8]) -> u64;
+}
+
+impl Proved for Library {
+    fn translate(&self, book: &[u32], out: &mut [u32]) -> Answer {
+        self.translate(book, out)
+    }
+
+    fn rehearse(&self, book: &[u32], schedule: &[u32], out: &mut [u32]) -> Answer {
+        self.rehearse(book, schedule, out)
+    }
+
+    fn translate_bytes(&self, book: &[u8], out: &mut [u8]) -> u64 {
+        self.translate_bytes(book, out)
+    }
+
+    fn rehearse_bytes(&self, book: &[u8], schedule: &[u8], out: &mut [u8]) -> u64 {
+        self.rehearse_bytes(book, schedule, out)
+    }
+}
+
+/// Compares the routes of a library over the books of some folders and over random ones; whether nothing differs.
+pub fn run(library: &Path, seed: u64, count: usize, folders: &[PathBuf], out: &mut dyn Write) -> Result<bool, String> {
+    let proved = Library::open(library)?;
+    let missing = proved.missing();
+    if !missing.is_empty() {
+        let missing = format!("it has no {}", missing.join(", no "));
+        let advice = "`host/library shared shelf editor` makes a library with all four";
+        return Err(files::told(library, format!("{missing}; {advice}")));
+    }
+    over(&proved, &Trials::new(folders, seed, count)?, &std::env::temp_dir(), out)
+}
+
+/// Compares over trials, and tells each difference and at last what was met. What differs is kept in a folder.
+pub fn over(proved: &impl Proved, trials: &Trials, keep: &Path, out: &mut dyn Write) -> Result<bool, String> {
+    let mut say = |line: &str| writeln!(out, "{line}").map_err(|error| format!("standard output: {error}"));
+    say(&trials.told())?;
+    let (tally, mut differences) = work(proved, trials)?;
+    differences.sort_by_key(|(number, _)| *number);
+    for (number, difference) in differences.iter().take(TOLD) {
+        say(&format!(
+            "{difference}\n  {}",
+            kept(&trials.at(*number), trials.seed, keep)?
+        ))?;
+    }
+    if differences.len() > TOLD {
+        say(&format!("and {} more", differences.len() - TOLD))?;
+    }
+    say(&tally.told(differences.len()))?;
+    Ok(differences.is_empty())
+}
+
+/// The files of a trial in which the routes differ, written for a closer look, and where they are.
+fn kept(trial: &Trial, seed: u64, folder: &Path) -> Result<String, String> {
+    let name = trial.name.replace(|letter: char| !letter.is_ascii_alphanumeric(), "-");
+    let file = |what: &str| folder.join(format!("routes-{seed}-{name}.{what}"));
+    let (book, schedule) = (file("book"), file("schedule"));
+    files::write(&book, &trial.book)?;
+    files::write(&schedule, &trial.schedule)?;
+    Ok(format!("kept: {} {}", book.display(), schedule.display()))
+}
+
+type Differences = Vec<(usize, String)>;
+
+/// All trials, by as many workers as the machine has processors.
+fn work(proved: &impl Proved, trials: &Trials) -> Result<(Tally, Differences), String> {
+    let next = AtomicUsize::new(0);
+    let worker = || {
+        let (mut tally, mut differences, mut marks) = (Tally::default(), Vec::new(), Marks::default());
+        loop {
+            let number = next.fetch_add(1, Ordering::Relaxed);
+            if number >= trials.all() {
+                return (tally, differences);
+            }
+            let told = compare(proved, trials.at(number), &mut marks, &mut tally);
+            differences.extend(told.err().map(|told| (number, told)));
+        }
+    };
+    let workers = thread::available_parallelism().map_or(1, |count| count.get());
+    thread::scope(|scope| {
+        let spawn = |_| thread::Builder::new().stack_size(STACK).spawn_scoped(scope, worker);
+        let spawned: Result<Vec<_>, _> = (0..workers).map(spawn).collect();
+        let spawned = spawned.map_err(|error| format!("no thread for a worker: {error}"))?;
+        let (mut tally, mut differences) = (Tally::default(), Vec::new());
+        for worker in spawned {
+            let (own, told) = worker.join().map_err(|_| "a worker came to grief")?;
+            tally.add(own);
+            differences.extend(told);
+        }
+        Ok((tally, differences))
+    })
+}
+
+/// Both functions on one trial, in each of its rooms; the first difference.
+fn compare(proved: &impl Proved, mut trial: Trial, marks: &mut Marks, tally: &mut Tally) -> Result<(), String> {
+    tally.trial(&trial);
+    let (book, schedule) = (words::of_bytes(&trial.book).ok(), words::of_bytes(&trial.schedule).ok());
+
+    let listing = bytes::listing(&trial.book);
+    for room in trial.rooms(listing.as_ref().ok().map(Vec::len)) {
+        let on_bytes = |out: &mut [u8]| proved.translate_bytes(&trial.book, out);
+        let on_words = (book.as_ref()).map(|book| |out: &mut [u32]| proved.translate(book, out));
+        let answer = call(&listing, room, marks, on_bytes, on_words);
+        let answer = answer.map_err(|told| format!("{}, translate, {room}: {told}", trial.name))?;
+        tally.call("translate", answer, room);
+    }
+
+    let done = bytes::done(&trial.book, &trial.schedule);
+    for room in trial.rooms(done.as_ref().ok().map(Vec::len)) {
+        let on_bytes = |out: &mut [u8]| proved.rehearse_bytes(&trial.book, &trial.schedule, out);
+        let both = book.as_ref().zip(schedule.as_ref());
+        let on_words = both.map(|(book, schedule)| |out: &mut [u32]| proved.rehearse(book, schedule, out));
+        let answer = call(&done, room, marks, on_bytes, on_words);
+        let answer = answer.map_err(|told| format!("{}, rehearse, {room}: {told}", trial.name))?;
+        tally.call("rehearse", answer, room);
+    }
+    Ok(())
+}
+
+/// One call on each route, where bytes are words on the one on words too: the answer, or what differs.
+fn call(
+    output: &Result<Vec<u32>, Refusal>,
+    room: Room,
+    marks: &mut Marks,
+    on_bytes: impl Fn(&mut [u8]) -> u64,
+    on_words: Option<impl Fn(&mut [u32]) -> Answer>,
+) -> Result<u64, String> {
+    let start = GUARD + room.shift;
+    let lent = start..start + room.bytes;
+    let before = marks.first(lent.end + GUARD);
+
+    let mut expected = before.to_vec();
+    let answer = output.clone();
+    let answer = packed(&answer.and_then(|output| bytes::lend(&output, &mut expected[lent.clone()])));
+
+    let mut found = before.to_vec();
+    same_answer("bytes", on_bytes(&mut found[lent.clone()]), answer)?;
+    same_bytes("bytes", &found, &expected, &lent)?;
+
+    if let Some(on_words) = on_words {
+        // The words that begin where the lent bytes do, with as many of the marks on either side.
+        let span = lent.start - GUARD..lent.start + room.bytes / 4 * 4 + GUARD;
+        let mut found = words::of_bytes(&before[span.clone()]).expect("whole words");
+        let lent_words = GUARD / 4..GUARD / 4 + room.bytes / 4;
+        same_answer("words", packed(&on_words(&mut found[lent_words])), answer)?;
+        same_bytes(
+            "words",
+            &words::to_bytes(&found),
+            &expected[span],
+            &(GUARD..GUARD + room.bytes),
+        )?;
+    }
+    Ok(answer)
+}
+
+fn same_answer(route: &str, found: u64, expected: u64) -> Result<(), String> {
+    if found == expected {
+        return Ok(());
+    }
+    let (found, expected) = (tally::answer(found), tally::answer(expected));
+    Err(format!("on {route} the answer is {found}, the host's is {expected}"))
+}
+
+fn same_bytes(route: &str, found: &[u8], expected: &[u8], lent: &Range<usize>) -> Result<(), String> {
+    match (0..found.len()).find(|at| found[*at] != expected[*at]) {
+        None => Ok(()),
+        Some(at) if lent.contains(&at) => Err(format!(
+            "on {route} byte {} of the output is {}, the host's is {}",
+            at - lent.start,
+            found[at],
+            expected[at]
+        )),
+        Some(_) => Err(format!("on {route} a byte was written that was not lent")),
+    }
+}
+
+/// What stands in buffers before a call: bytes at random, so that whatever is written shows, and where.
+struct Marks {
+    random: Random,
+    bytes: Vec<u8>,
+}
+
+impl Default for Marks {
+    fn default() -> Marks {
+        Marks {
+            random: Random::new(0x6d61_726b),
+            bytes: Vec::new(),
+        }
+    }
+}
+
+impl Marks {
+    fn first(&mut self, count: usize) -> &[u8] {
+        while self.bytes.len() < count {
+            self.bytes.extend(self.random.word().to_le_bytes());
+        }
+        &self.bytes[..count]
+    }
+}

@@ -1,0 +1,91 @@
+//! What was met while the routes were compared, counted and told: answers by their kind, and everything that a call on
+//! bytes may have which one on words has not.
+
+use super::trial::{Room, Trial};
+use crate::book;
+use crate::rehearse::MOST_MOVES;
+use std::collections::BTreeMap;
+
+#[derive(Default)]
+pub struct Tally {
+    trials: usize,
+    calls: usize,
+    /// By function and the answer's number.
+    answers: BTreeMap<(&'static str, u64), usize>,
+    met: BTreeMap<&'static str, usize>,
+}
+
+impl Tally {
+    pub fn trial(&mut self, trial: &Trial) {
+        self.trials += 1;
+        let odd = |bytes: &[u8]| !bytes.len().is_multiple_of(4);
+        let (odd_book, odd_schedule) = (odd(&trial.book), odd(&trial.schedule));
+        self.meet(odd_book && !odd_schedule, "odd book");
+        self.meet(odd_schedule && !odd_book, "odd schedule");
+        self.meet(odd_book && odd_schedule, "both odd");
+        self.meet(trial.book.len() > 4 * book::LONGEST, "longer than any book");
+        self.meet(trial.schedule.len() / 4 == MOST_MOVES + 1, "4,097 moves");
+    }
+
+    /// A call in one room, and its packed answer.
+    pub fn call(&mut self, function: &'static str, answer: u64, room: Room) {
+        self.calls += 1;
+        *self.answers.entry((function, answer & 0xff)).or_default() += 1;
+        let spare = ["no spare byte", "1 spare", "2 spare", "3 spare"];
+        self.meet(true, spare[room.bytes % 4]);
+        self.meet(true, room.kind);
+    }
+
+    fn meet(&mut self, met: bool, what: &'static str) {
+        if met {
+            *self.met.entry(what).or_default() += 1;
+        }
+    }
+
+    pub fn add(&mut self, other: Tally) {
+        self.trials += other.trials;
+        self.calls += other.calls;
+        for (kind, count) in other.answers {
+            *self.answers.entry(kind).or_default() += count;
+        }
+        for (what, count) in other.met {
+            *self.met.entry(what).or_default() += count;
+        }
+    }
+
+    /// Four lines: the functions' answers, what was met, and last how many differences there are.
+    pub fn told(&self, differences: usize) -> String {
+        let mut lines = Vec::new();
+        for function in ["translate", "rehearse"] {
+            let own = self.answers.iter().filter(|((name, _), _)| *name == function);
+            let told: Vec<String> = own.map(|((_, number), count)| kind(*number, *count)).collect();
+            lines.push(format!("{function}: {}", told.join(", ")));
+        }
+        let met: Vec<String> = (self.met.iter())
+            .map(|(what, count)| format!("{what}: {count}"))
+            .collect();
+        lines.push(format!("met: {}", met.join(", ")));
+        lines.push(format!(
+            "{} books and schedules, {} calls on each route, {differences} differences",
+            self.trials, self.calls
+        ));
+        lines.join("\n")
+    }
+}
+
+fn kind(number: u64, count: usize) -> String {
+    match number {
+        0 => format!("accepted: {count}"),
+        number => format!("refused {number}: {count}"),
+    }
+}
+
+/// A packed answer in words.
+pub fn answer(packed: u64) -> String {
+    let (number, first, second) = (packed & 0xff, packed >> 8 & 0xffff_ffff, packed >> 40);
+    match (number, second) {
+        (0, 0) => format!("{first} words"),
+        (_, 0) => format!("refused {number} {first}"),
+        _ => format!("refused {number} {first} {second}"),
+    }
+}

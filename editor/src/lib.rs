@@ -1,0 +1,143 @@
+//! Nghiralum's translator and rehearsal, called on plain byte slices.
+//!
+//! A *book* holds the narration of a handshake: rows, parties, steps and a pool, as words of 32 bits, four bytes each,
+//! low byte first. [`translate`] turns it into a *listing*, one program per party; [`rehearse`] plays these programs
+//! under a *schedule*, a row of party numbers, and counts the events that each party has done. The repository's README
+//! describes books, listings and refusals.
+//!
+//! Both are proved in Rattle, and this package only hands slices over: for any bytes whatever a call ends with the
+//! output or with one [`Refusal`], writes nothing but the output, and on a refusal nothing at all. No call panics.
+//!
+//! ```
+//! let book = std::fs::read("../books/example-1.book").expect("a book");
+//!
+//! let listing = nghiralum::listing(&book).expect("it can be played");
+//! assert_eq!(listing.len(), 4 * 47);
+//! assert_eq!(listing[..4], 2u32.to_le_bytes()); // two parties
+//!
+//! // Two moves by party 1, then one by party 0.
+//! let schedule: Vec<u8> = [1u32, 1, 0].iter().flat_map(|party| party.to_le_bytes()).collect();
+//! let mut done = [0; 8];
+//! let length = nghiralum::rehearse(&book, &schedule, &mut done).expect("room for two parties");
+//! assert_eq!(done[..length], [1, 0, 0, 0, 2, 0, 0, 0]); // one event by party 0, two by party 1
+//!
+//! let refusal = nghiralum::listing(&book[..50]).expect_err("no whole words");
+//! assert_eq!((refusal.number(), refusal.place()), (1, 0));
+//! ```
+//!
+//! # Lengths
+//!
+//! What a call answers is a length in *bytes*, so that `&out[..length]` is the output. Refusal 12, which says that `out`
+//! is too short, counts *words*, as it does everywhere; [`Refusal::bytes_needed`] has it in bytes. Only whole words of
+//! `out` are written, so up to three bytes at its end are never touched.
+//!
+//! # Stack
+//!
+//! No heap is used but for [`listing`]'s own vector. The deepest books take less than 2 MB of stack, which is what
+//! Rust gives a thread by default and is tested; on a thread with less, a deep book can end the process, as any
+//! recursion does that finds no stack.
+
+#![deny(missing_docs)]
+
+mod refusal;
+
+pub use refusal::Refusal;
+
+// As `nghiralum.h` declares them.
+unsafe extern "C" {
+    fn nghiralum_translate(book: *const u8, book_len: usize, out: *mut u8, out_len: usize) -> u64;
+    fn nghiralum_rehearse(
+        book: *const u8,
+        book_len: usize,
+        schedule: *const u8,
+        schedule_len: usize,
+        out: *mut u8,
+        out_len: usize,
+    ) -> u64;
+}
+
+/// Translates a book: its listing stands in the first bytes of `out`, and the answer is the listing's length in bytes.
+///
+/// Bytes of `out` past the listing stay as they were. How long a listing is can't be told from the book's length; where
+/// no size is known, [`listing`] takes as much as is needed.
+///
+/// # Errors
+///
+/// The first of refusals 1 to 10 and 12 that applies; a book whose length is no multiple of four bytes is refusal 1. All
+/// of `out` is as it was then.
+///
+/// ```
+/// // One row, an atom; one party, named by it, who knows nothing; no steps.
+/// let words = [1u32, 8, 1, 12, 0, 15, 0, 15, 0, 0, 0, 0, 0, 0, 0];
+/// let book: Vec<u8> = words.iter().flat_map(|word| word.to_le_bytes()).collect();
+///
+/// let mut out = [0xff; 24];
+/// let length = nghiralum::translate(&book, &mut out).expect("a listing");
+/// // One party, its part at word 3 with 2 words: END, and nothing stored.
+/// assert_eq!(out[..length], [1, 0, 0, 0, 3, 0, 0, 0, 2, 0, 0, 0, 6, 0, 0, 0, 0, 0, 0, 0]);
+/// assert_eq!(out[length..], [0xff; 4]);
+///
+/// let refusal = nghiralum::translate(&book, &mut out[..19]).expect_err("four words and three bytes");
+/// assert_eq!((refusal.number(), refusal.place()), (12, 5));
+/// ```
+pub fn translate(book: &[u8], out: &mut [u8]) -> Result<usize, Refusal> {
+    // SAFETY: the slices are what they say; a function of the proved library reads and writes inside them alone.
+    let answer = unsafe { nghiralum_translate(book.as_ptr(), book.len(), out.as_mut_ptr(), out.len()) };
+    refusal::unpack(answer)
+}
+
+/// Plays a book's programs under a schedule: for each party four bytes of `out` say how many events it has done, its
+/// END not counted, and the answer is their length in bytes.
+///
+/// A word of the schedule is a move by the party with that number. There are at most 16 parties, so 64 bytes are always
+/// room enough.
+///
+/// # Errors
+///
+/// The first of refusals 1 to 12 that applies; a book or a schedule whose length is no multiple of four bytes is
+/// refusal 1, whatever else is wrong. All of `out` is as it was then.
+///
+/// ```
+/// let book = std::fs::read("../books/example-1.book").expect("a book");
+/// let mut done = [0; 64];
+///
+/// let length = nghiralum::rehearse(&book, &[1, 0, 0, 0], &mut done).expect("a move by party 1");
+/// assert_eq!(done[..length], [0, 0, 0, 0, 1, 0, 0, 0]);
+///
+/// let refusal = nghiralum::rehearse(&book, &[2, 0, 0, 0], &mut done).expect_err("there is no party 2");
+/// assert_eq!(refusal.to_string(), "refusal 11: move 0 of the schedule names no party");
+/// ```
+pub fn rehearse(book: &[u8], schedule: &[u8], out: &mut [u8]) -> Result<usize, Refusal> {
+    let (moves, count) = (schedule.as_ptr(), schedule.len());
+    // SAFETY: as in `translate`.
+    let answer = unsafe { nghiralum_rehearse(book.as_ptr(), book.len(), moves, count, out.as_mut_ptr(), out.len()) };
+    refusal::unpack(answer)
+}
+
+/// The listing of a book, in as many bytes as it has.
+///
+/// The length is asked for first, through refusal 12, so the book is gone through twice. The longest listing of all has
+/// 33,558,593 words, some 134 MB.
+///
+/// # Errors
+///
+/// The first of refusals 1 to 10 that applies.
+///
+/// ```
+/// let book = std::fs::read("../books/example-1.book").expect("a book");
+/// let words: Vec<u32> = (nghiralum::listing(&book).expect("a listing").chunks_exact(4))
+///     .map(|word| u32::from_le_bytes([word[0], word[1], word[2], word[3]]))
+///     .collect();
+/// assert_eq!(words[..5], [2, 5, 19, 24, 23]); // two parties: 19 words from word 5, 23 words from word 24
+/// ```
+pub fn listing(book: &[u8]) -> Result<Vec<u8>, Refusal> {
+    let needed = match translate(book, &mut []) {
+        Err(refusal) => refusal.bytes_needed().ok_or(refusal)?,
+        // A listing has words, so it never fits into nothing.
+        Ok(length) => length,
+    };
+    let mut listing = vec![0; needed];
+    let length = translate(book, &mut listing)?;
+    listing.truncate(length);
+    Ok(listing)
+}

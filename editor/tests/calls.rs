@@ -1,0 +1,248 @@
+//! Calls as an editor makes them: on the repository's books, on bytes of any length, into buffers of any length, and
+//! on the stack of a default thread.
+
+use nghiralum::{listing, rehearse, translate, Refusal};
+use std::fs;
+use std::path::{Path, PathBuf};
+use std::thread;
+
+/// What `./translate` lends, in bytes: the listings in files are for so much.
+const LENT: usize = 4 * 16_384;
+const MARK: u8 = 0xa5;
+
+/// One row, one party, no step.
+const SMALLEST: [u32; 15] = [1, 8, 1, 12, 0, 15, 0, 15, 0, 0, 0, 0, 0, 0, 0];
+
+fn bytes(words: &[u32]) -> Vec<u8> {
+    words.iter().flat_map(|word| word.to_le_bytes()).collect()
+}
+
+fn words(bytes: &[u8]) -> Vec<u32> {
+    let word = |four: &[u8]| u32::from_le_bytes(four.try_into().expect("four bytes"));
+    bytes.chunks_exact(4).map(word).collect()
+}
+
+/// The files of the repository's books, sorted.
+fn shelf() -> Vec<PathBuf> {
+    let folder = Path::new(env!("CARGO_MANIFEST_DIR")).join("../books");
+    let files = fs::read_dir(folder).expect("the books");
+    let files = files.map(|file| file.expect("a file").path());
+    let mut books: Vec<PathBuf> = files
+        .filter(|file| file.extension().is_some_and(|own| own == "book"))
+        .collect();
+    books.sort();
+    assert!(books.len() > 100);
+    books
+}
+
+fn book(name: &str) -> Vec<u8> {
+    let folder = Path::new(env!("CARGO_MANIFEST_DIR")).join("../books");
+    fs::read(folder.join(name)).expect(name)
+}
+
+/// Number, place and row of what must be a refusal.
+fn refused<T: std::fmt::Debug>(answer: Result<T, Refusal>) -> (u8, u32, Option<u32>) {
+    let refusal = answer.expect_err("a refusal");
+    (refusal.number(), refusal.place(), refusal.row())
+}
+
+/// An answer as `./translate` prints it.
+fn line(answer: Result<usize, Refusal>, out: &[u8]) -> String {
+    let words = match answer {
+        Ok(length) => words(&out[..length]),
+        Err(refusal) => {
+            let numbers = [u32::from(refusal.number()), refusal.place()];
+            numbers.into_iter().chain(refusal.row()).collect()
+        }
+    };
+    let told: Vec<String> = words.iter().map(u32::to_string).collect();
+    let head = if answer.is_err() { "refused " } else { "" };
+    format!("{head}{}\n", told.join(" "))
+}
+
+#[test]
+fn every_book_of_the_shelf() {
+    for file in shelf() {
+        let book = fs::read(&file).expect("a book");
+        let expected = fs::read_to_string(file.with_extension("listing")).expect("its listing");
+        let mut out = vec![MARK; LENT];
+        let answer = translate(&book, &mut out);
+        assert_eq!(line(answer, &out), expected, "{}", file.display());
+        let written = answer.unwrap_or(0);
+        assert!(out[written..].iter().all(|byte| *byte == MARK), "{}", file.display());
+        match (answer, listing(&book)) {
+            (Ok(length), Ok(listing)) => assert!(listing == out[..length], "{}", file.display()),
+            (Err(refusal), Ok(listing)) => assert_eq!(refusal.bytes_needed(), Some(listing.len())),
+            (answer, listing) => assert_eq!(answer.err(), listing.err(), "{}", file.display()),
+        }
+    }
+}
+
+#[test]
+fn room_exact_and_short_with_spare_bytes() {
+    let book = book("example-1.book");
+    let listing = listing(&book).expect("a listing");
+    assert_eq!(listing.len(), 188);
+    for room in 0..=listing.len() + 9 {
+        let mut out = vec![MARK; room];
+        let answer = translate(&book, &mut out);
+        if room < listing.len() {
+            assert_eq!(refused(answer), (12, 47, None));
+            assert!(out.iter().all(|byte| *byte == MARK));
+        } else {
+            assert_eq!(answer, Ok(listing.len()));
+            assert!(out[..listing.len()] == listing);
+            assert!(out[listing.len()..].iter().all(|byte| *byte == MARK));
+        }
+    }
+    for room in 0..12 {
+        let mut out = vec![MARK; room];
+        let answer = rehearse(&book, &bytes(&[1, 1, 0]), &mut out);
+        if room < 8 {
+            assert_eq!(refused(answer), (12, 2, None));
+            assert!(out.iter().all(|byte| *byte == MARK));
+        } else {
+            assert_eq!(answer, Ok(8));
+            assert_eq!(words(&out[..8]), [1, 2]);
+            assert!(out[8..].iter().all(|byte| *byte == MARK));
+        }
+    }
+}
+
+/// Slices may begin anywhere.
+#[test]
+fn at_any_address() {
+    let book = book("example-1.book");
+    let listing = listing(&book).expect("a listing");
+    for shift in 0..8 {
+        let mut shifted = vec![MARK; shift];
+        shifted.extend(&book);
+        let mut out = vec![MARK; shift + listing.len()];
+        assert_eq!(translate(&shifted[shift..], &mut out[shift..]), Ok(listing.len()));
+        assert!(out[shift..] == listing);
+    }
+}
+
+#[test]
+fn odd_lengths_come_before_all_else() {
+    let book = book("example-1.book");
+    let one = (1, 0, None);
+    for odd in 1..4 {
+        let mut longer = book.clone();
+        longer.resize(book.len() + odd, 0);
+        for odd_book in [&longer[..], &book[..book.len() - odd], &book[..odd]] {
+            assert_eq!(refused(translate(odd_book, &mut [])), one);
+            assert_eq!(refused(listing(odd_book)), one);
+            assert_eq!(refused(rehearse(odd_book, &[], &mut [])), one);
+            assert_eq!(refused(rehearse(odd_book, &vec![9; odd], &mut [])), one);
+        }
+        // An odd schedule comes before what is wrong with the book.
+        let odd_schedule = vec![9; 4 + odd];
+        assert_eq!(refused(rehearse(&book, &odd_schedule, &mut [0; 64])), one);
+        assert_eq!(refused(rehearse(&bytes(&[0; 8]), &odd_schedule, &mut [0; 64])), one);
+        let many = vec![0; 4 * 4_097 + odd];
+        assert_eq!(refused(rehearse(&book, &many, &mut [0; 64])), one);
+    }
+    assert_eq!(refused(translate(&[], &mut [])), one);
+    assert_eq!(refused(rehearse(&[], &[], &mut [])), one);
+}
+
+#[test]
+fn books_longer_than_any() {
+    for name in ["example-1.book", "full-longest.book"] {
+        let book = book(name);
+        for more in [1, 2, 12_600, 1_000_000] {
+            let mut longer = book.clone();
+            longer.resize(book.len() + 4 * more, 0);
+            assert_eq!(refused(listing(&longer)), (3, 8, None), "{name}");
+            assert_eq!(refused(rehearse(&longer, &[], &mut [0; 64])), (3, 8, None), "{name}");
+        }
+    }
+    // Nothing is said of the length early.
+    let mut counts = bytes(&SMALLEST);
+    counts[8] = 17;
+    counts.resize(80_000, 0);
+    assert_eq!(refused(listing(&counts)), (2, 2, None));
+}
+
+#[test]
+fn moves() {
+    let book = book("example-1.book");
+    let mut out = [MARK; 64];
+    let schedule = |count: usize, party: u32| bytes(&vec![party; count]);
+    assert_eq!(rehearse(&book, &schedule(4_096, 1), &mut out), Ok(8));
+    let mut out = [MARK; 64];
+    for (schedule, place) in [
+        (schedule(4_097, 1), 4_096),
+        (schedule(5_000, 7), 4_096),
+        (schedule(4_096, 2), 0),
+        (bytes(&[0, 1, u32::MAX, 0]), 2),
+        (bytes(&[0, 1, 1, 256]), 3),
+    ] {
+        assert_eq!(refused(rehearse(&book, &schedule, &mut out)), (11, place, None));
+        assert_eq!(refused(rehearse(&book, &schedule, &mut [])), (11, place, None));
+    }
+    assert_eq!(out, [MARK; 64]);
+}
+
+#[test]
+fn refusals_of_books() {
+    let mut met = Vec::new();
+    for file in shelf() {
+        let Err(refusal) = listing(&fs::read(&file).expect("a book")) else {
+            continue;
+        };
+        met.push(refusal.number());
+        let told = refusal.to_string();
+        assert!(told.starts_with(&format!("refusal {}: ", refusal.number())), "{told}");
+        assert!(!told.contains("no sentence"), "{told}");
+    }
+    met.sort();
+    met.dedup();
+    assert_eq!(met, [1, 2, 3, 4, 5, 6, 7, 8, 9, 10]);
+    let refusal = listing(&book("unplayable-private-half.book")).expect_err("unplayable");
+    assert!(refusal.row().is_some());
+}
+
+/// Rust gives a thread 2 MB where nobody says otherwise; every book of the shelf runs on them, the deepest too: halves
+/// 1,022 deep, and ciphers whose receiving goes 256 deep.
+#[test]
+fn the_deepest_books_on_a_default_thread() {
+    let calls = || {
+        let mut deep = 0;
+        for file in shelf() {
+            let book = fs::read(&file).expect("a book");
+            let Ok(listing) = listing(&book) else {
+                continue;
+            };
+            deep += usize::from(
+                file.file_name()
+                    .is_some_and(|name| name.to_string_lossy().starts_with("deep-")),
+            );
+            let parties = listing[0];
+            let moves: Vec<u32> = (0..4_096).map(|number| number % u32::from(parties)).collect();
+            let done = rehearse(&book, &bytes(&moves), &mut [0; 64]);
+            assert_eq!(done, Ok(4 * usize::from(parties)), "{}", file.display());
+        }
+        deep
+    };
+    let thread = thread::Builder::new().stack_size(2 << 20).spawn(calls);
+    let deep = thread.expect("a thread").join().expect("no call fails");
+    assert!(deep >= 7);
+}
+
+/// Calls share nothing, so that threads may call at the same time.
+#[test]
+fn from_many_threads() {
+    let book = book("kerberos.book");
+    let expected = listing(&book).expect("a listing");
+    thread::scope(|scope| {
+        for _ in 0..4 {
+            scope.spawn(|| {
+                for _ in 0..50 {
+                    assert!(listing(&book).as_ref() == Ok(&expected));
+                }
+            });
+        }
+    });
+}

@@ -166,8 +166,11 @@ fn call(
     let before = marks.first(lent.end + GUARD);
 
     let mut expected = before.to_vec();
-    let answer = output.clone();
-    let answer = packed(&answer.and_then(|output| bytes::lend(&output, &mut expected[lent.clone()])));
+    let answer = match output {
+        Ok(output) => bytes::lend(output, &mut expected[lent.clone()]),
+        Err(refusal) => Err(refusal.clone()),
+    };
+    let answer = packed(&answer);
 
     let mut found = before.to_vec();
     same_answer("bytes", on_bytes(&mut found[lent.clone()]), answer)?;

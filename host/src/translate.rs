@@ -86,15 +86,14 @@ impl Dictionary {
         }
     }
 
-    /// The atoms that sending a term would make, in building order.
-    pub fn missing(&self, term: &Shared, atoms: &mut Vec<u32>) {
+    /// Whether sending a term would make an atom of this kind.
+    pub fn makes(&self, term: &Shared, such: &impl Fn(&Shared) -> bool) -> bool {
         if self.images.contains_key(term) {
-            return;
+            return false;
         }
         match term.form() {
-            Form::Atom(row) if atoms.contains(row) => (),
-            Form::Atom(row) => atoms.push(*row),
-            _ => (term.parts()).for_each(|part| self.missing(part, atoms)),
+            Form::Atom(_) => such(term),
+            _ => term.parts().any(|part| self.makes(part, such)),
         }
     }
 }

@@ -6,6 +6,7 @@ use crate::book::{
     Book, Party, Row, Step, ATOM, CIPHER, MOST_KNOWN, MOST_MESSAGES, MOST_POOL, MOST_ROWS, MOST_SIZE, OPERATION,
     PRIVATE, PUBLIC,
 };
+use crate::term::Shared;
 use crate::translate::Translation;
 use std::collections::HashSet;
 
@@ -345,10 +346,8 @@ fn sendable(random: &mut Random, translation: &Translation, sender: u32, receive
     for _ in 0..24 {
         let row = random.below(translation.terms.len());
         let term = &translation.terms[row];
-        let mut atoms = Vec::new();
-        translation.dictionary(sender).missing(term, &mut atoms);
-        let taken = |atom: &u32| translation.taken.has(&translation.terms[*atom as usize]);
-        if atoms.iter().any(taken) {
+        let taken = |atom: &Shared| translation.taken.has(atom);
+        if translation.dictionary(sender).makes(term, &taken) {
             continue;
         }
         found = Some(row as u32);

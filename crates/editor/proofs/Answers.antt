@@ -45,9 +45,9 @@ pub packed-came : {o : Outcome} {new : List ℕ} {n : ℕ} (r : Answer) → came
 packed-came {new = new} r e f = ap (λ k. returned k new) f ∙ ap packed e
 
 -- ---- the plan is carried out on bytes
-module _ {b : List ℕ} {plan : Plan} (out : List ℕ) (p : Planned b (length out / 4) plan) where
+module _ {b : List ℕ} {room : ℕ} {plan : Plan} (out : List ℕ) (p : Planned b room plan) (e : room ≡ length out / 4) where
   says : answerSays (plan .answer) ≡ translationSays b (wordsIn out)
-  says = p .says (wordsIn out) (words-length out)
+  says = p .says (wordsIn out) (words-length out ∙ sym e)
 
   pub refused-came : {f : Refusal} → plan .answer ≡ Refused f → came (Refused f) out ≡ translated b out
   refused-came {f} k = came-refused _ out (bytesOfAll (listing b)) f (sym (sym (ap answerSays k) ∙ says))

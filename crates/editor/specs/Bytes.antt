@@ -2,7 +2,7 @@
 -- first, same answers. A book or schedule whose byte length isn't a multiple of four is refusal 1, before all else, place 0. Refusal
 -- 12 still counts words; up to three spare output bytes are untouched."
 use Prim.Native.Nat.{ℕ, _%_}
-use mathlib.Core.Bool.{Bool, _&&_}
+use mathlib.Core.Bool.{Bool, not, _||_}
 use mathlib.Core.List.{List, [], _∷_}
 use mathlib.Core.Path.{_≡_}
 use lib.ListN.{length}
@@ -15,9 +15,9 @@ use Rattle.translation.specs.Outcome.{Outcome, translationSays, laid}
 use Rattle.playing.specs.Rehearsal.{eventsDone, rehearsalSays}
 pub mod Laws
 
--- the bytes make whole words
-abbrev pub whole : List ℕ → Bool
-whole bs = eqb (length bs % 4) 0
+-- the bytes make no whole words
+abbrev pub uneven : List ℕ → Bool
+uneven bs = not (eqb (length bs % 4) 0)
 
 -- refusal 1, place 0: no lent byte changes
 abbrev pub odd : List ℕ → Outcome
@@ -33,10 +33,10 @@ rehearsed b ms out = laid (rehearsalSays b ms (wordsIn out)) out (bytesOfAll (ev
 
 -- of the bytes of a book, and of a schedule
 unfoldable pub translationBytes : List ℕ → List ℕ → Outcome
-translationBytes bs out = pick (whole bs) (translated (wordsIn bs) out) (odd out)
+translationBytes bs out = pick (uneven bs) (odd out) (translated (wordsIn bs) out)
 
 unfoldable pub rehearsalBytes : List ℕ → List ℕ → List ℕ → Outcome
-rehearsalBytes bs ms out = pick (whole bs && whole ms) (rehearsed (wordsIn bs) (wordsIn ms) out) (odd out)
+rehearsalBytes bs ms out = pick (uneven bs || uneven ms) (odd out) (rehearsed (wordsIn bs) (wordsIn ms) out)
 
 -- ---- what is said of it
 -- the outcome t on bytes is the outcome o on words: it says the same, its bytes make the same words, and the spare bytes are as they were

@@ -36,7 +36,7 @@ ghost use Rattle.claims.specs.Claims.{Claims};
 ghost use Rattle.walking.specs.Walk.{Unrefused};
 ghost use Rattle.translator.specs.Parts.{HeadsIn, bodiesOf};
 ghost use Rattle.translator.specs.Ready.{Writable};
-ghost use Rattle.editor.specs.Bytes.{translated, rehearsed, translationBytes, rehearsalBytes};
+ghost use Rattle.editor.specs.Bytes.{uneven, translated, rehearsed, translationBytes, rehearsalBytes};
 ghost use Rattle.editor.specs.Events.{EventsReady, WroteEvents};
 ghost use Rattle.editor.specs.Packed.{pack as packOf, Small, returned, packed};
 
@@ -153,11 +153,18 @@ fn translate_words(book: &[u32], out: &mut [u8]) -> Answer
     }
 }
 
+// The bytes make no whole words.
+fn is_uneven(bytes: &[u8]) -> bool
+    ensures { λ r. ⌜ r ≡ uneven (now (bytes .entry)) ⌝ }
+{
+    bytes.len() % 4 != 0
+}
+
 // The same for the bytes of a book.
 pub fn translate(book: &[u8], out: &mut [u8]) -> Answer
     ensures { λ r. ⌜ came r (now (out .exit)) ≡ translationBytes (now (book .entry)) (now (out .entry)) ⌝ }
 {
-    if book.len() % 4 != 0 {
+    if is_uneven(book) {
         return Answer::Refused(Refusal::Short);
     }
     let mut words = [0u32; Most::WORDS];
@@ -204,10 +211,10 @@ fn rehearse_words(book: &[u32], schedule: &[u32], out: &mut [u8]) -> Answer
 pub fn rehearse(book: &[u8], schedule: &[u8], out: &mut [u8]) -> Answer
     ensures { λ r. ⌜ came r (now (out .exit)) ≡ rehearsalBytes (now (book .entry)) (now (schedule .entry)) (now (out .entry)) ⌝ }
 {
-    if book.len() % 4 != 0 {
+    if is_uneven(book) {
         return Answer::Refused(Refusal::Short);
     }
-    if schedule.len() % 4 != 0 {
+    if is_uneven(schedule) {
         return Answer::Refused(Refusal::Short);
     }
     let mut words = [0u32; Most::WORDS];

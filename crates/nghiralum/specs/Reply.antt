@@ -6,7 +6,7 @@ use lib.ListN.{length, replicate}
 use lib.Dec.{eqb}
 use Rattle.words.specs.Choice.{pick}
 use Rattle.book.specs.Said.{said}
-use Rattle.input.specs.Input.{wordsMade}
+use Rattle.octets.specs.Octets.{wordsIn}
 use Rattle.translation.specs.Outcome.{Outcome, outcome}
 use Rattle.line.specs.Line.{lineOf}
 pub mod Laws
@@ -17,11 +17,14 @@ oddBytes lent = record { says = said 1 (0 ∷ []); lent = lent }
 
 -- of the bytes bs and the lent words
 unfoldable pub outcomeOfBytes : List ℕ → List ℕ → Outcome
-outcomeOfBytes bs lent = pick (eqb (length bs % 4) 0) (outcome (wordsMade bs) lent) (oddBytes lent)
+outcomeOfBytes bs lent = pick (eqb (length bs % 4) 0) (outcome (wordsIn bs) lent) (oddBytes lent)
 
--- the words that the program lends
+-- the words that the program lends, and their bytes
 abbrev pub lentWords : List ℕ
 lentWords = replicate 16384 0
+
+abbrev pub lentBytes : List ℕ
+lentBytes = replicate 65536 0
 
 -- the line that is printed of the bytes bs
 unfoldable pub replyLine : List ℕ → List ℕ

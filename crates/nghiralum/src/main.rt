@@ -1,44 +1,28 @@
 // The program: reads a book from the file that its argument names, or from standard input, and prints its listing or its refusal
 // on one line. `reply` leaves exactly the line's bytes, for any bytes that were read; the rest reads and prints.
-use book::Refusal;
 use input::Input;
 use libc::STDERR_FILENO;
 use libc::STDIN_FILENO;
-use translation::Answer;
 ghost use mathlib.Core.Path.{_≡_};
 ghost use Prim.Native.Nat.{_≤_};
 ghost use lib.ListN.{length, take};
 ghost use Rattle.io.specs.Counts.{Counts};
-ghost use Rattle.translation.specs.Outcome.{came};
-ghost use Rattle.nghiralum.specs.Reply.{outcomeOfBytes, replyLine};
+ghost use Rattle.nghiralum.specs.Reply.{replyLine};
 
 // What is read, lent and printed at most.
 struct Most {}
 
 impl Most {
-    // One word more than the longest book has, so that a longer one is seen to be too long.
-    const WORDS: usize = 12601;
-
+    // A word more than the longest book has, so that a longer one is seen to be too long.
     const BYTES: usize = 50404;
+
+    // The bytes that are lent, and the words that they make.
+    const OUT: usize = 65536;
 
     const LENT: usize = 16384;
 
     // A word takes up to eleven bytes of the line, as `line` counts them.
     const LINE: usize = 180234;
-}
-
-// What comes of the bytes that were read: the words that they make are translated into the lent words, and bytes that make no whole
-// words are too short for a book.
-fn outcome_of(bytes: &[u8], lent: &mut [u32]) -> Answer
-    requires { ⌜ length (now bytes) ≤ 50404 ⌝ }
-    ensures { λ r. ⌜ came r (now (lent .exit)) ≡ outcomeOfBytes (now (bytes .entry)) (now (lent .entry)) ⌝ }
-{
-    if bytes.len() % 4 != 0 {
-        return Answer::Refused(Refusal::Short);
-    }
-    let mut words = [0u32; Most::WORDS];
-    input::load(bytes, &mut words);
-    translator::translate(&words[..bytes.len() / 4], lent)
 }
 
 // The line that is printed of the first n bytes of those that there was room for, into the front of `line`; answers its length.
@@ -47,8 +31,10 @@ fn reply(read: &[u8], n: usize, line: &mut [u8]) -> usize
     ensures { λ r. ⌜ Counts r (now (line .exit)) ⌝ }
     ensures { λ r. ⌜ take r (now (line .exit)) ≡ replyLine (take n (now (read .entry))) ⌝ }
 {
+    let mut out = [0u8; Most::OUT];
+    let answer = editor::translate(&read[..n], &mut out);
     let mut lent = [0u32; Most::LENT];
-    let answer = outcome_of(&read[..n], &mut lent);
+    octets::load(&out, &mut lent);
     line::answer_line(line, answer, &lent)
 }
 

@@ -1,3 +1,4 @@
+pub mod Filled
 pub mod Lines
 pub mod Next
 pub mod Turns

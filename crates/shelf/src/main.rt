@@ -9,7 +9,7 @@ ghost use Prim.Native.Nat.{_+_, _*_, _^_, _≤_, _<_};
 ghost use lib.ListN.{length, take};
 ghost use Rattle.io.specs.Counts.{Counts};
 ghost use Rattle.words.specs.Run.{values};
-ghost use Rattle.input.specs.Input.{wordAt, wordsMade};
+ghost use Rattle.octets.specs.Octets.{wordAt, wordsIn};
 ghost use Rattle.line.specs.Line.{Put};
 ghost use Rattle.shelf.specs.Lines.{translatedLine, rehearsedLine, playedLines, refusedLines, bookLines};
 ghost use Rattle.shelf.specs.Next.{Fits};
@@ -77,7 +77,7 @@ fn read_bytes(bytes: &mut [u8]) -> Next
 fn size_of(head: &[u8; 4]) -> usize
     ensures { λ r. ⌜ (r ≡ 4 * wordAt (now (head .entry)) 0) × (r < 2 ^ 34) ⌝ }
 {
-    4 * words::wide(input::word(head[0], head[1], head[2], head[3]))
+    4 * words::wide(octets::word(head[0], head[1], head[2], head[3]))
 }
 
 // Reads a book: its count of words, and then these.
@@ -267,11 +267,11 @@ fn seven_lines(out: &mut [u8], book: &[u32]) -> usize
 fn lines_of(bytes: &[u8], out: &mut [u8]) -> usize
     requires { ⌜ (length (now bytes) ≤ 50404) × (181350 ≤ length (now out)) ⌝ }
     ensures { λ r. ⌜ Counts r (now (out .exit)) ⌝ }
-    ensures { λ r. ⌜ take r (now (out .exit)) ≡ bookLines (wordsMade (now (bytes .entry))) ⌝ }
+    ensures { λ r. ⌜ take r (now (out .exit)) ≡ bookLines (wordsIn (now (bytes .entry))) ⌝ }
 {
     let mut words = [0u32; Most::WORDS];
-    input::load(bytes, &mut words);
-    seven_lines(out, &words[..bytes.len() / 4])
+    let n = octets::load(bytes, &mut words);
+    seven_lines(out, &words[..n])
 }
 
 fn main() {

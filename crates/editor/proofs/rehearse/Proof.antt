@@ -23,16 +23,20 @@ few-moves c = let start : tie.Start = search in loaded-many (start .args .schedu
 -- the book's bytes are no multiple of four
 returns : tie.Need-returns
 returns c =
+    let tested : tie.After-is-uneven = search in
     let start : tie.Start = search in
-    sym (of-odd-book (start .args .book .now) (start .args .schedule .now) (start .args .out .now) (c .if1 .taken))
+    sym (of-odd-book (start .args .book .now) (start .args .schedule .now) (start .args .out .now)
+    (sym (tested .is-uneven .ensures) ∙ c .if1 .taken))
 
 -- they are, and the schedule's are not
 returns-2 : tie.Need-returns-2
 returns-2 c =
+    let moves-tested : tie.After-is-uneven2 = search in
     let else1 : tie.Else1 = search in
+    let tested : tie.After-is-uneven = search in
     let start : tie.Start = search in
-    sym (of-odd-schedule (start .args .book .now) (start .args .schedule .now) (start .args .out .now) (else1 .if1 .left)
-    (c .if2 .taken))
+    sym (of-odd-schedule (start .args .book .now) (start .args .schedule .now) (start .args .out .now)
+    (sym (tested .is-uneven .ensures) ∙ else1 .if1 .left) (sym (moves-tested .is-uneven2 .ensures) ∙ c .if2 .taken))
 
 -- both are, and the words that were loaded are as good as all
 returns-3 : tie.Need-returns-3
@@ -41,7 +45,9 @@ returns-3 c =
     let after-moves : tie.After-load2 = search in
     let after-words : tie.After-load = search in
     let else2 : tie.Else2 = search in
+    let moves-tested : tie.After-is-uneven2 = search in
     let else1 : tie.Else1 = search in
+    let tested : tie.After-is-uneven = search in
     let start : tie.Start = search in
     let bytes = start .args .book .now in
     let moves = start .args .schedule .now in
@@ -51,13 +57,16 @@ returns-3 c =
     after-rehearse-words .rehearse-words .ensures
     ∙ ap₂ (λ (b : List ℕ) (ms : List ℕ). rehearsed b ms out) book-front moves-front
     ∙ long-played-book (wordsIn bytes) _ out ∙ long-schedule (wordsIn bytes) (wordsIn moves) out
-    ∙ sym (of-wholes bytes out (else1 .if1 .left) moves (else2 .if2 .left))
+    ∙ sym (of-wholes bytes out (sym (tested .is-uneven .ensures) ∙ else1 .if1 .left) moves
+    (sym (moves-tested .is-uneven2 .ensures) ∙ else2 .if2 .left))
 
 pub rehearse-spec : {M : Type 1} → statement M
 rehearse-spec =
     tie.close
     (tie.spec
+    (λ c κs. search needs)  -- is-uneven-requires
     returns
+    (λ c κs. search needs)  -- is-uneven-requires-2
     returns-2
     (λ c. search needs)  -- slice-aggregate-load
     (λ c κs. search needs)  -- load-requires

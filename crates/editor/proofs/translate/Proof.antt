@@ -21,8 +21,9 @@ few c = let start : tie.Start = search in loaded-many (start .args .book .now) r
 -- the bytes are no multiple of four
 returns : tie.Need-returns
 returns c =
+    let tested : tie.After-is-uneven = search in
     let start : tie.Start = search in
-    sym (of-odd (start .args .book .now) (start .args .out .now) (c .if1 .taken))
+    sym (of-odd (start .args .book .now) (start .args .out .now) (sym (tested .is-uneven .ensures) ∙ c .if1 .taken))
 
 -- they are, and the words that were loaded are as good as all
 returns-2 : tie.Need-returns-2
@@ -30,17 +31,19 @@ returns-2 c =
     let after-translate-words : tie.After-translate-words = search in
     let after-load : tie.After-load = search in
     let else1 : tie.Else1 = search in
+    let tested : tie.After-is-uneven = search in
     let start : tie.Start = search in
     let bytes = start .args .book .now in
     let out = start .args .out .now in
     after-translate-words .translate-words .ensures
     ∙ ap (λ (b : List ℕ). translated b out) (loaded-front bytes refl (after-load .load .ensures) (omega arith))
-    ∙ long-book (wordsIn bytes) (wordsIn bytes) out ∙ sym (of-whole bytes out (else1 .if1 .left))
+    ∙ long-book (wordsIn bytes) (wordsIn bytes) out ∙ sym (of-whole bytes out (sym (tested .is-uneven .ensures) ∙ else1 .if1 .left))
 
 pub translate-spec : {M : Type 1} → statement M
 translate-spec =
     tie.close
     (tie.spec
+    (λ c κs. search needs)  -- is-uneven-requires
     returns
     (λ c. search needs)  -- slice-aggregate-load
     (λ c κs. search needs)  -- load-requires

@@ -1,6 +1,6 @@
 -- `editor::translate_words` meets its contract: what the plan says, and where it accepts, the listing is written as
 -- bytes. Assumes nothing.
-use mathlib.Core.Path.{ap}
+use mathlib.Core.Path.{refl, ap}
 use borrow.Author.Needs.{needs}
 use Rattle.translation.specs.Outcome.{answerSays}
 use Rattle.editor.proofs.Answers.{refused-came, written-came}
@@ -22,7 +22,7 @@ returns c =
     let after-answer : tie.After-answer = search in
     let after-prepare : tie.After-prepare = search in
     let start : tie.Start = search in
-    refused-came (start .args .out .now) (after-prepare .prepare .ensures) (after-answer .answer .given .1)
+    refused-came (start .args .out .now) (after-prepare .prepare .ensures) refl (after-answer .answer .given .1)
 
 -- the plan's length, and the listing's bytes over what was lent
 returns-2 : tie.Need-returns-2
@@ -31,8 +31,8 @@ returns-2 c =
     let after-answer : tie.After-answer2 = search in
     let after-prepare : tie.After-prepare = search in
     let start : tie.Start = search in
-    written-came (start .args .out .now) (after-prepare .prepare .ensures) (after-answer .answer2 .given .1)
-    (after-write-listing .write-listing .ensures)
+    written-came (start .args .out .now) (after-prepare .prepare .ensures) refl
+    (after-answer .answer2 .given .1) (after-write-listing .write-listing .ensures)
 
 pub translate-words-spec : {M : Type 1} → statement M
 translate-words-spec =

@@ -10,7 +10,7 @@ use lib.ListN.{length, getD, take}
 use lib.Dec.{eqb, ltb}
 use lib.Seq.{sets, length-sets, length-take-le, take-all, getD-take}
 use borrow.Author.Count.{below-more}
-use borrow.Author.Tests.{eq-eqb, ne-eqb, lt-ltb, le-ltb}
+use borrow.Author.Tests.{lt-ltb, le-ltb}
 use Rattle.words.specs.Choice.{pick}
 use Rattle.words.specs.Choice.Laws.{pick-true, pick-false}
 use Rattle.words.specs.Run.{All}
@@ -32,7 +32,7 @@ use Rattle.translation.specs.Outcome.Laws.{laid-keeps, laid-lays, exactly-readi
 use Rattle.playing.specs.Rehearsal.{eventsDone, rehearsalSays, rehearsal, BadMoves}
 use Rattle.playing.specs.Rehearsal.Laws.{rehearsal-acceptance-first, rehearsal-exactly-reading, rehearsal-exactly-11, exactly-played, done-length}
 use Rattle.playing.specs.Rehearsal.Low.{done-low}
-use Rattle.editor.specs.Bytes.{odd, translated, rehearsed, translationBytes, rehearsalBytes, AsWords}
+use Rattle.editor.specs.Bytes.{uneven, odd, translated, rehearsed, translationBytes, rehearsalBytes, AsWords}
 use Rattle.editor.specs.Packed.{unpack, packed, Small}
 use Rattle.editor.specs.Packed.Laws.{unpack-pack, plays-from, translation-small, rehearsal-small}
 
@@ -259,10 +259,10 @@ laid-words s out ws fits = elim (ℕ-discrete (s .number) 0) [
       }
 ]
 
-module _ (bs out : List ℕ) (e : length bs % 4 ≡ 0) where
+module _ (bs out : List ℕ) (e : uneven bs ≡ false) where
   pub of-whole : translationBytes bs out ≡ translated (wordsIn bs) out
   unfolding translationBytes
-  of-whole = pick-true _ _ _ (eq-eqb _ _ e)
+  of-whole = pick-false _ _ _ e
 
   pub translation-words : AsWords (outcome (wordsIn bs) (wordsIn out)) out (translationBytes bs out)
   unfolding outcome
@@ -273,10 +273,10 @@ module _ (bs out : List ℕ) (e : length bs % 4 ≡ 0) where
       let room = fits .1 in
       (listing-low (wordsIn bs) (fits .0 .valid), omega arith)))
 
-  module _ (ms : List ℕ) (f : length ms % 4 ≡ 0) where
+  module _ (ms : List ℕ) (f : uneven ms ≡ false) where
     pub of-wholes : rehearsalBytes bs ms out ≡ rehearsed (wordsIn bs) (wordsIn ms) out
     unfolding rehearsalBytes
-    of-wholes = pick-true _ _ _ (rw (eq-eqb _ _ e, eq-eqb _ _ f))
+    of-wholes = pick-false _ _ _ (rw (e, f))
 
     pub rehearsal-words : AsWords (rehearsal (wordsIn bs) (wordsIn ms) (wordsIn out)) out (rehearsalBytes bs ms out)
     unfolding rehearsal
@@ -289,36 +289,36 @@ module _ (bs out : List ℕ) (e : length bs % 4 ≡ 0) where
         (done-low (wordsIn bs) (wordsIn ms) (fits .1), omega arith)))
 
 -- ---- refusal 1, place 0, before all else
-pub of-odd : (bs out : List ℕ) → (length bs % 4 ≡ 0 → ⊥) → translationBytes bs out ≡ odd out
+pub of-odd : (bs out : List ℕ) → uneven bs ≡ true → translationBytes bs out ≡ odd out
 unfolding translationBytes
-of-odd bs out n = pick-false _ _ _ (ne-eqb _ _ n)
+of-odd bs out n = pick-true _ _ _ n
 
-pub of-odd-book : (bs ms out : List ℕ) → (length bs % 4 ≡ 0 → ⊥) → rehearsalBytes bs ms out ≡ odd out
+pub of-odd-book : (bs ms out : List ℕ) → uneven bs ≡ true → rehearsalBytes bs ms out ≡ odd out
 unfolding rehearsalBytes
-of-odd-book bs ms out n = pick-false _ _ _ (rw (ne-eqb _ _ n))
+of-odd-book bs ms out n = pick-true _ _ _ (rw n)
 
-pub of-odd-schedule : (bs ms out : List ℕ) → length bs % 4 ≡ 0 → (length ms % 4 ≡ 0 → ⊥) → rehearsalBytes bs ms out ≡ odd out
+pub of-odd-schedule : (bs ms out : List ℕ) → uneven bs ≡ false → uneven ms ≡ true → rehearsalBytes bs ms out ≡ odd out
 unfolding rehearsalBytes
-of-odd-schedule bs ms out e n = pick-false _ _ _ (rw (eq-eqb _ _ e, ne-eqb _ _ n))
+of-odd-schedule bs ms out e n = pick-true _ _ _ (rw (e, n))
 
 -- ---- every answer fits one number, and is read back from it
 odd-small : Small (said 1 (0 ∷ []))
 odd-small = Small.one {n = 1} {v = 0} (omega arith) (omega arith) (omega arith)
 
 pub translation-bytes-small : (bs out : List ℕ) → Small (translationBytes bs out .says)
-translation-bytes-small bs out = elim (ℕ-discrete (length bs % 4) 0) [
-  | yes e ↦ rw (of-whole bs out e) (translation-small (wordsIn bs) (wordsIn out))
-  | no n ↦ rw (of-odd bs out n) odd-small
-]
+translation-bytes-small bs out = go (uneven bs) refl
+  where
+    go : (v : Bool) → uneven bs ≡ v → Small (translationBytes bs out .says)
+    go false e = rw (of-whole bs out e) (translation-small (wordsIn bs) (wordsIn out))
+    go true e = rw (of-odd bs out e) odd-small
 
 pub rehearsal-bytes-small : (bs ms out : List ℕ) → Small (rehearsalBytes bs ms out .says)
-rehearsal-bytes-small bs ms out = elim (ℕ-discrete (length bs % 4) 0) [
-  | yes e ↦ elim (ℕ-discrete (length ms % 4) 0) [
-    | yes f ↦ rw (of-wholes bs out e ms f) (rehearsal-small (wordsIn bs) (wordsIn ms) (wordsIn out))
-    | no n ↦ rw (of-odd-schedule bs ms out e n) odd-small
-  ]
-  | no n ↦ rw (of-odd-book bs ms out n) odd-small
-]
+rehearsal-bytes-small bs ms out = go (uneven bs) refl (uneven ms) refl
+  where
+    go : (v : Bool) → uneven bs ≡ v → (w : Bool) → uneven ms ≡ w → Small (rehearsalBytes bs ms out .says)
+    go false e false f = rw (of-wholes bs out e ms f) (rehearsal-small (wordsIn bs) (wordsIn ms) (wordsIn out))
+    go false e true f = rw (of-odd-schedule bs ms out e f) odd-small
+    go true e w f = rw (of-odd-book bs ms out e) odd-small
 
 pub translation-unpacked : (bs out : List ℕ) → unpack (packed (translationBytes bs out) .answer) ≡ translationBytes bs out .says
 translation-unpacked bs out = unpack-pack (translationBytes bs out .says) (translation-bytes-small bs out)

@@ -1,38 +1,49 @@
--- `nghiralum::reply` meets its contract: the line is the one of what came of the bytes, and what was written lies in
--- the lent words (`inside-bytes`). Assumes nothing.
-use mathlib.Core.Path.{_∙_, ap}
+-- `nghiralum::reply` meets its contract: what came of the bytes, read back as words, is their outcome, and what was
+-- written lies in the lent words (`inside-bytes`). Assumes nothing.
+use mathlib.Core.Path.{_∙_, refl, ap}
 use native.Mathlib.Omega.{arith}
 use lib.ListN.{length-take}
 use borrow.Author.Needs.{needs}
+use Rattle.words.specs.Overlay.Laws.{wrote-length}
 use Rattle.line.specs.Line.{lineOf}
 use Rattle.nghiralum.specs.Reply.{replyLine}
-use Rattle.nghiralum.specs.Reply.Laws.{inside-bytes}
+use Rattle.nghiralum.specs.Reply.Laws.{inside-bytes, reply-came}
 use Rattle.nghiralum.proofs.reply.Statement.{statement}
 use Rattle.nghiralum.proofs.reply.Tie as tie
 
 -- what was written had room
 answer-line-requires : tie.Need-answer-line-requires
 answer-line-requires c κs =
-    let after-outcome-of : tie.After-outcome-of = search in
-    let came = after-outcome-of .outcome-of in
-    (search needs, search needs, inside-bytes (came .result) _ _ _ (came .ensures) (omega arith))
+    let after-load : tie.After-load = search in
+    let after-translate : tie.After-translate = search in
+    let answer = after-translate .translate .result in
+    let start : tie.Start = search in
+    let size = wrote-length (after-load .load .ensures) in
+    let came = reply-came _ _ _ _ answer _ (after-translate .translate .ensures) refl (after-load .load .ensures) in
+    (omega arith, omega arith, inside-bytes answer _ _ _ came (omega arith))
 
 -- the line of what came of the bytes
 returns : tie.Need-returns
 unfolding replyLine
 returns c =
     let after-answer-line : tie.After-answer-line = search in
-    let after-outcome-of : tie.After-outcome-of = search in
+    let after-load : tie.After-load = search in
+    let after-translate : tie.After-translate = search in
+    let answer = after-translate .translate .result in
+    let came = reply-came _ _ _ _ answer _ (after-translate .translate .ensures) refl (after-load .load .ensures) in
     let (counts, line) = after-answer-line .answer-line .ensures in
-    (counts, line ∙ ap lineOf (after-outcome-of .outcome-of .ensures))
+    (counts, line ∙ ap lineOf came)
 
 pub reply-spec : {M : Type 1} → statement M
 reply-spec =
     tie.close
     (tie.spec
-    (λ c. simp length-take (omega arith))  -- slice-aggregate-outcome-of
-    (λ c. search needs)  -- slice-aggregate-outcome-of-2
-    (λ c κs. simp length-take (omega arith))  -- outcome-of-requires
+    (λ c. simp length-take (omega arith))  -- slice-aggregate-translate
+    (λ c. search needs)  -- slice-aggregate-translate-2
+    (λ c κs. search needs)  -- translate-requires
+    (λ c. search needs)  -- slice-aggregate-load
+    (λ c. search needs)  -- slice-aggregate-load-2
+    (λ c κs. search needs)  -- load-requires
     (λ c. search needs)  -- slice-aggregate-answer-line
     answer-line-requires
     (λ c. search needs)  -- same-length

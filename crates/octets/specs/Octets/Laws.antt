@@ -6,12 +6,12 @@ use mathlib.Core.Path.{_≡_, refl, sym, ap, ap₂, _∙_}
 use native.Mathlib.Omega.{arith}
 use native.Mathlib.Numerals.{add-one}
 use native.Mathlib.Nat.{zero-add}
-use lib.ListN.{length, getD, take, drop, length-take, length-drop}
-use lib.Seq.{take-suc, take-nil, ext-getD, getD-drop, drop-drop, drop-append-add, sets, sets-eq, length-sets}
+use lib.ListN.{length, getD, take, drop, replicate, length-take, length-drop, length-replicate}
+use lib.Seq.{take-suc, take-nil, take-all, ext-getD, getD-drop, drop-drop, drop-append-add, sets, sets-eq, length-sets}
 use Rattle.words.specs.Overlay.{cap, Wrote}
 use Rattle.words.specs.Overlay.Laws.{wrote-none, wrote-then, wrote-as, wrote-more, wrote-take}
 use Rattle.words.specs.Run.{All}
-use Rattle.words.specs.Run.Laws.{values-length, values-getD}
+use Rattle.words.specs.Run.Laws.{values-length, values-getD, zeros}
 use Rattle.octets.specs.Octets.{wordOf, wordAt, wordsIn, spare, bytesOf, bytesOfAll}
 
 -- the front of a list, which ends where the list does
@@ -180,3 +180,20 @@ module _ (bs : List ℕ) {old new : List ℕ} {n r : ℕ} (size : length old ≡
       let e = w .next in
       let many : r ≡ length (take (length old) (wordsIn bs)) = omega arith in
       ap (λ k. take k new) many ∙ wrote-take w (omega arith) ∙ ap (λ k. take k (wordsIn bs)) size
+
+  -- all, where they have room
+  pub loaded-all : n ≤ cap → length bs / 4 ≤ n → take r new ≡ wordsIn bs
+  loaded-all h few = let l = words-length bs in loaded-front h ∙ take-all n (wordsIn bs) (omega arith)
+
+-- ---- bytes that are all 0
+word-zeros : (n i : ℕ) → wordAt (replicate n 0) i ≡ 0
+unfolding wordAt
+word-zeros n i = rw (zeros n (4 * i), zeros n (4 * i + 1), zeros n (4 * i + 2), zeros n (4 * i + 3))
+
+pub words-zeros : (n : ℕ) → wordsIn (replicate (4 * n) 0) ≡ replicate n 0
+words-zeros n =
+    let bs : List ℕ = replicate (4 * n) 0 in
+    let l = length-replicate {A = ℕ} (4 * n) 0 in
+    let m = words-length bs in
+    let k = length-replicate {A = ℕ} n 0 in
+    ext-getD 0 (wordsIn bs) (replicate n 0) (omega arith) (λ i h. words-at bs i (omega arith) ∙ word-zeros (4 * n) i ∙ sym (zeros n i))

@@ -5,10 +5,9 @@ use mathlib.Core.Path.{_≡_}
 use native.Mathlib.Omega.{arith}
 use lib.ListN.{length}
 use borrow.Author.Needs.{needs}
-use Rattle.input.specs.Filled.{Filled}
-use Rattle.input.specs.Filled.Laws.{filled-more}
+use Rattle.shelf.specs.Filled.{Filled}
+use Rattle.shelf.specs.Filled.Laws.{filled-more, filled-all}
 use Rattle.shelf.specs.Turns.{turn}
-use Rattle.shelf.specs.Turns.Laws.{filled-all}
 use Rattle.shelf.proofs.fill_turns.Statement.{statement}
 use Rattle.shelf.proofs.fill_turns.Tie as tie
 

@@ -3,7 +3,7 @@ use Prim.Native.Nat.{_*_}
 use mathlib.Core.Path.{_∙_, ap}
 use native.Mathlib.Omega.{arith}
 use borrow.Author.Needs.{needs}
-use Rattle.input.specs.Input.{wordAt}
+use Rattle.octets.specs.Octets.{wordAt}
 use Rattle.shelf.proofs.size_of.Statement.{statement}
 use Rattle.shelf.proofs.size_of.Tie as tie
 

@@ -1,17 +1,13 @@
--- Laws of turns: who moves, what a schedule holds in the end, and how many parties there are. Assumes nothing.
+-- Laws of turns: who moves, and how many parties there are. Assumes nothing.
 use Prim.Native.Nat.{ℕ, zero, suc, _-_, _/_, _%_, _≤_, _<_}
 use mathlib.Core.Bool.{Bool, true, false}
 use mathlib.Core.Path.{_≡_, refl, sym, _∙_, ap}
 use mathlib.Core.List.{List, [], _∷_}
 use native.Mathlib.Omega.{arith}
-use native.Mathlib.Nat.{mod-lt, zero-add}
+use native.Mathlib.Nat.{mod-lt}
 use lib.ListN.{length, getD}
-use lib.Seq.{ext-getD}
 use borrow.Author.Tests.{lt-ltb, le-ltb}
-use Rattle.input.specs.Filled.{Filled}
 use Rattle.words.specs.Choice.Laws.{pick-true, pick-false}
-use Rattle.words.specs.Run.{values}
-use Rattle.words.specs.Run.Laws.{values-length, values-getD}
 use Rattle.book.specs.Layout.{parties}
 use Rattle.book.specs.Rules.{outside, countBreaks}
 use Rattle.book.specs.Rules.Laws.{outside-in}
@@ -33,12 +29,6 @@ module _ (q times i : ℕ) (back : Bool) (w p : ℕ) (same : w ≡ q) (e : p ≡
   pub turn-back : back ≡ true → q - 1 - p ≡ turn q times back i
   unfolding turn
   turn-back y = ap (λ (k : ℕ). q - 1 - k) asked ∙ sym (pick-true back (q - 1 - i / times % q) (i / times % q) y)
-
--- ---- a list that is filled with a function's values has them all
-pub filled-all : (f : ℕ → ℕ) (out : List ℕ) (n : ℕ) → length out ≡ n → Filled f out n → out ≡ values f 0 n
-filled-all f out n e filled =
-    ext-getD 0 out (values f 0 n) (e ∙ sym (values-length f 0 n))
-    (λ k l. filled k (omega arith) ∙ sym (values-getD f 0 n k 0 (omega arith) ∙ ap f (zero-add k)))
 
 -- ---- seats
 -- past a list's end there are zeros

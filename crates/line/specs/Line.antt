@@ -47,6 +47,14 @@ refusalText s = refused ++ spacedAll (s .number ∷ s .values)
 unfoldable pub refusalLine : Said → List ℕ
 refusalLine s = ended (refusalText s)
 
+-- the word "accepted" and a newline
+abbrev pub acceptedLine : List ℕ
+acceptedLine = 97 ∷ 99 ∷ 99 ∷ 101 ∷ 112 ∷ 116 ∷ 101 ∷ 100 ∷ 10 ∷ []
+
+-- the line of a reading, which has no output: on acceptance, that word
+unfoldable pub readingLine : Said → List ℕ
+readingLine s = pick (eqb (s .number) 0) acceptedLine (refusalLine s)
+
 -- the line of an outcome: on acceptance, of so many of the lent words as its value says, from the front on
 unfoldable pub lineOf : Outcome → List ℕ
 lineOf o = pick (eqb (o .says .number) 0) (listingLine (take (getD (o .says .values) 0 0) (o .lent))) (refusalLine (o .says))

@@ -1,5 +1,6 @@
-// The line that is printed of an answer: of a listing, and of a refusal. `answer_line` leaves exactly the line's bytes, decimal with
-// single spaces and one newline at the end; `print` writes them out.
+// The line that is printed of an answer: of a listing, of a refusal, and of a reading. `answer_line` and `reading_line` leave exactly
+// the line's bytes, decimal with single spaces and one newline at the end; `print` writes them out.
+use book::Reading;
 use book::Refusal;
 use book::Told;
 use book::told_of;
@@ -9,9 +10,9 @@ ghost use mathlib.Core.Path.{_≡_};
 ghost use Prim.Native.Nat.{_+_, _*_, _<_, _≤_};
 ghost use lib.ListN.{length, take};
 ghost use Rattle.io.specs.Counts.{Counts};
-ghost use Rattle.book.specs.Said.{refusalSays, toldSays};
+ghost use Rattle.book.specs.Said.{refusalSays, readingSays, toldSays};
 ghost use Rattle.translation.specs.Outcome.{came};
-ghost use Rattle.line.specs.Line.{spacedAll, ended, listingLine, refusalText, refusalLine, lineOf, Inside, Put, PutNumber};
+ghost use Rattle.line.specs.Line.{spacedAll, ended, listingLine, refusalText, refusalLine, readingLine, lineOf, Inside, Put, PutNumber};
 
 // Puts a text at a place of the line; answers the place behind it.
 fn put_text(line: &mut [u8], at: usize, text: &[u8]) -> usize
@@ -114,6 +115,18 @@ pub fn answer_line(line: &mut [u8], answer: Answer, lent: &[u32]) -> usize
     match answer {
         Answer::Written(n) => listing_line(line, &lent[..n]),
         Answer::Refused(refusal) => refusal_line(line, refusal),
+    }
+}
+
+// The line of what a reading came to: the word "accepted", as there is no output, or its refusal.
+pub fn reading_line(line: &mut [u8], reading: Reading) -> usize
+    requires { ⌜ 71 ≤ length (now line) ⌝ }
+    ensures { λ r. ⌜ Counts r (now (line .exit)) ⌝ }
+    ensures { λ r. ⌜ take r (now (line .exit)) ≡ readingLine (readingSays reading) ⌝ }
+{
+    match reading {
+        Reading::Accepted => put_text(line, 0, b"accepted\n"),
+        Reading::Refused(refusal) => refusal_line(line, refusal),
     }
 }
 

@@ -17,16 +17,18 @@ use Rattle.words.specs.Choice.Laws.{pick-true, pick-false}
 use Rattle.words.specs.First.{first, firstFrom}
 use Rattle.words.specs.First.Laws.{first-is}
 use Rattle.book.specs.declared.Refusal.{Refusal}
-use Rattle.book.specs.Said.{Said, said, refusalSays, toldSays}
+use Rattle.book.specs.Said.{Said, said, accepted, refusalSays, toldSays}
 use Rattle.book.specs.Said.Laws.{refusal-number}
 use Rattle.translation.specs.Listing.{listing}
 use Rattle.translation.specs.Outcome.{Outcome, outcome, came, Plays}
 use Rattle.translation.specs.Outcome.Laws.{exactly-written, written-says, written-past}
 use Rattle.translation.specs.declared.Answer.{Answer}
 use Rattle.translation.specs.declared.Answer.the-variants.{Written, Refused}
+use Rattle.playing.specs.Rehearsal.{rehearsal}
+use Rattle.playing.specs.Rehearsal.Laws.{exactly-played, played-says}
 use Rattle.book.specs.declared.Told.{Told}
 use Rattle.book.specs.declared.Told.the-variants.{One, Two}
-use Rattle.line.specs.Line.{places, decimal, spaced, spacedAll, ended, listingLine, refused, refusalText, refusalLine, lineOf, Inside, Put}
+use Rattle.line.specs.Line.{places, decimal, spaced, spacedAll, ended, listingLine, refused, refusalText, refusalLine, acceptedLine, readingLine, lineOf, Inside, Put}
 
 -- ---- Put
 -- a text that was copied to its end
@@ -208,6 +210,16 @@ inside-outcome (Written n) b lent new e h =
     omega (arith, fits .1)
 inside-outcome (Refused f) b lent new e h = tt
 
+-- of a rehearsal
+pub inside-rehearsal : (a : Answer) (b ms lent new : List ℕ) {room : ℕ} → came a new ≡ rehearsal b ms lent → length lent ≤ room → Inside a room
+unfolding rehearsal
+inside-rehearsal (Written n) b ms lent new e h =
+    let says = ap (λ (o : Outcome). o .says) e in
+    let (plays, moves, named, fits) = exactly-played b ms lent .0 (sym (ap (λ (s : Said). s .number) says)) in
+    let long = ap (λ (s : Said). getD (s .values) 0 0) (says ∙ played-says b ms lent plays moves named fits) in
+    omega arith
+inside-rehearsal (Refused f) b ms lent new e h = tt
+
 -- where there is room for the listing of a book that plays, the line is the listing's
 pub line-listing : (b lent : List ℕ) → Plays b → length (listing b) ≤ length lent → lineOf (outcome b lent) ≡ listingLine (listing b)
 unfolding lineOf outcome
@@ -218,3 +230,13 @@ line-listing b lent plays room =
     pick-true _ _ _ (eq-eqb _ _ accepted)
     ∙ ap₂ (λ (n : ℕ) (ws : List ℕ). listingLine (take n ws)) long (written-past b lent accepted)
     ∙ ap listingLine (take-append-seam (listing b) _)
+
+-- ---- readingLine
+-- the word "accepted", put at the line's start
+pub line-accepted : {text old new : List ℕ} {r : ℕ} → Put text old 0 new r → text ≡ acceptedLine → take r new ≡ readingLine accepted
+unfolding readingLine
+line-accepted put e = put .front ∙ e ∙ sym (pick-true _ _ _ (eq-eqb 0 0 refl))
+
+pub reading-refused : (f : Refusal) → refusalLine (refusalSays f) ≡ readingLine (refusalSays f)
+unfolding readingLine
+reading-refused f = sym (pick-false _ _ _ (ne-eqb _ _ (refusal-number f)))

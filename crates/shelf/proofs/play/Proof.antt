@@ -3,7 +3,8 @@
 use mathlib.Core.Path.{refl, _∙_}
 use native.Mathlib.Omega.{arith}
 use borrow.Author.Needs.{needs}
-use Rattle.shelf.specs.Lines.Laws.{inside-rehearsal, rehearsed-came}
+use Rattle.line.specs.Line.Laws.{inside-rehearsal}
+use Rattle.shelf.specs.Lines.Laws.{rehearsed-came}
 use Rattle.shelf.proofs.play.Statement.{statement}
 use Rattle.shelf.proofs.play.Tie as tie
 

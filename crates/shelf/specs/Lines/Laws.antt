@@ -1,4 +1,4 @@
--- Laws of a book's lines: what a rehearsal writes had room; the lines stand one behind another; the last two schedules are refused.
+-- Laws of a book's lines: the line of a rehearsal; the lines stand one behind another; the last two schedules are refused.
 -- Assumes nothing.
 use Prim.Native.Nat.{ℕ, _+_, _/_, _%_, _≤_}
 use mathlib.Core.Bool.{Bool, false}
@@ -14,24 +14,13 @@ use Rattle.words.specs.Run.Laws.{values-length, values-getD}
 use Rattle.book.specs.Layout.{parties}
 use Rattle.book.specs.Said.{Said, said}
 use Rattle.book.specs.Headed.Laws.{valid-headed}
-use Rattle.translation.specs.Outcome.{Outcome, came, Plays}
-use Rattle.translation.specs.declared.Answer.{Answer}
-use Rattle.translation.specs.declared.Answer.the-variants.{Written, Refused}
+use Rattle.translation.specs.Outcome.{Outcome, Plays}
 use Rattle.playing.specs.Rehearsal.{rehearsal, rehearsalSays, BadMoves}
-use Rattle.playing.specs.Rehearsal.Laws.{rehearsal-exactly-11, exactly-played, played-says}
-use Rattle.line.specs.Line.{refusalLine, lineOf, Inside, Put}
+use Rattle.playing.specs.Rehearsal.Laws.{rehearsal-exactly-11}
+use Rattle.line.specs.Line.{refusalLine, lineOf, Put}
 use Rattle.shelf.specs.Turns.{turn, seats}
 use Rattle.shelf.specs.Turns.Laws.{turn-on, seats-own}
 use Rattle.shelf.specs.Lines.{translatedLine, rehearsedLine, playedLines, refusedLines, bookLines}
-
-pub inside-rehearsal : (a : Answer) (b ms lent new : List ℕ) {room : ℕ} → came a new ≡ rehearsal b ms lent → length lent ≤ room → Inside a room
-unfolding rehearsal
-inside-rehearsal (Written n) b ms lent new e h =
-    let says = ap (λ (o : Outcome). o .says) e in
-    let (plays, moves, named, fits) = exactly-played b ms lent .0 (sym (ap (λ (s : Said). s .number) says)) in
-    let long = ap (λ (s : Said). getD (s .values) 0 0) (says ∙ played-says b ms lent plays moves named fits) in
-    omega arith
-inside-rehearsal (Refused f) b ms lent new e h = tt
 
 -- the line of what came of a rehearsal: of the schedule ms, and the words lent to it
 pub rehearsed-came : (b ms lent : List ℕ) (moves q times : ℕ) (back : Bool) {o : Outcome} → o ≡ rehearsal b ms lent

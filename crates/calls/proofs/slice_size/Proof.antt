@@ -1,0 +1,43 @@
+-- `calls::slice_size` meets its contract: the count is the word of the four bytes, and by the function it is of words
+-- or of bytes (`size-words`, `size-bytes`). Assumes nothing.
+use mathlib.Core.Path.{_∙_}
+use native.Mathlib.Omega.{arith}
+use borrow.Author.Needs.{needs}
+use Rattle.octets.specs.Octets.{wordAt}
+use Rattle.calls.specs.Call.Laws.{size-words, size-bytes}
+use Rattle.calls.proofs.slice_size.Statement.{statement}
+use Rattle.calls.proofs.slice_size.Tie as tie
+
+-- of words
+returns : tie.Need-returns
+unfolding wordAt
+returns c =
+    let after-wide : tie.After-wide = search in
+    let after-word : tie.After-word = search in
+    let start : tie.Start = search in
+    let (count, few) = after-wide .wide .ensures in
+    (size-words (start .args .function) (omega arith) (count ∙ after-word .word .ensures), omega arith)
+
+-- of bytes
+returns-2 : tie.Need-returns-2
+unfolding wordAt
+returns-2 c =
+    let after-wide : tie.After-wide = search in
+    let after-word : tie.After-word = search in
+    let start : tie.Start = search in
+    let (count, few) = after-wide .wide .ensures in
+    (size-bytes (start .args .function) (omega arith) (count ∙ after-word .word .ensures), omega arith)
+
+pub slice-size-spec : {M : Type 1} → statement M
+slice-size-spec =
+    tie.close
+    (tie.spec
+    (λ c. search needs)  -- element-copy-out-word
+    (λ c. search needs)  -- element-copy-out-word-2
+    (λ c. search needs)  -- element-copy-out-word-3
+    (λ c. search needs)  -- element-copy-out-word-4
+    (λ c κs. search needs)  -- word-requires
+    (λ c κs. search needs)  -- wide-requires
+    (λ c. search needs)  -- mul-result
+    returns
+    returns-2)

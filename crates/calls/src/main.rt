@@ -1,0 +1,273 @@
+// Any call without code: reads requests from standard input, each a function's number and its slices, calls the function and prints
+// its answer on one line. `call_line` leaves exactly the line's bytes, for any bytes of the slices; the rest reads and prints.
+use input::Input;
+use libc::STDERR_FILENO;
+use libc::STDIN_FILENO;
+use translation::Answer;
+ghost use mathlib.Core.Path.{_≡_};
+ghost use Prim.Native.Nat.{_/_, _^_, _≤_, _<_};
+ghost use lib.ListN.{length, take};
+ghost use Rattle.io.specs.Counts.{Counts};
+ghost use Rattle.octets.specs.Octets.{wordAt, wordsIn};
+ghost use Rattle.translation.specs.Outcome.{came};
+ghost use Rattle.input.specs.Input.{Within};
+ghost use Rattle.line.specs.Line.{Inside, lineOf};
+ghost use Rattle.calls.specs.Call.{OnWords, Known, sliceSize, wordsLine, callLine};
+ghost use Rattle.calls.specs.Next.{Asked};
+
+// What is read and printed at most.
+struct Most {}
+
+impl Most {
+    // Of a slice: more than the longest book has, and as many as `nghiralum` lends; as words, and as bytes.
+    const WORDS: usize = 16384;
+
+    const BYTES: usize = 65536;
+
+    // A word takes up to eleven bytes of the line, as `line` counts them.
+    const LINE: usize = 180234;
+
+    // A run ends, so it has a last request.
+    const REQUESTS: usize = 1048576;
+}
+
+// The functions' numbers. Each stays its function's own.
+struct Function {}
+
+impl Function {
+    const READ: u32 = 1;
+
+    const ACCEPT: u32 = 2;
+
+    const TRANSLATE: u32 = 3;
+
+    const REHEARSE: u32 = 4;
+
+    const TRANSLATE_BYTES: u32 = 5;
+
+    const REHEARSE_BYTES: u32 = 6;
+}
+
+// What came next: a call of a function, or nothing more, and where that is no proper end, it was told.
+enum Next {
+    Call(u32),
+    Nothing,
+}
+
+// The line of a call on words, into the front of `line`; answers its length.
+fn words_line(
+    line: &mut [u8],
+    function: u32,
+    book: &[u32],
+    schedule: &[u32],
+    lent: &mut [u32],
+) -> usize
+    requires { ⌜ OnWords function × (length (now lent) ≤ 16384) × (180234 ≤ length (now line)) ⌝ }
+    ensures { λ r. ⌜ Counts r (now (line .exit)) ⌝ }
+    ensures { λ r. ⌜ take r (now (line .exit)) ≡ wordsLine function (now (book .entry)) (now (schedule .entry)) (now (lent .entry)) ⌝ }
+{
+    if function == Function::READ {
+        return line::reading_line(line, reader::read(book));
+    }
+    if function == Function::ACCEPT {
+        return line::reading_line(line, translator::accept(book));
+    }
+    if function == Function::TRANSLATE {
+        let answer = translator::translate(book, lent);
+        return line::answer_line(line, answer, lent);
+    }
+    let answer = rehearsal::rehearse(book, schedule, lent);
+    line::answer_line(line, answer, lent)
+}
+
+// The same, of the bytes of the slices.
+fn loaded_line(line: &mut [u8], function: u32, book: &[u8], schedule: &[u8], lent: &[u8]) -> usize
+    requires { ⌜ OnWords function × (length (now book) ≤ 65536) × (length (now schedule) ≤ 65536) × (length (now lent) ≤ 65536) × (180234 ≤ length (now line)) ⌝ }
+    ensures { λ r. ⌜ Counts r (now (line .exit)) ⌝ }
+    ensures { λ r. ⌜ take r (now (line .exit)) ≡ wordsLine function (wordsIn (now (book .entry))) (wordsIn (now (schedule .entry))) (wordsIn (now (lent .entry))) ⌝ }
+{
+    let mut words = [0u32; Most::WORDS];
+    let n = octets::load(book, &mut words);
+    let mut moves = [0u32; Most::WORDS];
+    let m = octets::load(schedule, &mut moves);
+    let mut out = [0u32; Most::WORDS];
+    let room = octets::load(lent, &mut out);
+    words_line(line, function, &words[..n], &moves[..m], &mut out[..room])
+}
+
+// The line of what a call on bytes came to: of the words that the lent bytes make, or of its refusal.
+fn lent_line(line: &mut [u8], answer: Answer, lent: &[u8]) -> usize
+    requires { ⌜ (length (now lent) ≤ 65536) × (180234 ≤ length (now line)) × Inside answer (length (now lent) / 4) ⌝ }
+    ensures { λ r. ⌜ Counts r (now (line .exit)) ⌝ }
+    ensures { λ r. ⌜ take r (now (line .exit)) ≡ lineOf (came answer (wordsIn (now (lent .entry)))) ⌝ }
+{
+    let mut words = [0u32; Most::WORDS];
+    let n = octets::load(lent, &mut words);
+    line::answer_line(line, answer, &words[..n])
+}
+
+// The line of a call, of the bytes that were read of its slices.
+fn call_line(line: &mut [u8], function: u32, book: &[u8], schedule: &[u8], lent: &mut [u8]) -> usize
+    requires { ⌜ Known function × (length (now book) ≤ 65536) × (length (now schedule) ≤ 65536) × (length (now lent) ≤ 65536) × (180234 ≤ length (now line)) ⌝ }
+    ensures { λ r. ⌜ Counts r (now (line .exit)) ⌝ }
+    ensures { λ r. ⌜ take r (now (line .exit)) ≡ callLine function (now (book .entry)) (now (schedule .entry)) (now (lent .entry)) ⌝ }
+{
+    if function == Function::TRANSLATE_BYTES {
+        let answer = editor::translate(book, lent);
+        return lent_line(line, answer, lent);
+    }
+    if function == Function::REHEARSE_BYTES {
+        let answer = editor::rehearse(book, schedule, lent);
+        return lent_line(line, answer, lent);
+    }
+    loaded_line(line, function, book, schedule, lent)
+}
+
+// Reads bytes until those that are lent for them are full; whether they are.
+fn read_all(bytes: &mut [u8]) -> bool {
+    let input = input::fill(STDIN_FILENO, b"standard input", bytes);
+    match input {
+        Input::Bytes(n) => {
+            if n == bytes.len() {
+                return true;
+            }
+            io::write_all(STDERR_FILENO, b"standard input ends inside a request\n");
+            false
+        }
+        Input::Failed => false,
+    }
+}
+
+// How many bytes a slice of a function has: by its count, the word that the first four bytes make, which is of words or of bytes.
+fn slice_size(function: u32, head: &[u8; 4]) -> usize
+    ensures { λ r. ⌜ (r ≡ sliceSize function (wordAt (now (head .entry)) 0)) × (r < 2 ^ 34) ⌝ }
+{
+    let count = words::wide(octets::word(head[0], head[1], head[2], head[3]));
+    if function < Function::TRANSLATE_BYTES {
+        return 4 * count;
+    }
+    count
+}
+
+// Reads a slice of a function: its count, and then so many words or bytes. Where bytes don't fill the last word, it is filled up, and
+// that is no part of the slice. Answers how many bytes the slice has.
+fn read_slice(function: u32, bytes: &mut [u8]) -> Input
+    requires { ⌜ 65536 ≤ length (now bytes) ⌝ }
+    ensures { λ r. ⌜ Within r 65536 ⌝ }
+{
+    let mut head = [0u8; 4];
+    if !read_all(&mut head) {
+        return Input::Failed;
+    }
+    let size = slice_size(function, &head);
+    if Most::BYTES < size {
+        io::write_all(STDERR_FILENO, b"a slice has more than 65536 bytes\n");
+        return Input::Failed;
+    }
+    if !read_all(&mut bytes[0..(size + 3) / 4 * 4]) {
+        return Input::Failed;
+    }
+    Input::Bytes(size)
+}
+
+// The same for a slice that not every function has: where it has none, no bytes come.
+fn read_schedule(function: u32, bytes: &mut [u8]) -> Input
+    requires { ⌜ 65536 ≤ length (now bytes) ⌝ }
+    ensures { λ r. ⌜ Within r 65536 ⌝ }
+{
+    if function == Function::REHEARSE {
+        return read_slice(function, bytes);
+    }
+    if function == Function::REHEARSE_BYTES {
+        return read_slice(function, bytes);
+    }
+    Input::Bytes(0)
+}
+
+fn read_lent(function: u32, bytes: &mut [u8]) -> Input
+    requires { ⌜ 65536 ≤ length (now bytes) ⌝ }
+    ensures { λ r. ⌜ Within r 65536 ⌝ }
+{
+    if function < Function::TRANSLATE {
+        return Input::Bytes(0);
+    }
+    read_slice(function, bytes)
+}
+
+// Reads the slices of a call, and prints its line; whether all of them came.
+fn answer(function: u32) -> bool
+    requires { ⌜ Known function ⌝ }
+{
+    let mut book = [0u8; Most::BYTES];
+    let Input::Bytes(b) = read_slice(function, &mut book) else {
+        return false;
+    };
+    let mut schedule = [0u8; Most::BYTES];
+    let Input::Bytes(m) = read_schedule(function, &mut schedule) else {
+        return false;
+    };
+    let mut lent = [0u8; Most::BYTES];
+    let Input::Bytes(n) = read_lent(function, &mut lent) else {
+        return false;
+    };
+    let mut line = [0u8; Most::LINE];
+    let end = call_line(
+        &mut line,
+        function,
+        &book[..b],
+        &schedule[..m],
+        &mut lent[..n],
+    );
+    line::print(&line[..end]);
+    true
+}
+
+// Says on standard error why nothing more is called.
+fn stop(why: &[u8]) -> Next
+    ensures { λ r. ⌜ Asked r ⌝ }
+{
+    io::write_all(STDERR_FILENO, why);
+    Next::Nothing
+}
+
+// Reads the number of a function. Where nothing comes, the requests are at their end.
+fn read_next() -> Next
+    ensures { λ r. ⌜ Asked r ⌝ }
+{
+    let mut head = [0u8; 4];
+    let input = input::fill(STDIN_FILENO, b"standard input", &mut head);
+    let Input::Bytes(n) = input else {
+        return Next::Nothing;
+    };
+    if n == 0 {
+        return Next::Nothing;
+    }
+    if n < 4 {
+        return stop(b"standard input ends inside a request\n");
+    }
+    let function = octets::word(head[0], head[1], head[2], head[3]);
+    if function < Function::READ {
+        return stop(b"there is no function of this number\n");
+    }
+    if Function::REHEARSE_BYTES < function {
+        return stop(b"there is no function of this number\n");
+    }
+    Next::Call(function)
+}
+
+fn main() {
+    let mut requests = 0;
+    while requests < Most::REQUESTS {
+        let Next::Call(function) = read_next() else {
+            return;
+        };
+        if !answer(function) {
+            return;
+        }
+        requests += 1;
+    }
+    io::write_all(
+        STDERR_FILENO,
+        b"no more than 1048576 requests are answered\n",
+    );
+}

@@ -66,3 +66,20 @@ pub fn faultless(faults: &[String]) -> Result<(), String> {
         Err(faults.join("\n"))
     }
 }
+
+/// Writes files into a folder.
+pub fn write_all(folder: &Path, files: &[(&str, &Vec<u8>)]) -> Result<(), String> {
+    let mut files = files.iter();
+    files.try_for_each(|(name, content)| write(&folder.join(name), content))
+}
+
+/// Whether a folder has these files; a line for each that it hasn't.
+pub fn all_current(folder: &Path, files: &[(&str, &Vec<u8>)], source_gives: &str) -> Result<(), String> {
+    let mut faults = Vec::new();
+    for (name, content) in files {
+        let file = folder.join(name);
+        let current = current(&file, content, source_gives);
+        faults.extend(current.err().map(|fault| told(&file, fault)));
+    }
+    faultless(&faults)
+}

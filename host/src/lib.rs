@@ -16,6 +16,7 @@ pub mod mutants;
 pub mod narration;
 pub mod random;
 pub mod rehearse;
+pub mod requests;
 pub mod routes;
 pub mod shelf;
 pub mod show;

@@ -1,6 +1,7 @@
 //! The commands of the second implementation: each reads its files, asks the library, and prints. Whatever a command
 //! is given, it ends with an answer or with one message on standard error and status 2.
 
+use host::requests::{self, Calls, Request};
 use host::shelf::Shelf;
 use host::{
     bench, compare, corpus, edits, files, frames, mutants, narration, random, rehearse, routes, show, translate, words,
@@ -18,6 +19,10 @@ host show FILE                          tell what a book says
 host words FILE [OUT]                   turn decimal words (# to the line's end is a remark) into a book
 host books [--check] DIR                write (or only check) the files derived in a folder of books
 host shelf [--check] BOOKS CRATE        write (or only check) what the program shelf reads and prints
+host requests [--check] BOOKS CRATE     write (or only check) what the program calls reads and prints
+host requests --write FUNCTION SLICE..  print a request; a slice is a file, or =ITEM,.. (COUNTxITEM repeats one)
+host requests --random SEED COUNT       print random requests
+host requests --answer                  answer the requests of standard input, as the program calls does
 host edits [--check] CRATES DOC         write (or only check) the page of the must-fail edits
 host mutants SEED COUNT                 ask the prover about random mutants of the sources, at the repository's top
 host random SEED COUNT DIR              write random books
@@ -103,6 +108,25 @@ fn run(arguments: &[String]) -> Result<bool, String> {
             let shelf = Shelf::of(Path::new(books))?;
             shelf.write(Path::new(folder))?;
             say(&format!("{}, written to {folder}\n", shelf.told()))?;
+        }
+        ["requests", "--answer"] => {
+            requests::answer(&mut io::stdin().lock(), &mut io::stdout())?;
+        }
+        ["requests", "--write", function, slices @ ..] => {
+            give(&Request::of(function, slices)?.bytes(), None)?;
+        }
+        ["requests", "--random", seed, count] => {
+            give(&requests::random(number(seed)?, number(count)? as usize), None)?;
+        }
+        ["requests", "--check", books, folder] => {
+            let calls = Calls::of(Path::new(books))?;
+            calls.check(Path::new(folder))?;
+            say(&format!("{} requests, current in {folder}\n", calls.requests))?;
+        }
+        ["requests", books, folder] if !books.starts_with("--") => {
+            let calls = Calls::of(Path::new(books))?;
+            calls.write(Path::new(folder))?;
+            say(&format!("{} requests, written to {folder}\n", calls.requests))?;
         }
         ["edits", "--check", crates, page] => {
             let edits = edits::Page::of(Path::new(crates))?;

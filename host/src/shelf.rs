@@ -55,19 +55,12 @@ impl Shelf {
 
     /// Writes the files into the crate's folder.
     pub fn write(&self, folder: &Path) -> Result<(), String> {
-        let mut files = self.files().into_iter();
-        files.try_for_each(|(name, content)| files::write(&folder.join(name), content))
+        files::write_all(folder, &self.files())
     }
 
     /// Whether the crate's folder has these files; a line for each that it hasn't.
     pub fn check(&self, folder: &Path) -> Result<(), String> {
-        let mut faults = Vec::new();
-        for (name, content) in self.files() {
-            let file = folder.join(name);
-            let current = files::current(&file, content, "the books give");
-            faults.extend(current.err().map(|fault| files::told(&file, fault)));
-        }
-        files::faultless(&faults)
+        files::all_current(folder, &self.files(), "the books give")
     }
 
     /// How many books there are, and which were left out.

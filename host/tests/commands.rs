@@ -95,6 +95,7 @@ fn help() {
         "words",
         "books",
         "shelf",
+        "requests",
         "edits",
         "random",
         "compare",

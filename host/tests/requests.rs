@@ -1,0 +1,251 @@
+//! Requests and their answers: the stream's form, what is said of each call, and what is wrong with a stream.
+
+mod common;
+
+use common::{complains, host, output, top, Folder, EXAMPLE_1, LISTING_1};
+use host::requests::{self, Calls, Request, FUNCTIONS};
+use host::words::{self, of_bytes, to_bytes};
+use std::io::Write;
+use std::process::{Output, Stdio};
+
+/// What a stream of words is answered, and what is wrong with it.
+fn answered(stream: &[u8]) -> (String, Result<usize, String>) {
+    let mut out = Vec::new();
+    let answered = requests::answer(&mut &stream[..], &mut out);
+    (String::from_utf8(out).unwrap(), answered)
+}
+
+/// A slice of words, as it stands in a stream.
+fn slice(words: &[u32]) -> Vec<u32> {
+    [&[words.len() as u32], words].concat()
+}
+
+fn line_1() -> String {
+    words::line(&LISTING_1) + "\n"
+}
+
+#[test]
+fn each_function() {
+    let book = slice(&EXAMPLE_1);
+    let stream = [
+        &[1][..],
+        &book,
+        &[2],
+        &book,
+        &[3],
+        &book,
+        &slice(&[9; 47]),
+        &[3],
+        &book,
+        &slice(&[9; 46]),
+        &[4],
+        &book,
+        &slice(&[1, 1, 0]),
+        &slice(&[9; 3]),
+        &[4],
+        &book,
+        &slice(&[1, 2]),
+        &slice(&[]),
+        &[4],
+        &book,
+        &slice(&[]),
+        &slice(&[9]),
+    ];
+    let lines = format!(
+        "accepted\naccepted\n{}refused 12 47\n1 2\nrefused 11 1\nrefused 12 2\n",
+        line_1()
+    );
+    assert_eq!(answered(&to_bytes(&stream.concat())), (lines, Ok(7)));
+}
+
+/// The functions on bytes: counts of bytes, the last word filled up, and what fills it up isn't looked at.
+#[test]
+fn on_bytes() {
+    let book = to_bytes(&EXAMPLE_1);
+    let octets = |bytes: &[u8], fill: u8| {
+        let mut slice = to_bytes(&[bytes.len() as u32]);
+        slice.extend(bytes);
+        slice.resize(slice.len().next_multiple_of(4), fill);
+        slice
+    };
+    for fill in [0, 255] {
+        let stream = [
+            to_bytes(&[5]),
+            octets(&book, fill),
+            octets(&[9; 4 * 47 + 3], fill),
+            to_bytes(&[5]),
+            octets(&book, fill),
+            octets(&[9; 4 * 47 - 1], fill),
+            to_bytes(&[5]),
+            octets(&book[..211], fill),
+            octets(&[], fill),
+            to_bytes(&[6]),
+            octets(&book, fill),
+            octets(&to_bytes(&[1, 1, 0]), fill),
+            octets(&[9; 9], fill),
+            to_bytes(&[6]),
+            octets(&book, fill),
+            octets(&[1, 0, 0, 0, 1, 0, 0, 0, 0], fill),
+            octets(&[9; 8], fill),
+        ];
+        let lines = format!("{}refused 12 47\nrefused 1 0\n1 2\nrefused 1 0\n", line_1());
+        assert_eq!(answered(&stream.concat()), (lines, Ok(5)));
+    }
+    let most = [&to_bytes(&[5, 65_536])[..], &[0; 65_536], &to_bytes(&[0])].concat();
+    assert_eq!(answered(&most), ("refused 2 0\n".to_string(), Ok(1)));
+    let over = answered(&to_bytes(&[5, 65_537])).1;
+    assert_eq!(over, Err("request 1: a slice has more than 65536 bytes".to_string()));
+}
+
+/// Acceptance is more than reading: a book that keeps its rules and can't be played.
+#[test]
+fn read_and_accept_differ() {
+    let book = top().join("books/unplayable-late-key.book");
+    let book = slice(&of_bytes(&std::fs::read(book).unwrap()).unwrap());
+    let (lines, _) = answered(&to_bytes(&[&[1][..], &book, &[2], &book].concat()));
+    let (first, second) = lines.split_once('\n').unwrap();
+    assert_eq!(first, "accepted");
+    assert!(second.starts_with("refused 10 "), "{second}");
+}
+
+#[test]
+fn what_is_wrong() {
+    let good = to_bytes(&[1, 0]);
+    let said = |end: &[u8]| {
+        let (lines, wrong) = answered(&[&good, end].concat());
+        assert_eq!(lines, "refused 1 0\n");
+        wrong.unwrap_err()
+    };
+    let inside = "request 2: standard input ends inside a request";
+    assert_eq!(said(&[1]), inside);
+    assert_eq!(said(&to_bytes(&[1])), inside);
+    assert_eq!(said(&to_bytes(&[3, 0])), inside);
+    assert_eq!(said(&to_bytes(&[1, 2, 5])), inside);
+    assert_eq!(said(&[&to_bytes(&[1, 1])[..], &[0; 3]].concat()), inside);
+    for number in [0, FUNCTIONS.len() as u32 + 1, u32::MAX] {
+        assert_eq!(
+            said(&to_bytes(&[number, 0])),
+            "request 2: there is no function of this number"
+        );
+    }
+    for count in [16_385, u32::MAX] {
+        assert_eq!(
+            said(&to_bytes(&[1, count])),
+            "request 2: a slice has more than 65536 bytes"
+        );
+    }
+    // As many as are taken.
+    let most = [&[1, 16_384][..], &[0; 16_384]].concat();
+    assert_eq!(answered(&to_bytes(&most)), ("refused 2 0\n".to_string(), Ok(1)));
+    assert_eq!(answered(&[]), (String::new(), Ok(0)));
+}
+
+#[test]
+fn what_is_written() {
+    let folder = Folder::new("requests");
+    let book = folder.file("1.book", to_bytes(&EXAMPLE_1));
+    let written = |function, slices: &[&str]| of_bytes(&Request::of(function, slices).unwrap().bytes()).unwrap();
+    let known = slice(&EXAMPLE_1);
+    assert_eq!(written("read", &[&book]), [&[1], &known[..]].concat());
+    assert_eq!(written("2", &["="]), [2, 0]);
+    assert_eq!(written("translate", &["=3x1", "=2x0,5"]), [3, 3, 1, 1, 1, 3, 0, 0, 5]);
+    assert_eq!(
+        written("4", &["=", "=0,1,4294967295", "=0x7"]),
+        [4, 0, 3, 0, 1, u32::MAX, 0]
+    );
+    assert_eq!(
+        written("5", &["=1,2,3,4,255", "=5x0"]),
+        [5, 5, 0x0403_0201, 255, 5, 0, 0]
+    );
+    let odd = folder.file("odd.book", [1, 2, 3]);
+    assert_eq!(
+        written("nghiralum_rehearse", &[&odd, "=", "="]),
+        [6, 3, 0x0003_0201, 0, 0]
+    );
+    let wrong = |function, slices: &[&str]| Request::of(function, slices).map(|_| ()).unwrap_err();
+    assert!(wrong("rea", &["="]).contains("rehearse"));
+    assert!(wrong("read", &[]).contains("1 slices, not 0"));
+    for items in ["=x", "=1x", "=4294967296", "=-1", "=1,b", "=99999999x0"] {
+        assert!(wrong("read", &[items]).contains("neither"), "{items}");
+    }
+    assert!(wrong("read", &["nowhere/1.book"]).contains("nowhere"));
+    assert!(wrong("5", &["=256", "="]).contains("neither"));
+    assert!(wrong("read", &[&odd]).contains("3 bytes are no whole words"));
+}
+
+#[test]
+fn the_crate_is_current() {
+    let calls = Calls::of(&top().join("books")).unwrap();
+    assert_eq!(calls.check(&top().join("crates/calls")), Ok(()));
+    let (lines, count) = answered(&calls.stdin);
+    assert_eq!((lines.as_bytes(), count), (&calls.stdout[..], Ok(calls.requests)));
+    assert!(lines.contains("accepted\n"));
+    for number in 1..=12 {
+        let refused = format!("refused {number} ");
+        assert!(lines.contains(&refused), "{refused}");
+    }
+}
+
+/// Random requests are whole, and the same seed gives the same ones.
+#[test]
+fn random_requests() {
+    let stream = requests::random(5, 300);
+    assert_eq!(stream, requests::random(5, 300));
+    let (lines, count) = answered(&stream);
+    assert_eq!(count, Ok(300));
+    for kind in ["accepted\n", "refused 2 ", "refused 10 ", "refused 11 ", "refused 12 "] {
+        assert!(lines.contains(kind), "{kind}");
+    }
+}
+
+/// The command, with something on its standard input.
+fn piped(arguments: &[&str], input: &[u8]) -> Output {
+    let mut child = host(arguments)
+        .stdin(Stdio::piped())
+        .stdout(Stdio::piped())
+        .stderr(Stdio::piped())
+        .spawn()
+        .expect("the command runs");
+    child
+        .stdin
+        .take()
+        .expect("a pipe")
+        .write_all(input)
+        .expect("it is taken");
+    child.wait_with_output().expect("an answer")
+}
+
+#[test]
+fn the_commands() {
+    let folder = Folder::new("requests-commands");
+    let book = folder.file("1.book", to_bytes(&EXAMPLE_1));
+    let one = output(&["requests", "--write", "translate", &book, "=47x0"]).stdout;
+    let two = output(&["requests", "--write", "rehearse", &book, "=1,1,0", "=2x0"]).stdout;
+    let answer = piped(&["requests", "--answer"], &[&one[..], &two].concat());
+    assert_eq!(answer.stdout, (line_1() + "1 2\n").into_bytes());
+    assert_eq!(answer.status.code(), Some(0));
+    let cut = piped(&["requests", "--answer"], &[&one[..], &two[..9]].concat());
+    assert_eq!(cut.stdout, line_1().into_bytes());
+    assert_eq!(cut.stderr, b"host: request 2: standard input ends inside a request\n");
+    assert_eq!(cut.status.code(), Some(2));
+    assert_eq!(
+        output(&["requests", "--random", "3", "7"]).stdout,
+        requests::random(3, 7)
+    );
+
+    let to = Folder::new("requests-crate");
+    let (at, crate_at) = (folder.path(""), to.path(""));
+    let said = |done: &str| format!("15 requests, {done} {crate_at}\n");
+    assert_eq!(common::printed(&["requests", &at, &crate_at]), said("written to"));
+    assert_eq!(
+        common::printed(&["requests", "--check", &at, &crate_at]),
+        said("current in")
+    );
+    to.file("stdout", "");
+    assert!(complains(&["requests", "--check", &at, &crate_at]).contains("stale"));
+    complains(&["requests", "--check", &at]);
+    complains(&["requests", "--write"]);
+    complains(&["requests", "--write", "nothing"]);
+    complains(&["requests", "--random", "1"]);
+    complains(&["requests", &at]);
+}

@@ -18,17 +18,22 @@ Known f = (1 ≤ f) × (f ≤ 6)
 abbrev pub OnWords : ℕ → Type 0
 OnWords f = (1 ≤ f) × (f ≤ 4)
 
+-- how many slices the function f has: a reading one, a rehearsal three, a translation two
+unfoldable pub slicesOf : ℕ → ℕ
+slicesOf f = pick (ltb f 3) 1 (pick (eqb f 4) 3 (pick (ltb 5 f) 3 2))
+
 -- the bytes of a slice of the function f whose count is n: of words, or of bytes
 unfoldable pub sliceSize : ℕ → ℕ → ℕ
 sliceSize f n = pick (ltb f 5) (4 * n) n
 
--- of the book b, the schedule ms and the lent words out, as far as the function f has them: 1 `read`, 2 `accept`, 3 `translate`, 4 `rehearse`
+-- of the slices of the function f, in the order of its parameters: 1 `read` and 2 `accept` of a book, 3 `translate` of a book and lent
+-- words, 4 `rehearse` of a book, a schedule and lent words
 unfoldable pub wordsLine : ℕ → List ℕ → List ℕ → List ℕ → List ℕ
-wordsLine f b ms out =
-    pick (eqb f 1) (readingLine (verdict b))
-    (pick (eqb f 2) (readingLine (acceptance b))
-    (pick (eqb f 3) (lineOf (outcome b out))
-    (pick (eqb f 4) (lineOf (rehearsal b ms out)) [])))
+wordsLine f a b c =
+    pick (eqb f 1) (readingLine (verdict a))
+    (pick (eqb f 2) (readingLine (acceptance a))
+    (pick (eqb f 3) (lineOf (outcome a b))
+    (pick (eqb f 4) (lineOf (rehearsal a b c)) [])))
 
 -- of an outcome on bytes: the output's words are those that the lent bytes make
 abbrev pub inWords : Outcome → Outcome
@@ -36,7 +41,7 @@ inWords o = record { says = o .says; lent = wordsIn (o .lent) }
 
 -- of the bytes that were read of each: 5 `nghiralum_translate`, 6 `nghiralum_rehearse`, or one on words
 unfoldable pub callLine : ℕ → List ℕ → List ℕ → List ℕ → List ℕ
-callLine f book schedule lent =
-    pick (eqb f 5) (lineOf (inWords (translationBytes book lent)))
-    (pick (eqb f 6) (lineOf (inWords (rehearsalBytes book schedule lent)))
-    (wordsLine f (wordsIn book) (wordsIn schedule) (wordsIn lent)))
+callLine f a b c =
+    pick (eqb f 5) (lineOf (inWords (translationBytes a b)))
+    (pick (eqb f 6) (lineOf (inWords (rehearsalBytes a b c)))
+    (wordsLine f (wordsIn a) (wordsIn b) (wordsIn c)))

@@ -12,7 +12,7 @@ ghost use Rattle.octets.specs.Octets.{wordAt, wordsIn};
 ghost use Rattle.translation.specs.Outcome.{came};
 ghost use Rattle.input.specs.Input.{Within};
 ghost use Rattle.line.specs.Line.{Inside, lineOf};
-ghost use Rattle.calls.specs.Call.{OnWords, Known, sliceSize, wordsLine, callLine};
+ghost use Rattle.calls.specs.Call.{OnWords, Known, slicesOf, sliceSize, wordsLine, callLine};
 ghost use Rattle.calls.specs.Next.{Asked};
 
 // What is read and printed at most.
@@ -54,45 +54,46 @@ enum Next {
     Nothing,
 }
 
-// The line of a call on words, into the front of `line`; answers its length.
+// The line of a call on words, into the front of `line`; answers its length. The slices stand in the order of the function's
+// parameters; what it has none for is not looked at.
 fn words_line(
     line: &mut [u8],
     function: u32,
-    book: &[u32],
-    schedule: &[u32],
-    lent: &mut [u32],
+    first: &[u32],
+    second: &mut [u32],
+    third: &mut [u32],
 ) -> usize
-    requires { ⌜ OnWords function × (length (now lent) ≤ 16384) × (180234 ≤ length (now line)) ⌝ }
+    requires { ⌜ OnWords function × (length (now second) ≤ 16384) × (length (now third) ≤ 16384) × (180234 ≤ length (now line)) ⌝ }
     ensures { λ r. ⌜ Counts r (now (line .exit)) ⌝ }
-    ensures { λ r. ⌜ take r (now (line .exit)) ≡ wordsLine function (now (book .entry)) (now (schedule .entry)) (now (lent .entry)) ⌝ }
+    ensures { λ r. ⌜ take r (now (line .exit)) ≡ wordsLine function (now (first .entry)) (now (second .entry)) (now (third .entry)) ⌝ }
 {
     if function == Function::READ {
-        return line::reading_line(line, reader::read(book));
+        return line::reading_line(line, reader::read(first));
     }
     if function == Function::ACCEPT {
-        return line::reading_line(line, translator::accept(book));
+        return line::reading_line(line, translator::accept(first));
     }
     if function == Function::TRANSLATE {
-        let answer = translator::translate(book, lent);
-        return line::answer_line(line, answer, lent);
+        let answer = translator::translate(first, second);
+        return line::answer_line(line, answer, second);
     }
-    let answer = rehearsal::rehearse(book, schedule, lent);
-    line::answer_line(line, answer, lent)
+    let answer = rehearsal::rehearse(first, second, third);
+    line::answer_line(line, answer, third)
 }
 
 // The same, of the bytes of the slices.
-fn loaded_line(line: &mut [u8], function: u32, book: &[u8], schedule: &[u8], lent: &[u8]) -> usize
-    requires { ⌜ OnWords function × (length (now book) ≤ 65536) × (length (now schedule) ≤ 65536) × (length (now lent) ≤ 65536) × (180234 ≤ length (now line)) ⌝ }
+fn loaded_line(line: &mut [u8], function: u32, first: &[u8], second: &[u8], third: &[u8]) -> usize
+    requires { ⌜ OnWords function × (length (now first) ≤ 65536) × (length (now second) ≤ 65536) × (length (now third) ≤ 65536) × (180234 ≤ length (now line)) ⌝ }
     ensures { λ r. ⌜ Counts r (now (line .exit)) ⌝ }
-    ensures { λ r. ⌜ take r (now (line .exit)) ≡ wordsLine function (wordsIn (now (book .entry))) (wordsIn (now (schedule .entry))) (wordsIn (now (lent .entry))) ⌝ }
+    ensures { λ r. ⌜ take r (now (line .exit)) ≡ wordsLine function (wordsIn (now (first .entry))) (wordsIn (now (second .entry))) (wordsIn (now (third .entry))) ⌝ }
 {
-    let mut words = [0u32; Most::WORDS];
-    let n = octets::load(book, &mut words);
-    let mut moves = [0u32; Most::WORDS];
-    let m = octets::load(schedule, &mut moves);
-    let mut out = [0u32; Most::WORDS];
-    let room = octets::load(lent, &mut out);
-    words_line(line, function, &words[..n], &moves[..m], &mut out[..room])
+    let mut a = [0u32; Most::WORDS];
+    let l = octets::load(first, &mut a);
+    let mut b = [0u32; Most::WORDS];
+    let m = octets::load(second, &mut b);
+    let mut c = [0u32; Most::WORDS];
+    let n = octets::load(third, &mut c);
+    words_line(line, function, &a[..l], &mut b[..m], &mut c[..n])
 }
 
 // The line of what a call on bytes came to: of the words that the lent bytes make, or of its refusal.
@@ -107,20 +108,26 @@ fn lent_line(line: &mut [u8], answer: Answer, lent: &[u8]) -> usize
 }
 
 // The line of a call, of the bytes that were read of its slices.
-fn call_line(line: &mut [u8], function: u32, book: &[u8], schedule: &[u8], lent: &mut [u8]) -> usize
-    requires { ⌜ Known function × (length (now book) ≤ 65536) × (length (now schedule) ≤ 65536) × (length (now lent) ≤ 65536) × (180234 ≤ length (now line)) ⌝ }
+fn call_line(
+    line: &mut [u8],
+    function: u32,
+    first: &[u8],
+    second: &mut [u8],
+    third: &mut [u8],
+) -> usize
+    requires { ⌜ Known function × (length (now first) ≤ 65536) × (length (now second) ≤ 65536) × (length (now third) ≤ 65536) × (180234 ≤ length (now line)) ⌝ }
     ensures { λ r. ⌜ Counts r (now (line .exit)) ⌝ }
-    ensures { λ r. ⌜ take r (now (line .exit)) ≡ callLine function (now (book .entry)) (now (schedule .entry)) (now (lent .entry)) ⌝ }
+    ensures { λ r. ⌜ take r (now (line .exit)) ≡ callLine function (now (first .entry)) (now (second .entry)) (now (third .entry)) ⌝ }
 {
     if function == Function::TRANSLATE_BYTES {
-        let answer = editor::translate(book, lent);
-        return lent_line(line, answer, lent);
+        let answer = editor::translate(first, second);
+        return lent_line(line, answer, second);
     }
     if function == Function::REHEARSE_BYTES {
-        let answer = editor::rehearse(book, schedule, lent);
-        return lent_line(line, answer, lent);
+        let answer = editor::rehearse(first, second, third);
+        return lent_line(line, answer, third);
     }
-    loaded_line(line, function, book, schedule, lent)
+    loaded_line(line, function, first, second, third)
 }
 
 // Reads bytes until those that are lent for them are full; whether they are.
@@ -170,53 +177,56 @@ fn read_slice(function: u32, bytes: &mut [u8]) -> Input
     Input::Bytes(size)
 }
 
-// The same for a slice that not every function has: where it has none, no bytes come.
-fn read_schedule(function: u32, bytes: &mut [u8]) -> Input
+// How many slices a function has: a reading one, a rehearsal three, a translation two.
+fn slices(function: u32) -> usize
+    ensures { λ r. ⌜ r ≡ slicesOf function ⌝ }
+{
+    if function < Function::TRANSLATE {
+        return 1;
+    }
+    if function == Function::REHEARSE {
+        return 3;
+    }
+    if Function::TRANSLATE_BYTES < function {
+        return 3;
+    }
+    2
+}
+
+// Reads slice k of a function, counted from 0; where it has none, no bytes come.
+fn read_nth(function: u32, k: usize, bytes: &mut [u8]) -> Input
     requires { ⌜ 65536 ≤ length (now bytes) ⌝ }
     ensures { λ r. ⌜ Within r 65536 ⌝ }
 {
-    if function == Function::REHEARSE {
-        return read_slice(function, bytes);
-    }
-    if function == Function::REHEARSE_BYTES {
+    if k < slices(function) {
         return read_slice(function, bytes);
     }
     Input::Bytes(0)
-}
-
-fn read_lent(function: u32, bytes: &mut [u8]) -> Input
-    requires { ⌜ 65536 ≤ length (now bytes) ⌝ }
-    ensures { λ r. ⌜ Within r 65536 ⌝ }
-{
-    if function < Function::TRANSLATE {
-        return Input::Bytes(0);
-    }
-    read_slice(function, bytes)
 }
 
 // Reads the slices of a call, and prints its line; whether all of them came.
 fn answer(function: u32) -> bool
     requires { ⌜ Known function ⌝ }
 {
-    let mut book = [0u8; Most::BYTES];
-    let Input::Bytes(b) = read_slice(function, &mut book) else {
+    let mut first = [0u8; Most::BYTES];
+    let Input::Bytes(l) = read_nth(function, 0, &mut first) else {
         return false;
     };
-    let mut schedule = [0u8; Most::BYTES];
-    let Input::Bytes(m) = read_schedule(function, &mut schedule) else {
+    let mut second = [0u8; Most::BYTES];
+    let Input::Bytes(m) = read_nth(function, 1, &mut second) else {
         return false;
     };
-    let mut lent = [0u8; Most::BYTES];
-    let Input::Bytes(n) = read_lent(function, &mut lent) else {
+    let mut third = [0u8; Most::BYTES];
+    let Input::Bytes(n) = read_nth(function, 2, &mut third) else {
         return false;
     };
     let mut line = [0u8; Most::LINE];
     let end = call_line(
         &mut line,
         function,
-        &book[..b],
-        &schedule[..m],
-        &mut lent[..n],
+        &first[..l],
+        &mut second[..m],
+        &mut third[..n],
     );
     line::print(&line[..end]);
     true

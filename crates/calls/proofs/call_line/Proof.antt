@@ -23,7 +23,7 @@ returns c =
     let start : tie.Start = search in
     let args = start .args in
     let (counts, line) = after-lent-line .lent-line .ensures in
-    let picks = calls-translate-bytes (args .function) (args .book .now) (args .schedule .now) (args .lent .now) in
+    let picks = calls-translate-bytes (args .function) (args .first .now) (args .second .now) (args .third .now) in
     (counts, line ∙ picks (omega arith) (after-translate .translate .ensures))
 
 lent-line-requires-2 : tie.Need-lent-line-requires-2
@@ -40,7 +40,7 @@ returns-2 c =
     let start : tie.Start = search in
     let args = start .args in
     let (counts, line) = after-lent-line .lent-line2 .ensures in
-    let picks = calls-rehearse-bytes (args .function) (args .book .now) (args .schedule .now) (args .lent .now) in
+    let picks = calls-rehearse-bytes (args .function) (args .first .now) (args .second .now) (args .third .now) in
     (counts, line ∙ picks (omega arith) (after-rehearse .rehearse .ensures))
 
 -- and of a function on words
@@ -52,7 +52,7 @@ returns-3 c =
     let start : tie.Start = search in
     let args = start .args in
     let (counts, line) = after-loaded-line .loaded-line .ensures in
-    let words = calls-words (args .function) (args .book .now) (args .schedule .now) (args .lent .now) in
+    let words = calls-words (args .function) (args .first .now) (args .second .now) (args .third .now) in
     (counts, line ∙ words (else1 .if1 .left) (else2 .if2 .left))
 
 pub call-line-spec : {M : Type 1} → statement M
@@ -68,8 +68,10 @@ call-line-spec =
     lent-line-requires-2
     (λ c. search needs)  -- same-length-3
     (λ c. search needs)  -- same-length-4
+    (λ c. search needs)  -- same-length-5
     returns-2
     (λ c κs. search needs)  -- loaded-line-requires
-    (λ c. search needs)  -- same-length-5
     (λ c. search needs)  -- same-length-6
+    (λ c. search needs)  -- same-length-7
+    (λ c. search needs)  -- same-length-8
     returns-3)

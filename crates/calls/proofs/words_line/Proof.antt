@@ -16,7 +16,7 @@ returns c =
     let start : tie.Start = search in
     let args = start .args in
     let (counts, line) = after-reading-line .reading-line .ensures in
-    let picks = calls-read (args .function) (args .book .now) (args .schedule .now) (args .lent .now) in
+    let picks = calls-read (args .function) (args .first .now) (args .second .now) (args .third .now) in
     (counts, line ∙ picks (omega arith) (after-read .read .ensures))
 
 -- of acceptance
@@ -27,7 +27,7 @@ returns-2 c =
     let start : tie.Start = search in
     let args = start .args in
     let (counts, line) = after-reading-line .reading-line2 .ensures in
-    let picks = calls-accept (args .function) (args .book .now) (args .schedule .now) (args .lent .now) in
+    let picks = calls-accept (args .function) (args .first .now) (args .second .now) (args .third .now) in
     (counts, line ∙ picks (omega arith) (after-accept .accept .ensures))
 
 -- what was written had room
@@ -45,7 +45,7 @@ returns-3 c =
     let start : tie.Start = search in
     let args = start .args in
     let (counts, line) = after-answer-line .answer-line .ensures in
-    let picks = calls-translate (args .function) (args .book .now) (args .schedule .now) (args .lent .now) in
+    let picks = calls-translate (args .function) (args .first .now) (args .second .now) (args .third .now) in
     (counts, line ∙ picks (omega arith) (after-translate .translate .ensures))
 
 answer-line-requires-2 : tie.Need-answer-line-requires-2
@@ -62,7 +62,7 @@ returns-4 c =
     let start : tie.Start = search in
     let args = start .args in
     let (counts, line) = after-answer-line .answer-line2 .ensures in
-    let picks = calls-rehearse (args .function) (args .book .now) (args .schedule .now) (args .lent .now) in
+    let picks = calls-rehearse (args .function) (args .first .now) (args .second .now) (args .third .now) in
     (counts, line ∙ picks (omega arith) (after-rehearse .rehearse .ensures))
 
 pub words-line-spec : {M : Type 1} → statement M
@@ -86,4 +86,5 @@ words-line-spec =
     answer-line-requires-2
     (λ c. search needs)  -- same-length-5
     (λ c. search needs)  -- same-length-6
+    (λ c. search needs)  -- same-length-7
     returns-4)

@@ -1,4 +1,4 @@
--- Laws of a call: a slice's size; the function that has the number is the one picked, it is called with its slices, and what it writes has room. Assumes nothing.
+-- Laws of a call: its slices and their sizes; the function that has the number is picked, and called with them; what it writes has room. Assumes nothing.
 use Prim.Native.Nat.{ℕ, _*_, _/_, _≤_, _<_}
 use mathlib.Core.Bool.{Bool, true, false}
 use mathlib.Core.List.{List}
@@ -20,7 +20,26 @@ use Rattle.editor.specs.Bytes.{uneven, odd, translationBytes, rehearsalBytes, A
 use Rattle.editor.specs.Bytes.Laws.{translation-words, rehearsal-words, of-odd, of-odd-book, of-odd-schedule}
 use Rattle.line.specs.Line.{readingLine, lineOf, Inside}
 use Rattle.line.specs.Line.Laws.{inside-outcome, inside-rehearsal}
-use Rattle.calls.specs.Call.{sliceSize, wordsLine, inWords, callLine}
+use Rattle.calls.specs.Call.{slicesOf, sliceSize, wordsLine, inWords, callLine}
+
+-- how many slices: of a reading, of a rehearsal on words and on bytes, of a translation
+module _ (f : ℕ) where
+  pub slices-read : f < 3 → 1 ≡ slicesOf f
+  unfolding slicesOf
+  slices-read h = sym (pick-true _ _ _ (lt-ltb f 3 h))
+
+  pub slices-rehearse : f ≡ 4 → 3 ≡ slicesOf f
+  unfolding slicesOf
+  slices-rehearse e = sym (pick-false _ _ _ (le-ltb f 3 (omega arith)) ∙ pick-true _ _ _ (eq-eqb f 4 e))
+
+  pub slices-rehearse-bytes : 5 < f → 3 ≡ slicesOf f
+  unfolding slicesOf
+  slices-rehearse-bytes h =
+      sym (pick-false _ _ _ (le-ltb f 3 (omega arith)) ∙ pick-false _ _ _ (ne-eqb f 4 (λ z. omega arith)) ∙ pick-true _ _ _ (lt-ltb 5 f h))
+
+  pub slices-translate : 3 ≤ f → (f ≡ 4 → ⊥) → f ≤ 5 → 2 ≡ slicesOf f
+  unfolding slicesOf
+  slices-translate h n m = sym (pick-false _ _ _ (le-ltb f 3 h) ∙ pick-false _ _ _ (ne-eqb f 4 n) ∙ pick-false _ _ _ (le-ltb 5 f m))
 
 -- the size of a slice of words, and of bytes
 pub size-words : (f : ℕ) {n m : ℕ} → f < 5 → m ≡ n → 4 * m ≡ sliceSize f n
@@ -32,22 +51,22 @@ unfolding sliceSize
 size-bytes f h e = e ∙ sym (pick-false _ _ _ (le-ltb f 5 h))
 
 -- the line of what the reader said, of what was said of acceptance, and of what came of a translation and of a rehearsal
-module _ (f : ℕ) (b ms out : List ℕ) where
-  pub calls-read : {s : Said} → f ≡ 1 → s ≡ verdict b → readingLine s ≡ wordsLine f b ms out
+module _ (f : ℕ) (a b c : List ℕ) where
+  pub calls-read : {s : Said} → f ≡ 1 → s ≡ verdict a → readingLine s ≡ wordsLine f a b c
   unfolding wordsLine
   calls-read e q = ap readingLine q ∙ sym (pick-true _ _ _ (eq-eqb f 1 e))
 
-  pub calls-accept : {s : Said} → f ≡ 2 → s ≡ acceptance b → readingLine s ≡ wordsLine f b ms out
+  pub calls-accept : {s : Said} → f ≡ 2 → s ≡ acceptance a → readingLine s ≡ wordsLine f a b c
   unfolding wordsLine
   calls-accept e q = ap readingLine q ∙ sym (pick-false _ _ _ (ne-eqb f 1 (λ z. omega arith)) ∙ pick-true _ _ _ (eq-eqb f 2 e))
 
-  pub calls-translate : {o : Outcome} → f ≡ 3 → o ≡ outcome b out → lineOf o ≡ wordsLine f b ms out
+  pub calls-translate : {o : Outcome} → f ≡ 3 → o ≡ outcome a b → lineOf o ≡ wordsLine f a b c
   unfolding wordsLine
   calls-translate e q =
       ap lineOf q
       ∙ sym (pick-false _ _ _ (ne-eqb f 1 (λ z. omega arith)) ∙ pick-false _ _ _ (ne-eqb f 2 (λ z. omega arith)) ∙ pick-true _ _ _ (eq-eqb f 3 e))
 
-  pub calls-rehearse : {o : Outcome} → f ≡ 4 → o ≡ rehearsal b ms out → lineOf o ≡ wordsLine f b ms out
+  pub calls-rehearse : {o : Outcome} → f ≡ 4 → o ≡ rehearsal a b c → lineOf o ≡ wordsLine f a b c
   unfolding wordsLine
   calls-rehearse e q =
       ap lineOf q
@@ -59,24 +78,24 @@ pub all-loaded : (bs : List ℕ) → length bs ≤ 65536 → take 16384 (wordsIn
 all-loaded bs few = let l = words-length bs in take-all 16384 (wordsIn bs) (omega arith)
 
 -- what is called are the words that were loaded of each slice
-pub words-loaded : (f : ℕ) {b ms out : List ℕ} (book schedule lent : List ℕ) → length book ≤ 65536 → length schedule ≤ 65536
-    → length lent ≤ 65536 → b ≡ take 16384 (wordsIn book) → ms ≡ take 16384 (wordsIn schedule) → out ≡ take 16384 (wordsIn lent)
-    → wordsLine f b ms out ≡ wordsLine f (wordsIn book) (wordsIn schedule) (wordsIn lent)
-words-loaded f {ms = ms} {out = out} book schedule lent few few2 few3 b e o =
-    ap (λ (ws : List ℕ). wordsLine f ws ms out) (b ∙ all-loaded book few)
-    ∙ ap₂ (wordsLine f (wordsIn book)) (e ∙ all-loaded schedule few2) (o ∙ all-loaded lent few3)
+pub words-loaded : (f : ℕ) {a b c : List ℕ} (xs bs cs : List ℕ) → length xs ≤ 65536 → length bs ≤ 65536 → length cs ≤ 65536
+    → a ≡ take 16384 (wordsIn xs) → b ≡ take 16384 (wordsIn bs) → c ≡ take 16384 (wordsIn cs)
+    → wordsLine f a b c ≡ wordsLine f (wordsIn xs) (wordsIn bs) (wordsIn cs)
+words-loaded f {b = b} {c = c} xs bs cs few few2 few3 e e2 e3 =
+    ap (λ (ws : List ℕ). wordsLine f ws b c) (e ∙ all-loaded xs few)
+    ∙ ap₂ (wordsLine f (wordsIn xs)) (e2 ∙ all-loaded bs few2) (e3 ∙ all-loaded cs few3)
 
 -- the functions on bytes
-module _ (f : ℕ) (book schedule lent : List ℕ) where
-  pub calls-words : (f ≡ 5 → ⊥) → (f ≡ 6 → ⊥) → wordsLine f (wordsIn book) (wordsIn schedule) (wordsIn lent) ≡ callLine f book schedule lent
+module _ (f : ℕ) (a b c : List ℕ) where
+  pub calls-words : (f ≡ 5 → ⊥) → (f ≡ 6 → ⊥) → wordsLine f (wordsIn a) (wordsIn b) (wordsIn c) ≡ callLine f a b c
   unfolding callLine
   calls-words n m = sym (pick-false _ _ _ (ne-eqb f 5 n) ∙ pick-false _ _ _ (ne-eqb f 6 m))
 
-  pub calls-translate-bytes : {o : Outcome} → f ≡ 5 → o ≡ translationBytes book lent → lineOf (inWords o) ≡ callLine f book schedule lent
+  pub calls-translate-bytes : {o : Outcome} → f ≡ 5 → o ≡ translationBytes a b → lineOf (inWords o) ≡ callLine f a b c
   unfolding callLine
   calls-translate-bytes e q = ap (λ (o : Outcome). lineOf (inWords o)) q ∙ sym (pick-true _ _ _ (eq-eqb f 5 e))
 
-  pub calls-rehearse-bytes : {o : Outcome} → f ≡ 6 → o ≡ rehearsalBytes book schedule lent → lineOf (inWords o) ≡ callLine f book schedule lent
+  pub calls-rehearse-bytes : {o : Outcome} → f ≡ 6 → o ≡ rehearsalBytes a b c → lineOf (inWords o) ≡ callLine f a b c
   unfolding callLine
   calls-rehearse-bytes e q =
       ap (λ (o : Outcome). lineOf (inWords o)) q

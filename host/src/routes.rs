@@ -64,7 +64,8 @@ pub fn run(library: &Path, seed: u64, count: usize, folders: &[PathBuf], out: &m
         let advice = "`host/library shared shelf editor` makes a library with all four";
         return Err(files::told(library, format!("{missing}; {advice}")));
     }
-    over(&proved, &Trials::new(folders, seed, count)?, &std::env::temp_dir(), out)
+    let trials = Trials::new(folders, seed, count)?.with_long();
+    over(&proved, &trials, &std::env::temp_dir(), out)
 }
 
 /// Compares over trials, and tells each difference and at last what was met. What differs is kept in a folder.

@@ -118,7 +118,7 @@ fn right_and_wrong_ones() {
     let random = Trials::new(&[], 3, 400).expect("random ones");
     let (same, text) = told(Fake::Right, &random, &keep);
     assert!(same, "{text}");
-    assert!(text.starts_with("seed 3, 400 random books and schedules, 0 from files\n"));
+    assert!(text.starts_with("seed 3, 400 random books and schedules, 0 fixed ones\n"));
     assert!(text.ends_with(" calls on each route, 0 differences\n"), "{text}");
     for number in (1..=10).chain([12]) {
         assert!(text.contains(&format!("refused {number}: ")), "{text}");
@@ -177,7 +177,7 @@ fn books_in_files() {
     let trials = Trials::new(&[books.at().to_path_buf()], 1, 0).expect("the books");
     let (same, text) = told(Fake::Right, &trials, &keep);
     assert!(
-        same && text.starts_with("seed 1, 0 random books and schedules, 51 from files\n"),
+        same && text.starts_with("seed 1, 0 random books and schedules, 51 fixed ones\n"),
         "{text}"
     );
     // Only the longest of books shows that one word more has to be read.

@@ -1,6 +1,6 @@
 //! What the routes are tried on: a book and a schedule of any bytes, and how many bytes are lent for the output.
 
-use crate::book::LONGEST;
+use crate::book::{Book, Party, Row, Step, ATOM, LONGEST, OPERATION};
 use crate::files;
 use crate::random::{self, Random};
 use crate::rehearse::MOST_MOVES;
@@ -176,6 +176,12 @@ impl Trials {
         Ok(Trials { fixed, seed, count })
     }
 
+    /// And one whose listing is longer than any that the others have.
+    pub fn with_long(mut self) -> Trials {
+        self.fixed.push(long());
+        self
+    }
+
     /// How many there are.
     pub fn all(&self) -> usize {
         self.fixed.len() + self.count
@@ -190,7 +196,7 @@ impl Trials {
 
     pub fn told(&self) -> String {
         let (seed, count, fixed) = (self.seed, self.count, self.fixed.len());
-        format!("seed {seed}, {count} random books and schedules, {fixed} from files")
+        format!("seed {seed}, {count} random books and schedules, {fixed} fixed ones")
     }
 }
 
@@ -222,4 +228,28 @@ fn of_book(file: &Path) -> Result<Vec<Trial>, String> {
     longer(4, 0);
     longer(4 * LONGEST, 0);
     Ok(trials)
+}
+
+/// Two parties that know an atom send each other a term of 933 words made of it, eight times a step, and compare it in
+/// full: a listing of nearly a million words, more than any buffer between.
+fn long() -> Trial {
+    let row = |kind, parts| Row { kind, tag: 0, parts };
+    let mut rows: Vec<Row> = (0..3).map(|_| row(ATOM, vec![])).collect();
+    for count in [8, 8, 6] {
+        rows.push(row(OPERATION, vec![rows.len() as u32 - 1; count]));
+    }
+    let party = |name| Party {
+        name,
+        known: vec![0, 1, 2],
+    };
+    let step = |number: u32| Step {
+        sender: number % 2,
+        receiver: 1 - number % 2,
+        messages: vec![rows.len() as u32 - 1; 8],
+    };
+    let steps = (0..64).map(step).collect();
+    let parties = vec![party(0), party(1)];
+    let book = Book { rows, parties, steps };
+    let name = "a long listing".to_string();
+    Trial::new(name, words::to_bytes(&book.words()), vec![])
 }

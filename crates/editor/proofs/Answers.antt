@@ -94,8 +94,11 @@ module _ (b ms lent new : List ℕ) (answer : Answer) (out : List ℕ) (size : l
         let d = done-length b ms in
         let e = done-many .0 in
         let l = done-many .1 in
-        let lays : new ≡ sets lent 0 (eventsDone b ms) = ap (λ (o : Outcome). o .lent) r ∙ laid-lays (rehearsalSays b ms lent) lent (eventsDone b ms) number in
-        ap₂ take (e ∙ sym d) (lays ∙ sets-eq (eventsDone b ms) lent 0 (omega arith)) ∙ take-append-seam (eventsDone b ms) (drop (0 + length (eventsDone b ms)) lent)
+        let done = eventsDone b ms in
+        let lays : new ≡ sets lent 0 done = ap (λ (o : Outcome). o .lent) r ∙ laid-lays (rehearsalSays b ms lent) lent done number in
+        let front = sets-eq done lent 0 (omega arith) in
+        ap₂ take (e ∙ sym d) (lays ∙ front) ∙ take-append-seam done (drop (0 + length done) lent)
 
-    pub written-rehearsed : {after : List ℕ} {j : ℕ} → Wrote (bytesOfAll (eventsDone b ms)) out 0 after j → came (Written n) after ≡ rehearsed b ms out
+    pub written-rehearsed : {after : List ℕ} {j : ℕ} → Wrote (bytesOfAll (eventsDone b ms)) out 0 after j
+        → came (Written n) after ≡ rehearsed b ms out
     written-rehearsed {after} w = came-written _ out (bytesOfAll (eventsDone b ms)) after n (sym (sym (ap answerSays k) ∙ played)) (w .list)

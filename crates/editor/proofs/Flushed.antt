@@ -1,7 +1,7 @@
 -- A party's events written step by step as bytes: `Flushed` says how far it got, and its laws are the loop's. Assumes nothing.
 use Prim.Native.Nat.{ℕ, _+_, _≤_, _<_}
 use native.Mathlib.Omega.{arith}
-use mathlib.Core.List.{List, [], _++_, map}
+use mathlib.Core.List.{List, [], map}
 use mathlib.Core.Path.{_≡_, refl, sym, ap, _∙_}
 use lib.ListN.{length, take}
 use Rattle.words.specs.Overlay.{forward, Wrote}
@@ -29,15 +29,15 @@ use Rattle.walking.specs.Walk.{IdleUntil}
 use Rattle.walking.specs.Walk.Laws.{before-skip}
 use Rattle.walking.specs.Walking.{actDid, ActReady, Acting, Along}
 use Rattle.walking.specs.Walking.Laws.{along-more, along-fits, along-on}
-use Rattle.editor.specs.Events.{EventsReady, WroteEvents}
+use Rattle.editor.specs.Events.{WroteEvents}
 
 -- words that are only counted
 counted : (ws : List ℕ) (a : ℕ) → Wrote ws [] a [] (forward a (length ws))
 counted ws a = record { list = sym (sets-far ws [] a (omega arith)); next = refl; room = λ z. omega arith }
 
 -- a doing whose words went to a buffer, as one whose words are counted from another place on
-doing-counted : {b : List ℕ} {d : Did} {n k : ℕ} {l m : List ℕ} {a : ℕ} {o s x : List ℕ} {i j q : ℕ} → Doing b d n k l m a o s x i j q → (c : ℕ)
-    → Doing b d n k l m c [] [] x i j (forward c (length (programWords (rowOf b) (d .events))))
+doing-counted : {b : List ℕ} {d : Did} {n k : ℕ} {l m : List ℕ} {a : ℕ} {o s x : List ℕ} {i j q : ℕ}
+    → Doing b d n k l m a o s x i j q → (c : ℕ) → Doing b d n k l m c [] [] x i j (forward c (length (programWords (rowOf b) (d .events))))
 doing-counted f c = record { holds = f .holds; goes = f .goes; wrote = counted _ c; keeps = f .keeps }
 
 -- standing at a place with the dictionary d
@@ -55,8 +55,8 @@ pub record Flushed (b : List ℕ) (p i : ℕ) (log₀ log out₀ : List ℕ) (a 
   pub size : length step ≡ stepWords
 
 -- steps in which the party has no part add nothing
-module _ {b : List ℕ} {p i j : ℕ} (valid : Valid b) (idle : IdleUntil b p i j) {log₀ log out₀ : List ℕ} {a : ℕ} {out : List ℕ} {next : ℕ} {d : Dictionary}
-    {step : List ℕ} where
+module _ {b : List ℕ} {p i j : ℕ} (valid : Valid b) (idle : IdleUntil b p i j) {log₀ log out₀ : List ℕ} {a : ℕ} {out : List ℕ} {next : ℕ}
+    {d : Dictionary} {step : List ℕ} where
   skip : {c : ℕ} → Along b p i 0 log₀ log 0 [] [] (standing d c) → Wrote (bytesOfAll (programWords (rowOf b) (before b p i .events))) out₀ a out next
       → length step ≡ stepWords → Flushed b p j log₀ log out₀ a out next d step
   skip {c} g w l =
@@ -115,7 +115,8 @@ module _ {b : List ℕ} {p i : ℕ} (h : i < steps b) {log₀ log out₀ : List 
     flushed-on {j} {outAfter} {after} put idle =
         let events = programWords (rowOf b) (before b p i .events) in
         let both = bytes-then events (programWords (rowOf b) (did .events)) (g .wrote) (wrote-as put (ap bytesOfAll (sym front))) in
-        let more = ap (λ (f : Did). programWords (rowOf b) (f .events)) (along-more b p i (g .along)) ∙ program-append (rowOf b) (before b p i .events) (did .events) in
+        let joined = program-append (rowOf b) (before b p i .events) (did .events) in
+        let more = ap (λ (f : Did). programWords (rowOf b) (f .events)) (along-more b p i (g .along)) ∙ joined in
         skip (g .valid) idle (along-on b p i (g .along) (doing-counted (w .doing) (g .count))) (wrote-as both (ap bytesOfAll more)) flushed-size
 
 -- ---- all steps

@@ -1,7 +1,7 @@
 -- The bytes of a program, of the programs and of a listing, from those of their parts. Assumes nothing.
 use Prim.Native.Nat.{ℕ, _+_, _*_, _/_, _≤_, _<_}
 use mathlib.Core.List.{List, [], _∷_, _++_}
-use mathlib.Core.Path.{_≡_, refl, sym, ap, ap₂, _∙_}
+use mathlib.Core.Path.{_≡_, sym, ap, _∙_}
 use native.Mathlib.Omega.{arith}
 use lib.ListN.{length, take}
 use Rattle.words.specs.Overlay.{Wrote}
@@ -10,7 +10,6 @@ use Rattle.words.specs.Run.{values}
 use Rattle.octets.specs.Octets.{bytesOfAll}
 use Rattle.octets.specs.Octets.Laws.{bytes-none, bytes-then}
 use Rattle.book.specs.Layout.{parties, steps}
-use Rattle.book.specs.Valid.{Valid}
 use Rattle.book.specs.Headed.Laws.{valid-headed}
 use Rattle.translation.specs.Listing.{programWords, pairWords, bodies, partWords, listing}
 use Rattle.translation.specs.Steps.{before}

@@ -1,8 +1,6 @@
 -- What writing a party's program as bytes asks for, and what its events leave behind.
-use Prim.Native.Nat.{ℕ, _*_, _<_}
+use Prim.Native.Nat.{ℕ, _<_}
 use mathlib.Core.List.{List}
-use mathlib.Core.Path.{_≡_}
-use lib.ListN.{length}
 use Rattle.words.specs.Overlay.{Wrote}
 use Rattle.octets.specs.Octets.{bytesOfAll}
 use Rattle.book.specs.Layout.{parties, steps}

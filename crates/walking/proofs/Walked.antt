@@ -11,7 +11,6 @@ use Rattle.book.specs.Layout.{table, steps, known}
 use Rattle.translation.specs.Dictionary.{start}
 use Rattle.translation.specs.Narration.{narration}
 use Rattle.translation.specs.Taken.{firstTaken}
-use Rattle.translation.specs.Steps.{before}
 use Rattle.translation.specs.Steps.Laws.{before-none}
 use Rattle.holding.specs.View.{view}
 use Rattle.holding.specs.Doing.Laws.{doing-none, doing-as}

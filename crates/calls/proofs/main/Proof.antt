@@ -1,7 +1,6 @@
 -- `calls::main` meets its contract: a turn that goes on leaves fewer requests; the function that is called is there.
 -- Assumes nothing.
 use Prim.Native.Nat.{_-_, _≤_}
-use native.Mathlib.Omega.{arith}
 use borrow.Author.Needs.{needs}
 use Rattle.calls.proofs.main.Statement.{statement}
 use Rattle.calls.proofs.main.Tie as tie

@@ -4,7 +4,7 @@ use mathlib.Core.Path.{_≡_, refl, sym, ap, _∙_}
 use native.Mathlib.Omega.{arith}
 use borrow.Author.Needs.{needs}
 use Rattle.book.specs.Said.{toldSays}
-use Rattle.editor.specs.Packed.{pack, Small}
+use Rattle.editor.specs.Packed.{pack}
 use Rattle.editor.proofs.Answers.{one-bounds, two-bounds}
 use Rattle.editor.proofs.pack_told.Statement.{statement}
 use Rattle.editor.proofs.pack_told.Tie as tie
@@ -16,7 +16,8 @@ module _ (c : tie.After-told) where
 
 -- and of two
 module _ (c : tie.After-told2) where
-  two : (c .told2 .given .0 .0 ≡ 10) × (c .told2 .given .0 .1 .0 < 4294967296) × (c .told2 .given .0 .1 .1 .0 < 16777216)
+  two : (c .told2 .given .0 .0 ≡ 10) × (c .told2 .given .0 .1 .0 < 4294967296)
+      × (c .told2 .given .0 .1 .1 .0 < 16777216)
   two = let start : tie.Start = search in two-bounds (rw (c .told2 .given .1) at (start .pre))
 
 returns : tie.Need-returns

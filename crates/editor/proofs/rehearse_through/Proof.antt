@@ -1,5 +1,5 @@
--- `editor::rehearse_through` meets its contract: the words of the rehearsal, where it is accepted, are written as bytes.
--- Assumes nothing.
+-- `editor::rehearse_through` meets its contract: the words of the rehearsal, where it is accepted, are written as
+-- bytes. Assumes nothing.
 use mathlib.Core.Path.{sym, ap}
 use native.Mathlib.Omega.{arith}
 use borrow.Author.Needs.{needs}

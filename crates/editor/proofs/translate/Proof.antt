@@ -1,7 +1,7 @@
 -- `editor::translate` meets its contract: bytes that make whole words are loaded, and so many of them are enough
 -- (`long-book`). Assumes nothing.
 use Prim.Native.Nat.{_≤_}
-use mathlib.Core.Path.{_≡_, refl, sym, ap, _∙_}
+use mathlib.Core.Path.{refl, sym, ap, _∙_}
 use mathlib.Core.List.{List}
 use Prim.Native.Nat.{ℕ}
 use native.Mathlib.Omega.{arith}
@@ -37,7 +37,8 @@ returns-2 c =
     let out = start .args .out .now in
     after-translate-words .translate-words .ensures
     ∙ ap (λ (b : List ℕ). translated b out) (loaded-front bytes refl (after-load .load .ensures) (omega arith))
-    ∙ long-book (wordsIn bytes) (wordsIn bytes) out ∙ sym (of-whole bytes out (sym (tested .is-uneven .ensures) ∙ else1 .if1 .left))
+    ∙ long-book (wordsIn bytes) (wordsIn bytes) out
+    ∙ sym (of-whole bytes out (sym (tested .is-uneven .ensures) ∙ else1 .if1 .left))
 
 pub translate-spec : {M : Type 1} → statement M
 translate-spec =

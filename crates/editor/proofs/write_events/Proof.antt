@@ -28,7 +28,8 @@ loop-holds c =
     let after-new : in-events tie.After-new = search in
     let after-start : in-events tie.After-start = search in
     let start : in-events tie.Start = search in
-    flushed-start (start .pre .valid) (after-start .start .ensures) (after-new .new .ensures) (c .next-own .ensures) refl
+    flushed-start (start .pre .valid) (after-start .start .ensures) (after-new .new .ensures) (c .next-own .ensures)
+    refl
 
 -- the loop runs while there are steps
 module _ (c : in-events tie.In-loop) where

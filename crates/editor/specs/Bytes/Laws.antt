@@ -1,14 +1,14 @@
 -- Laws of the outcome on bytes: it is the outcome on words, with the spare bytes as they were; and what is longer than a book or a
 -- schedule may be changes nothing by its length. Assumes nothing.
-use Prim.Native.Nat.{ℕ, zero, suc, _+_, _*_, _/_, _%_, _≤_, _<_, min}
+use Prim.Native.Nat.{ℕ, zero, suc, _+_, _*_, _/_, _≤_, _<_, min}
 use mathlib.Core.Bool.{Bool, true, false}
-use mathlib.Core.List.{List, [], _∷_, _++_}
+use mathlib.Core.List.{List, [], _∷_}
 use mathlib.Core.Path.{_≡_, refl, sym, ap, ap₂, _∙_}
 use native.Mathlib.Omega.{arith}
-use native.Mathlib.Decide.{ℕ-discrete, decLt, decLe}
+use native.Mathlib.Decide.{ℕ-discrete, decLt}
 use lib.ListN.{length, getD, take}
-use lib.Dec.{eqb, ltb}
-use lib.Seq.{sets, length-sets, length-take-le, take-all, getD-take}
+use lib.Dec.{ltb}
+use lib.Seq.{length-sets, length-take-le, take-all, getD-take}
 use borrow.Author.Count.{below-more}
 use borrow.Author.Tests.{lt-ltb, le-ltb}
 use Rattle.words.specs.Choice.{pick}
@@ -18,11 +18,11 @@ use Rattle.words.specs.First.{first}
 use Rattle.words.specs.First.Laws.{first-same, first-le, first-at, first-end, first-holds, first-fails}
 use Rattle.octets.specs.Octets.{wordsIn, spare, bytesOfAll}
 use Rattle.octets.specs.Octets.Laws.{words-length, words-laid, spare-laid}
-use Rattle.book.specs.Layout.{header, counted, begins, offset, rows, parties, steps, pool}
+use Rattle.book.specs.Layout.{header, offset, parties}
 use Rattle.book.specs.Rules.{countBreaks, OffsetRule, stated, offsetBreaks}
-use Rattle.book.specs.Rules.Laws.{count-exact, offset-exact, differs-true}
+use Rattle.book.specs.Rules.Laws.{count-exact, offset-exact}
 use Rattle.book.specs.Said.{Said, said, accepted}
-use Rattle.book.specs.Refusals.{Line, line, here, firstOf, readingTable, verdict}
+use Rattle.book.specs.Refusals.{readingTable, verdict}
 use Rattle.book.specs.Refusals.Laws.{scan-here, scan-on}
 use Rattle.translation.specs.Listing.{listing}
 use Rattle.book.specs.Headed.Laws.{rules-headed, valid-headed}
@@ -62,14 +62,15 @@ module _ (b : List ℕ) (long : 12601 < length b) where
   same-breaks i h = rw (lt-ltb i 4 h, same-at (2 * i + 1) (omega arith), same-offset i (omega arith))
 
 -- where counts and offsets are what they have to be, the length breaks the rule
-length-breaks : (b : List ℕ) → 12600 < length b → ((i : ℕ) → i < 4 → countBreaks b i ≡ false) → ((i : ℕ) → i < 4 → offsetBreaks b i ≡ false)
-    → offsetBreaks b 4 ≡ true
+length-breaks : (b : List ℕ) → 12600 < length b → ((i : ℕ) → i < 4 → countBreaks b i ≡ false)
+    → ((i : ℕ) → i < 4 → offsetBreaks b i ≡ false) → offsetBreaks b 4 ≡ true
 length-breaks b h counts offsets = go (offsetBreaks b 4) refl
   where
     go : (v : Bool) → offsetBreaks b 4 ≡ v → offsetBreaks b 4 ≡ true
     go true e = e
     go false e =
-        let each : (i : ℕ) → i < 5 → OffsetRule b i = below-more (λ i. OffsetRule b i) 4 (λ i l. offset-exact b i .0 (offsets i l)) (offset-exact b 4 .0 e) in
+        let each : (i : ℕ) → i < 5 → OffsetRule b i =
+        below-more (λ i. OffsetRule b i) 4 (λ i l. offset-exact b i .0 (offsets i l)) (offset-exact b 4 .0 e) in
         let headed = rules-headed b (λ i l. count-exact b i .0 (counts i l)) each in
         let long = headed .long in
         let r = headed .fewRows in
@@ -79,7 +80,8 @@ length-breaks b h counts offsets = go (offsetBreaks b 4) refl
         absurd (omega arith)
 
 -- the place of refusal 3 among the first four offsets, or 4
-place-at : (b : List ℕ) (r : ℕ) → r ≤ 4 → ((k : ℕ) → k < r → offsetBreaks b k ≡ false) → offsetBreaks b r ≡ true → r ≡ first (offsetBreaks b) 5
+place-at : (b : List ℕ) (r : ℕ) → r ≤ 4 → ((k : ℕ) → k < r → offsetBreaks b k ≡ false) → offsetBreaks b r ≡ true
+    → r ≡ first (offsetBreaks b) 5
 place-at b r h below holds = first-at (offsetBreaks b) 5 r (omega arith) below holds
 
 -- the place that both name
@@ -207,7 +209,8 @@ module _ (b ms out : List ℕ) where
     | yes h ↦ elim (ℕ-discrete (acceptance b .number) 0) [
       | no n ↦
           let first : (l : List ℕ) → rehearsalSays b l (wordsIn out) ≡ acceptance b = λ l. rehearsal-acceptance-first b l (wordsIn out) n in
-          refused-same _ _ out (bytesOfAll (eventsDone b (take 4097 ms))) (bytesOfAll (eventsDone b ms)) (first (take 4097 ms) ∙ sym (first ms)) (λ z. n (ap (λ (s : Said). s .number) (sym (first ms)) ∙ z))
+          refused-same _ _ out (bytesOfAll (eventsDone b (take 4097 ms))) (bytesOfAll (eventsDone b ms)) (first (take 4097 ms) ∙ sym (first ms))
+          (λ z. n (ap (λ (s : Said). s .number) (sym (first ms)) ∙ z))
       | yes z ↦
           let plays = plays-from b z in
           let n = length-take-le 4097 ms (omega arith) in

@@ -1,6 +1,5 @@
 -- `translator::prepare` meets its contract: the reader's refusal is given first, and an accepted book is valid. Assumes
 -- nothing.
-use native.Mathlib.Omega.{arith}
 use borrow.Author.Needs.{needs}
 use Rattle.book.specs.Said.Laws.{refusal-number}
 use Rattle.translator.proofs.Came.{refused-says, accepted-book}
@@ -14,8 +13,9 @@ returns c =
     let after-read : tie.After-read = search in
     let start : tie.Start = search in
     let why = after-why .why .given .0 .0 in
+    let says = refused-says (start .args .book .now) _ why (after-read .read .ensures) (after-why .why .given .1) in
     record {
-      says = λ out e. refused-says (start .args .book .now) _ why (after-read .read .ensures) (after-why .why .given .1) out;
+      says = λ out e. says out;
       writable = λ z. absurd (refusal-number why z);
       heads = λ z. absurd (refusal-number why z);
     }

@@ -27,6 +27,7 @@ use Rattle.receiving.specs.declared.Received.{Received}
 use Rattle.walking.specs.declared.Acted.{Acted}
 use Rattle.walking.specs.Walk.{IdleUntil}
 use Rattle.walking.specs.Walk.Laws.{before-skip}
+use Rattle.holding.specs.Partners.{Partners}
 use Rattle.walking.specs.Walking.{actDid, ActReady, Acting, Along}
 use Rattle.walking.specs.Walking.Laws.{along-more, along-fits, along-on}
 use Rattle.editor.specs.Events.{WroteEvents}
@@ -83,8 +84,8 @@ flushed-start {b} {p} {e = e} v h w idle l =
 module _ {b : List ℕ} {p i : ℕ} (h : i < steps b) {log₀ log out₀ : List ℕ} {a : ℕ} {out : List ℕ} {next : ℕ} {d : Dictionary}
     {step : List ℕ} (g : Flushed b p i log₀ log out₀ a out next d step) where
   -- ---- a step more can be done
-  pub flushed-ready : ActReady b p i (standing d 0)
-  flushed-ready = record { valid = g .valid; step = h; fits = along-fits b p i (g .along) (g .valid) h }
+  pub flushed-ready : {ps : List ℕ} → Partners b ps → ActReady b ps p i (standing d 0)
+  flushed-ready partners = record { valid = g .valid; partners = partners; step = h; fits = along-fits b p i (g .along) (g .valid) h }
 
   module _ {l logAfter stepAfter : List ℕ} {r : Acted} (w : Acting b l p i (standing d 0) log logAfter step stepAfter r) where
     -- the step's words stand in front of the buffer

@@ -21,7 +21,7 @@ use Rattle.translator.specs.Parts.Laws.{bodies-more, listing-parts}
 use Rattle.editor.specs.Events.{EventsReady, WroteEvents}
 
 -- ---- a program
-module _ {b : List ℕ} {p : ℕ} (ready : EventsReady b p) {log logAfter out middle : List ℕ} {a next kept : ℕ} where
+module _ {b ps : List ℕ} {p : ℕ} (ready : EventsReady b ps p) {log logAfter out middle : List ℕ} {a next kept : ℕ} where
   -- two words for each stored term, and no more of these than rows
   pairs : WroteEvents b p log logAfter out a middle next kept → (kept ≡ 2 * length (before b p (steps b) .stored)) × (kept ≤ 2048)
   pairs w =

@@ -8,10 +8,12 @@ use Rattle.book.specs.Valid.{Valid}
 use Rattle.translation.specs.Listing.{programWords, pairWords}
 use Rattle.translation.specs.Steps.{before}
 use Rattle.holding.specs.View.{rowOf}
+use Rattle.holding.specs.Partners.{Partners}
 
--- a party of a valid book. That it makes no taken atom is not asked: its events are what they are in any case
-pub record EventsReady (b : List ℕ) (p : ℕ) : Type 0 where
+-- a party of a valid book, and the table of its partners. That it makes no taken atom is not asked: its events are what they are in any case
+pub record EventsReady (b ps : List ℕ) (p : ℕ) : Type 0 where
   pub valid : Valid b
+  pub partners : Partners b ps
   pub party : p < parties b
 
 -- the bytes of the events of all steps were written, and the stored pairs were kept

@@ -62,12 +62,13 @@ struct Events {
 fn write_events(
     book: &[u32],
     since: &ByRow,
+    partners: &ByRow,
     party: u32,
     log: &mut [u32],
     out: &mut [u8],
     at: usize,
 ) -> Events
-    requires { ⌜ EventsReady (now book) party ⌝ }
+    requires { ⌜ EventsReady (now book) (now partners) party ⌝ }
     ensures { λ r. ⌜ WroteEvents (now (book .entry)) party (now (log .entry)) (now (log .exit)) (now (out .entry)) at (now (out .exit)) (r .at) (r .kept) ⌝ }
 {
     let mut step = [0u32; Most::STEP];
@@ -78,7 +79,7 @@ fn write_events(
     let mut i = next_own(book, party, 0);
     while i < n {
         let here = Received { dictionary, at: 0 };
-        let acted = act(book, since, here, party, i, log, &mut step);
+        let acted = act(book, since, partners, here, party, i, log, &mut step);
         let there = acted.here;
         dictionary = there.dictionary;
         next = put_words(out, next, &step, there.at);
@@ -91,12 +92,19 @@ fn write_events(
 }
 
 // The program of a party that makes no taken atom, as bytes.
-fn write_program(book: &[u32], since: &ByRow, party: u32, out: &mut [u8], at: usize) -> usize
-    requires { ⌜ EventsReady (now book) party ⌝ }
+fn write_program(
+    book: &[u32],
+    since: &ByRow,
+    partners: &ByRow,
+    party: u32,
+    out: &mut [u8],
+    at: usize,
+) -> usize
+    requires { ⌜ EventsReady (now book) (now partners) party ⌝ }
     ensures { λ r. ⌜ Wrote (bytesOfAll (partWords (now (book .entry)) party)) (now (out .entry)) at (now (out .exit)) r ⌝ }
 {
     let mut log = [0u32; Most::PAIRS];
-    let events = write_events(book, since, party, &mut log, out, at);
+    let events = write_events(book, since, partners, party, &mut log, out, at);
     let mut end = [0u32; 2];
     put2(&mut end, 0, Code::END, narrow(events.kept / 2));
     let pairs = put_words(out, events.at, &end, 2);
@@ -104,23 +112,29 @@ fn write_program(book: &[u32], since: &ByRow, party: u32, out: &mut [u8], at: us
 }
 
 // The programs, in party order, as bytes.
-fn write_bodies(book: &[u32], since: &ByRow, out: &mut [u8], at: usize) -> usize
-    requires { ⌜ Writable (now book) (now since) ⌝ }
+fn write_bodies(book: &[u32], since: &ByRow, partners: &ByRow, out: &mut [u8], at: usize) -> usize
+    requires { ⌜ Writable (now book) (now since) (now partners) ⌝ }
     ensures { λ r. ⌜ Wrote (bytesOfAll (bodiesOf (now (book .entry)))) (now (out .entry)) at (now (out .exit)) r ⌝ }
 {
     let n = parties(book);
     let mut next = at;
     let mut party = 0;
     while party < n {
-        next = write_program(book, since, party, out, next);
+        next = write_program(book, since, partners, party, out, next);
         party += 1;
     }
     next
 }
 
 // The whole output, as bytes: its heads were found before.
-fn write_listing(book: &[u32], since: &ByRow, heads: &[u32], out: &mut [u8]) -> usize
-    requires { ⌜ Writable (now book) (now since) × HeadsIn (now book) (now heads) ⌝ }
+fn write_listing(
+    book: &[u32],
+    since: &ByRow,
+    partners: &ByRow,
+    heads: &[u32],
+    out: &mut [u8],
+) -> usize
+    requires { ⌜ Writable (now book) (now since) (now partners) × HeadsIn (now book) (now heads) ⌝ }
     ensures { λ r. ⌜ Wrote (bytesOfAll (listing (now (book .entry)))) (now (out .entry)) 0 (now (out .exit)) r ⌝ }
 {
     let n = parties(book);
@@ -128,7 +142,7 @@ fn write_listing(book: &[u32], since: &ByRow, heads: &[u32], out: &mut [u8]) -> 
     put(&mut front, 0, n);
     let first = put_words(out, 0, &front, 1);
     let next = put_words(out, first, heads, 2 * wide(n));
-    write_bodies(book, since, out, next)
+    write_bodies(book, since, partners, out, next)
 }
 
 // The output of any words into any lent bytes, or the first refusal that applies.
@@ -141,8 +155,9 @@ fn translate_words(book: &[u32], out: &mut [u8]) -> Answer
         Answer::Refused(why) => Answer::Refused(why),
         Answer::Written(n) => {
             let since = plan.since;
+            let partners = plan.partners;
             let heads = plan.heads;
-            write_listing(book, &since, &heads, out);
+            write_listing(book, &since, &partners, &heads, out);
             Answer::Written(n)
         }
     }

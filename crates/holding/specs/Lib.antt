@@ -1,4 +1,4 @@
 pub mod View
 pub mod AtRow
-pub mod Half
+pub mod Partners
 pub mod Doing

@@ -1,6 +1,7 @@
 // What a party holds, an entry for each row: 0 nothing, 1 the row itself, x + 2 placeholder x. `start` answers what is known at
 // the start, `buildable` and `can_open` whether a row, and a key's partner, can be built; the `write_..` functions write images.
-// All of it is the meaning's own (translation/specs/Dictionary.antt), for a valid book.
+// All of it is the meaning's own (translation/specs/Dictionary.antt), for a valid book. Where the partners' rows are is looked up in a
+// table, which `partners` makes once for the book.
 use book::ByRow;
 use book::ImageCode;
 use book::Kind;
@@ -34,7 +35,7 @@ ghost use Rattle.translation.specs.Dictionary.{start as startOf, buildable as b
 ghost use Rattle.holding.specs.View.{rowOf, view};
 ghost use Rattle.book.specs.Span.{Span};
 ghost use Rattle.holding.specs.AtRow.{imageAt, imagesAt, headWords, entryWords};
-ghost use Rattle.holding.specs.Half.{half, isHalf};
+ghost use Rattle.holding.specs.Partners.{Halves, Partners};
 
 // What a party holds at the start: each row that it knows, as itself.
 pub fn start(book: &[u32], party: u32) -> ByRow
@@ -74,47 +75,66 @@ pub fn buildable(book: &[u32], entries: &ByRow, row: u32) -> bool
     true
 }
 
-// The row is the half of that side of the part.
-fn is_half_of(book: &[u32], row: u32, side: u32, part: u32) -> bool
-    requires { ⌜ Valid (now book) × (row < rowsOf (now book)) × (part < rowsOf (now book)) × (3 ≤ side) × (side ≤ 4) ⌝ }
-    ensures { λ r. ⌜ r ≡ isHalf (now (book .entry)) row side part ⌝ }
-{
-    if row_kind(book, row) != side {
-        return false;
-    }
-    first_part(book, row) == part
-}
-
-// The row of that half of the part, or T where it is no row.
-fn half_row(book: &[u32], side: u32, part: u32) -> u32
-    requires { ⌜ Valid (now book) × (part < rowsOf (now book)) × (3 ≤ side) × (side ≤ 4) ⌝ }
-    ensures { λ r. ⌜ r ≡ rowOf (now (book .entry)) (half side (term (table (now (book .entry))) part)) ⌝ }
+// The halves of that kind, an entry for each row: the row of its half, or T where that is no row.
+fn halves(book: &[u32], side: u32) -> ByRow
+    requires { ⌜ Valid (now book) × (3 ≤ side) × (side ≤ 4) ⌝ }
+    ensures { λ r. ⌜ Halves (now (book .entry)) side r ⌝ }
 {
     let n = rows(book);
+    let mut table = [n; 1024];
     let mut row = 0;
     while row < n {
-        if is_half_of(book, row, side, part) {
-            return row;
+        if row_kind(book, row) == side {
+            let part = first_part(book, row);
+            table[wide(part)] = row;
         }
         row += 1;
     }
-    row
+    table
+}
+
+// The row of a key's partner, or T where it is no row. A key that is no half is its own partner.
+fn partner_row(book: &[u32], publics: &ByRow, privates: &ByRow, key: u32) -> u32
+    requires { ⌜ Valid (now book) × Halves (now book) 3 (now publics) × Halves (now book) 4 (now privates) × (key < rowsOf (now book)) ⌝ }
+    ensures { λ r. ⌜ r ≡ rowOf (now (book .entry)) (partner (term (table (now (book .entry))) key)) ⌝ }
+{
+    let side = row_kind(book, key);
+    if side == Kind::PUBLIC {
+        return privates[wide(first_part(book, key))];
+    }
+    if side == Kind::PRIVATE {
+        return publics[wide(first_part(book, key))];
+    }
+    key
+}
+
+// The partners of a book's rows, made once for the book.
+pub fn partners(book: &[u32]) -> ByRow
+    requires { ⌜ Valid (now book) ⌝ }
+    ensures { λ r. ⌜ Partners (now (book .entry)) r ⌝ }
+{
+    let publics = halves(book, Kind::PUBLIC);
+    let privates = halves(book, Kind::PRIVATE);
+    let n = rows(book);
+    let mut table = [0u32; 1024];
+    let mut row = 0;
+    while row < n {
+        table[wide(row)] = partner_row(book, &publics, &privates, row);
+        row += 1;
+    }
+    table
 }
 
 // The partner of the key is buildable. It need not be a row: then it is buildable from its part.
-pub fn can_open(book: &[u32], entries: &ByRow, key: u32) -> bool
-    requires { ⌜ Valid (now book) × (key < rowsOf (now book)) ⌝ }
+pub fn can_open(book: &[u32], partners: &ByRow, entries: &ByRow, key: u32) -> bool
+    requires { ⌜ Valid (now book) × Partners (now book) (now partners) × (key < rowsOf (now book)) ⌝ }
     ensures { λ r. ⌜ r ≡ buildableFrom (view (now (book .entry)) (now (entries .entry))) (partner (term (table (now (book .entry))) key)) ⌝ }
 {
-    let side = row_kind(book, key);
-    if !is_half(side) {
-        return buildable(book, entries, key);
-    }
-    let part = first_part(book, key);
-    let other = half_row(book, other_half(side), part);
+    let other = partners[wide(key)];
     if other < rows(book) {
         return buildable(book, entries, other);
     }
+    let part = first_part(book, key);
     buildable(book, entries, part)
 }
 
@@ -196,21 +216,24 @@ pub fn write_images(
 }
 
 // The image of the key's partner.
-pub fn write_partner(book: &[u32], entries: &ByRow, key: u32, out: &mut [u32], at: usize) -> usize
-    requires { ⌜ Valid (now book) × (key < rowsOf (now book)) ⌝ }
+pub fn write_partner(
+    book: &[u32],
+    partners: &ByRow,
+    entries: &ByRow,
+    key: u32,
+    out: &mut [u32],
+    at: usize,
+) -> usize
+    requires { ⌜ Valid (now book) × Partners (now book) (now partners) × (key < rowsOf (now book)) ⌝ }
     ensures { λ r. ⌜ Wrote (words (rowOf (now (book .entry))) (image (view (now (book .entry)) (now (entries .entry))) (partner (term (table (now (book .entry))) key)))) (now (out .entry)) at (now (out .exit)) r ⌝ }
 {
-    let side = row_kind(book, key);
-    if !is_half(side) {
-        return write_image(book, entries, key, out, at);
-    }
-    let part = first_part(book, key);
-    let turned = other_half(side);
-    let other = half_row(book, turned, part);
+    let other = partners[wide(key)];
     if other < rows(book) {
         return write_image(book, entries, other, out, at);
     }
+    let side = row_kind(book, key);
+    let turned = other_half(side);
     let half = Kind::of(turned);
     let next = put(out, at, half.code);
-    write_image(book, entries, part, out, next)
+    write_image(book, entries, first_part(book, key), out, next)
 }

@@ -9,6 +9,7 @@ use Rattle.book.specs.Layout.{parties, steps, sender, receiver}
 use Rattle.book.specs.Valid.{Valid}
 use Rattle.book.specs.Headed.Laws.{few-parties}
 use Rattle.translation.specs.Places.{placesOf}
+use Rattle.holding.specs.Partners.{Partners}
 use Rattle.placing.specs.Placed.{Placed}
 use Rattle.placing.specs.Through.{Noted, PartyNoted, PartiesNoted, PlacePartyReady}
 use Rattle.placing.specs.Through.Laws.{noted-set}
@@ -57,8 +58,9 @@ parties-on {b} {q} {l = l} {m = m} {z = z} {r = r} f g h =
     ended p k (no e) = put .keeps p (f .ends p (omega arith))
 
 module _ {b : List ℕ} {n q : ℕ} {x y z : List ℕ} (v : Valid b) (dn : n ≡ parties b) (f : Noting b n q x y z) where
-  pub noting-ready : q < n → PlacePartyReady b q x y
-  noting-ready h = record { valid = v; party = omega arith; sends-size = f .sends-size; receives-size = f .receives-size }
+  pub noting-ready : {ps : List ℕ} → Partners b ps → q < n → PlacePartyReady b ps q x y
+  noting-ready partners h =
+      record { valid = v; partners = partners; party = omega arith; sends-size = f .sends-size; receives-size = f .receives-size }
 
   pub noting-on : {l m : List ℕ} {w r : ℕ} → q < n → PartyNoted b q x l y m r → w ≡ q → Noting b n (q + 1) l m (set z w r)
   noting-on {w = w} {r = r} h g dw =

@@ -24,11 +24,11 @@ use Rattle.placing.proofs.Messages.{step-more, counts-as}
 
 -- ---- one step; z and c are its sender and its receiver, as code has read them, and w its place in a list
 -- the SEND's place can be told: there is an event before the step's end
-pub sent-some : {b : List ℕ} {p i : ℕ} {g y : Counted} {sends receives : List ℕ} → PlaceStepReady b p i g sends receives
+pub sent-some : {b ps : List ℕ} {p i : ℕ} {g y : Counted} {sends receives : List ℕ} → PlaceStepReady b ps p i g sends receives
     → Through b (sender b i) (i + 1) y → 1 ≤ y .events
 sent-some {b} {i = i} ready t = let e = t .events in let k = send-place b (ready .valid) i (ready .step) in omega arith
 
-module _ {b : List ℕ} {p i : ℕ} {g : Counted} {x y : List ℕ} (ready : PlaceStepReady b p i g x y) where
+module _ {b ps : List ℕ} {p i : ℕ} {g : Counted} {x y : List ℕ} (ready : PlaceStepReady b ps p i g x y) where
   -- the party is the step's q, its sender or its receiver
   pub step-ready : {z q : ℕ} → z ≡ q → z ≡ p → StepReady b q i g
   step-ready d e = record { valid = ready .valid; step = ready .step; through = rw (← d, e) (ready .through) }
@@ -110,10 +110,11 @@ or-last i s P k = go (ℕ-discrete s i)
     go (no e) = inl (let l = k .0 in omega arith, k .1)
 
 module _ {b : List ℕ} {p n i : ℕ} {x l y m : List ℕ} {g : Counted} (f : Passing b p n i x l y m g) where
-  pub passing-ready : PlacePartyReady b p x y → n ≡ steps b → i < n → PlaceStepReady b p i g l m
+  pub passing-ready : {ps : List ℕ} → PlacePartyReady b ps p x y → n ≡ steps b → i < n → PlaceStepReady b ps p i g l m
   passing-ready ready dn h =
       record {
         valid = ready .valid;
+        partners = ready .partners;
         step = omega arith;
         party = ready .party;
         through = f .through;
@@ -135,7 +136,7 @@ module _ {b : List ℕ} {p n i : ℕ} {x l y m : List ℕ} {g : Counted} (f : Pa
       }
 
   -- END comes behind the events of all steps
-  pub passing-end : PlacePartyReady b p x y → n ≡ steps b → n ≤ i → PartyNoted b p x l y m (g .events)
+  pub passing-end : {ps : List ℕ} → PlacePartyReady b ps p x y → n ≡ steps b → n ≤ i → PartyNoted b p x l y m (g .events)
   passing-end ready dn h =
       let w = f .within in
       let z : i ≡ steps b = omega arith in

@@ -19,6 +19,7 @@ use Rattle.translation.specs.Long.Laws.{receiveAll-given, receiveAll-stored, pa
 use Rattle.holding.specs.View.{rowOf, view}
 use Rattle.receiving.specs.declared.Received.{Received}
 use Rattle.receiving.specs.Turn.{inTurn}
+use Rattle.holding.specs.Partners.{Partners}
 use Rattle.receiving.specs.Receiving.{listDid, ListReady, Led}
 use Rattle.placing.specs.declared.Counted.{Counted}
 use Rattle.placing.specs.Placed.Laws.{few-events}
@@ -44,9 +45,9 @@ pub record Took (b : List ℕ) (x : Counted) (f n : ℕ) (y : Received) : Type 0
   pub stored : length (received b x f n .stored) ≤ stepSize
 
 module _ {b : List ℕ} {s f n : ℕ} {x : Counted} (ready : StepReady b (receiver b s) s x) (df : f ≡ stepFirst b s) (dn : n ≡ stepCount b s) where
-  pub took-ready : {d : ℕ} → d ≡ rows b → ListReady b d f n (at-first x)
+  pub took-ready : {ps : List ℕ} {d : ℕ} → Partners b ps → d ≡ rows b → ListReady b ps d f n (at-first x)
   unfolding inTurn
-  took-ready {d} dd =
+  took-ready {d = d} partners dd =
       let ts = terms (table b) (listAt b f n) in
       let k = x .dictionary .next in
       let g = receiveAll-given ts k (view b (x .dictionary .entries)) (k + count ts) in
@@ -57,6 +58,7 @@ module _ {b : List ℕ} {s f n : ℕ} {x : Counted} (ready : StepReady b (receiv
       let u = ready .through .given in
       record {
         valid = ready .valid;
+        partners = partners;
         bounded = omega arith;
         span = step-span b (ready .valid) d s f n dd (ready .step) df dn;
         fits = omega arith;

@@ -8,6 +8,7 @@ use Rattle.book.specs.Valid.{Valid}
 use Rattle.translation.specs.Receive.{Did}
 use Rattle.translation.specs.Places.{placesOf}
 use Rattle.holding.specs.View.{view}
+use Rattle.holding.specs.Partners.{Partners}
 use Rattle.translation.specs.Steps.{before}
 use Rattle.placing.specs.declared.Counted.{Counted}
 pub mod Laws
@@ -23,7 +24,7 @@ pub record Counts (b : List ℕ) (d : Did) (y : Counted) : Type 0 where
 abbrev pub Through : List ℕ → ℕ → ℕ → Counted → Type 0
 Through b p i y = Counts b (before b p i) y
 
--- ---- what is asked for
+-- ---- what is asked for; ps is the table of partners
 -- party p is through the steps before s, and can do its part in step s
 pub record StepReady (b : List ℕ) (p s : ℕ) (x : Counted) : Type 0 where
   pub valid : Valid b
@@ -31,8 +32,9 @@ pub record StepReady (b : List ℕ) (p s : ℕ) (x : Counted) : Type 0 where
   pub through : Through b p s x
 
 -- and it can note it
-pub record PlaceStepReady (b : List ℕ) (p s : ℕ) (x : Counted) (sends receives : List ℕ) : Type 0 where
+pub record PlaceStepReady (b ps : List ℕ) (p s : ℕ) (x : Counted) (sends receives : List ℕ) : Type 0 where
   pub valid : Valid b
+  pub partners : Partners b ps
   pub step : s < steps b
   pub party : p < parties b
   pub through : Through b p s x
@@ -40,8 +42,9 @@ pub record PlaceStepReady (b : List ℕ) (p s : ℕ) (x : Counted) (sends receiv
   pub receives-size : length receives ≡ 64
 
 -- party p can note its part in all steps
-pub record PlacePartyReady (b : List ℕ) (p : ℕ) (sends receives : List ℕ) : Type 0 where
+pub record PlacePartyReady (b ps : List ℕ) (p : ℕ) (sends receives : List ℕ) : Type 0 where
   pub valid : Valid b
+  pub partners : Partners b ps
   pub party : p < parties b
   pub sends-size : length sends ≡ 64
   pub receives-size : length receives ≡ 64

@@ -1,5 +1,6 @@
 // Where the events of a book's programs stand, counted by a walk that writes nothing: a rehearsal goes by these places. `place`
 // leaves the place of each step's SEND and RECEIVE and of each party's END, for a valid book.
+use book::ByRow;
 use book::parties;
 use book::rows;
 use book::step_count;
@@ -7,6 +8,7 @@ use book::step_first;
 use book::step_receiver;
 use book::step_sender;
 use book::steps;
+use holding::partners;
 use holding::start;
 use receiving::Dictionary;
 use receiving::Received;
@@ -20,6 +22,7 @@ ghost use Prim.Native.Nat.{_+_};
 ghost use lib.ListN.{length};
 ghost use Rattle.book.specs.Layout.{sender, receiver};
 ghost use Rattle.book.specs.Valid.{Valid};
+ghost use Rattle.holding.specs.Partners.{Partners};
 ghost use Rattle.placing.specs.Placed.{Placed};
 ghost use Rattle.placing.specs.Through.{Through, StepReady, PlaceStepReady, PlacePartyReady, StepPlaced, PartyNoted};
 
@@ -53,8 +56,8 @@ fn make_step(book: &[u32], from: Counted, step: u32) -> Counted
 }
 
 // A step that it receives: the RECEIVE, then a CHECK or an OPEN for each placeholder handed out under which nothing is stored.
-fn take_step(book: &[u32], from: Counted, step: u32) -> Counted
-    requires { ⌜ StepReady (now book) (receiver (now book) step) step from ⌝ }
+fn take_step(book: &[u32], partners: &ByRow, from: Counted, step: u32) -> Counted
+    requires { ⌜ StepReady (now book) (receiver (now book) step) step from × Partners (now book) (now partners) ⌝ }
     ensures { λ r. ⌜ Through (now (book .entry)) (receiver (now (book .entry)) step) (step + 1) r ⌝ }
 {
     let mut log = [0u32; 1];
@@ -62,6 +65,7 @@ fn take_step(book: &[u32], from: Counted, step: u32) -> Counted
     let held = from.dictionary;
     let there = receive_messages(
         book,
+        partners,
         Received {
             dictionary: held,
             at: 0,
@@ -84,13 +88,14 @@ fn take_step(book: &[u32], from: Counted, step: u32) -> Counted
 // A party's part in one step. The SEND is the last event of its step, the RECEIVE the first.
 fn place_step(
     book: &[u32],
+    partners: &ByRow,
     from: Counted,
     party: u32,
     step: u32,
     sends: &mut [u32; 64],
     receives: &mut [u32; 64],
 ) -> Counted
-    requires { ⌜ PlaceStepReady (now book) party step from (now sends) (now receives) ⌝ }
+    requires { ⌜ PlaceStepReady (now book) (now partners) party step from (now sends) (now receives) ⌝ }
     ensures { λ r. ⌜ StepPlaced (now (book .entry)) party step (now (sends .entry)) (now (sends .exit)) (now (receives .entry)) (now (receives .exit)) r ⌝ }
 {
     if step_sender(book, step) == party {
@@ -100,14 +105,20 @@ fn place_step(
     }
     if step_receiver(book, step) == party {
         receives[wide(step)] = from.events;
-        return take_step(book, from, step);
+        return take_step(book, partners, from, step);
     }
     from
 }
 
 // All steps, for one party. Gives the place of its END.
-fn place_party(book: &[u32], party: u32, sends: &mut [u32; 64], receives: &mut [u32; 64]) -> u32
-    requires { ⌜ PlacePartyReady (now book) party (now sends) (now receives) ⌝ }
+fn place_party(
+    book: &[u32],
+    partners: &ByRow,
+    party: u32,
+    sends: &mut [u32; 64],
+    receives: &mut [u32; 64],
+) -> u32
+    requires { ⌜ PlacePartyReady (now book) (now partners) party (now sends) (now receives) ⌝ }
     ensures { λ r. ⌜ PartyNoted (now (book .entry)) party (now (sends .entry)) (now (sends .exit)) (now (receives .entry)) (now (receives .exit)) r ⌝ }
 {
     let n = steps(book);
@@ -119,7 +130,7 @@ fn place_party(book: &[u32], party: u32, sends: &mut [u32; 64], receives: &mut [
     };
     let mut i = 0;
     while i < n {
-        here = place_step(book, here, party, i, sends, receives);
+        here = place_step(book, partners, here, party, i, sends, receives);
         i += 1;
     }
     here.events
@@ -130,10 +141,11 @@ pub fn place(book: &[u32], sends: &mut [u32; 64], receives: &mut [u32; 64], ends
     requires { ⌜ Valid (now book) × (length (now sends) ≡ 64) × (length (now receives) ≡ 64) × (length (now ends) ≡ 16) ⌝ }
     ensures { λ r. ⌜ Placed (now (book .entry)) (now (sends .exit)) (now (receives .exit)) (now (ends .exit)) ⌝ }
 {
+    let partners = partners(book);
     let n = parties(book);
     let mut party = 0;
     while party < n {
-        let end = place_party(book, party, sends, receives);
+        let end = place_party(book, &partners, party, sends, receives);
         ends[wide(party)] = end;
         party += 1;
     }

@@ -39,11 +39,11 @@ pub record Going (b : List ℕ) (bound first left : ℕ) (whole : Received) (log
   pub outs : length out ≡ length out₀
 
 -- ---- at the start, the list's placeholders are handed out
-pub going-start : {b : List ℕ} {bound f c q n : ℕ} {x : Received} {l o : List ℕ}
-    → ListReady b bound f c (withNext n x) → q ≡ c → x .dictionary .next ≡ n + q
+pub going-start : {b ps : List ℕ} {bound f c q n : ℕ} {x : Received} {l o : List ℕ}
+    → ListReady b ps bound f c (withNext n x) → q ≡ c → x .dictionary .next ≡ n + q
     → Going b bound f c (withNext n x) l o f c n x l o
 unfolding inTurn
-going-start {b} {bound} {f} {c} {q} {n} {x} ready d g =
+going-start {b} {ps} {bound} {f} {c} {q} {n} {x} ready d g =
     let ts = terms (table b) (listAt b f c) in
     let δ = view b (x .dictionary .entries) in
     let many : count ts ≡ c = terms-count b f c in

@@ -31,7 +31,7 @@ empty-span : (b : List ℕ) (r : ℕ) → Span b r 0 0
 empty-span b r = record { inside = omega arith; below = rw (list-none b 0 0 (omega arith)) tt; few = omega arith }
 
 -- ---- the three rules; t and u are the code's tests, of building and of opening
-module _ {b e : List ℕ} {r p : ℕ} (ready : SettleReady b r p e) {t : Bool} (dt : t ≡ buildable (view b e) (term (table b) r)) where
+module _ {b ps e : List ℕ} {r p : ℕ} (ready : SettleReady b ps r p e) {t : Bool} (dt : t ≡ buildable (view b e) (term (table b) r)) where
   pub settle-compare : {n k : ℕ} {l o s : List ℕ} {a j : ℕ} → t ≡ true
       → Wrote (programWords (rowOf b) (compared (term (table b) r) p (view b e) .events)) o a s j
       → Settling b r p n k e e l l a o s (record { first = 0; left = 0; kept = k; at = j })

@@ -10,6 +10,7 @@ use Rattle.book.specs.Span.{Span}
 use Rattle.translation.specs.Receive.{Did, receive}
 use Rattle.holding.specs.View.{view}
 use Rattle.holding.specs.Doing.{Doing}
+use Rattle.holding.specs.Partners.{Partners}
 use Rattle.receiving.specs.declared.Received.{Received}
 use Rattle.receiving.specs.declared.Settled.{Settled}
 use Rattle.receiving.specs.Bound.{limit}
@@ -24,28 +25,31 @@ rowDid b r p x = receive (term (table b) r) p (view b (x .dictionary .entries)) 
 abbrev pub listDid : List ℕ → ℕ → ℕ → Received → Did
 listDid b f n x = inTurn (terms (table b) (listAt b f n)) (view b (x .dictionary .entries)) (x .dictionary .next)
 
--- ---- what is asked for
+-- ---- what is asked for; ps is the table of partners
 -- the placeholders that d hands out stay within the limit
 abbrev pub Fits : Received → Did → Type 0
 Fits x d = x .dictionary .next + length (d .given) ≤ limit
 
 -- row r can be settled at placeholder p, by the entries
-pub record SettleReady (b : List ℕ) (r p : ℕ) (entries : List ℕ) : Type 0 where
+pub record SettleReady (b ps : List ℕ) (r p : ℕ) (entries : List ℕ) : Type 0 where
   pub valid : Valid b
+  pub partners : Partners b ps
   pub row : r < rows b
   pub low : p < limit
   pub size : length entries ≡ 1024
 
 -- row r can be received at placeholder p, from x on
-pub record RowReady (b : List ℕ) (r p : ℕ) (x : Received) : Type 0 where
+pub record RowReady (b ps : List ℕ) (r p : ℕ) (x : Received) : Type 0 where
   pub valid : Valid b
+  pub partners : Partners b ps
   pub row : r < rows b
   pub low : p < limit
   pub fits : Fits x (rowDid b r p x)
 
 -- n rows of the pool, from f on and all below a bound, can be received in turn, from x on
-pub record ListReady (b : List ℕ) (bound f n : ℕ) (x : Received) : Type 0 where
+pub record ListReady (b ps : List ℕ) (bound f n : ℕ) (x : Received) : Type 0 where
   pub valid : Valid b
+  pub partners : Partners b ps
   pub bounded : bound ≤ rows b
   pub span : Span b bound f n
   pub fits : Fits x (listDid b f n x)

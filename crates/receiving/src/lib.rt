@@ -1,6 +1,6 @@
 // Figure 3's R: what a party does with the terms that arrive at its placeholders. `receive` and `receive_messages` write the
 // CHECKs and OPENs, put each stored pair behind the last in the log, and give back the dictionary afterwards. All of it is the
-// meaning's own (translation/specs/Receive.antt), for a valid book.
+// meaning's own (translation/specs/Receive.antt), for a valid book and the table of its partners.
 use book::ByRow;
 use book::Code;
 use book::Kind;
@@ -24,6 +24,7 @@ ghost use Rattle.book.specs.Layout.{rows, kind, table};
 ghost use Rattle.book.specs.Valid.{Valid};
 ghost use Rattle.translation.specs.Receive.{canOpen, compared};
 ghost use Rattle.translation.specs.Listing.{programWords};
+ghost use Rattle.holding.specs.Partners.{Partners};
 ghost use Rattle.holding.specs.View.{rowOf, view};
 ghost use Rattle.receiving.specs.Turn.{unlocked};
 ghost use Rattle.receiving.specs.Receiving.{rowDid, listDid, SettleReady, RowReady, ListReady, Led, Settling};
@@ -63,14 +64,14 @@ impl Dictionary {
 }
 
 // The row is a cipher, and the partner of its key is buildable.
-fn opens(book: &[u32], entries: &ByRow, row: u32) -> bool
-    requires { ⌜ Valid (now book) × (row < rows (now book)) ⌝ }
+fn opens(book: &[u32], partners: &ByRow, entries: &ByRow, row: u32) -> bool
+    requires { ⌜ Valid (now book) × Partners (now book) (now partners) × (row < rows (now book)) ⌝ }
     ensures { λ r. ⌜ r ≡ canOpen (view (now (book .entry)) (now (entries .entry))) (term (table (now (book .entry))) row) ⌝ }
 {
     if row_kind(book, row) != Kind::CIPHER {
         return false;
     }
-    can_open(book, entries, first_part(book, row))
+    can_open(book, partners, entries, first_part(book, row))
 }
 
 // The event that compares the placeholder with the row's image.
@@ -92,6 +93,7 @@ fn put_check(
 // The event that opens the cipher at the placeholder; its contents get the placeholders from `from` on.
 fn put_open(
     book: &[u32],
+    partners: &ByRow,
     entries: &ByRow,
     row: u32,
     place: u32,
@@ -99,17 +101,18 @@ fn put_open(
     out: &mut [u32],
     at: usize,
 ) -> usize
-    requires { ⌜ Valid (now book) × (row < rows (now book)) × (kind (now book) row ≡ 2) ⌝ }
+    requires { ⌜ Valid (now book) × Partners (now book) (now partners) × (row < rows (now book)) × (kind (now book) row ≡ 2) ⌝ }
     ensures { λ r. ⌜ Wrote (programWords (rowOf (now (book .entry))) (unlocked (term (table (now (book .entry))) row) place (view (now (book .entry)) (now (entries .entry))) from .events)) (now (out .entry)) at (now (out .exit)) r ⌝ }
 {
     let next = put2(out, at, Code::OPEN, place);
     let last = put2(out, next, from, narrow(row_count(book, row) - 1));
-    write_partner(book, entries, first_part(book, row), out, last)
+    write_partner(book, partners, entries, first_part(book, row), out, last)
 }
 
 // The first rule that fits: compare, open or store.
 fn settle(
     book: &[u32],
+    partners: &ByRow,
     entries: &mut ByRow,
     next: u32,
     kept: usize,
@@ -119,7 +122,7 @@ fn settle(
     out: &mut [u32],
     at: usize,
 ) -> Settled
-    requires { ⌜ SettleReady (now book) row place (now entries) ⌝ }
+    requires { ⌜ SettleReady (now book) (now partners) row place (now entries) ⌝ }
     ensures { λ r. ⌜ Settling (now (book .entry)) row place next kept (now (entries .entry)) (now (entries .exit)) (now (log .entry)) (now (log .exit)) at (now (out .entry)) (now (out .exit)) r ⌝ }
 {
     if buildable(book, entries, row) {
@@ -131,8 +134,8 @@ fn settle(
             at: last,
         };
     }
-    if opens(book, entries, row) {
-        let last = put_open(book, entries, row, place, next, out, at);
+    if opens(book, partners, entries, row) {
+        let last = put_open(book, partners, entries, row, place, next, out, at);
         let first = row_first(book, row) + 1;
         let left = row_count(book, row) - 1;
         return Settled {
@@ -156,13 +159,14 @@ fn settle(
 // the last expression and unconditional, and both take and give back one value.
 pub fn receive(
     book: &[u32],
+    partners: &ByRow,
     before: Received,
     row: u32,
     place: u32,
     log: &mut [u32],
     out: &mut [u32],
 ) -> Received
-    requires { ⌜ RowReady (now book) row place before ⌝ }
+    requires { ⌜ RowReady (now book) (now partners) row place before ⌝ }
     ensures { λ r. ⌜ Led (now (book .entry)) (rowDid (now (book .entry)) row place before) before (now (log .entry)) (now (log .exit)) (now (out .entry)) (now (out .exit)) r ⌝ }
 {
     let mut here = before;
@@ -171,6 +175,7 @@ pub fn receive(
     let at = here.at;
     let s = settle(
         book,
+        partners,
         &mut here.dictionary.entries,
         next,
         kept,
@@ -182,12 +187,13 @@ pub fn receive(
     );
     here.dictionary.kept = s.kept;
     here.at = s.at;
-    receive_list(book, here, row, s.first, s.left, log, out)
+    receive_list(book, partners, here, row, s.first, s.left, log, out)
 }
 
 // The rows of a list, below a bound, get the next placeholders and are received in turn.
 fn receive_list(
     book: &[u32],
+    partners: &ByRow,
     mut here: Received,
     bound: u32,
     first: usize,
@@ -195,7 +201,7 @@ fn receive_list(
     log: &mut [u32],
     out: &mut [u32],
 ) -> Received
-    requires { ⌜ ListReady (now book) bound first left here ⌝ }
+    requires { ⌜ ListReady (now book) (now partners) bound first left here ⌝ }
     ensures { λ r. ⌜ Led (now (book .entry)) (listDid (now (book .entry)) first left here) here (now (log .entry)) (now (log .exit)) (now (out .entry)) (now (out .exit)) r ⌝ }
 {
     let mut place = here.dictionary.next;
@@ -204,7 +210,15 @@ fn receive_list(
     let mut i = first;
     let mut k = left;
     while 0 < k {
-        here = receive(book, here, entry(book, i, k, bound), place, log, out);
+        here = receive(
+            book,
+            partners,
+            here,
+            entry(book, i, k, bound),
+            place,
+            log,
+            out,
+        );
         place += 1;
         i += 1;
         k -= 1;
@@ -216,6 +230,7 @@ fn receive_list(
 // ciphers then takes one frame with one dictionary.
 pub fn receive_messages(
     book: &[u32],
+    partners: &ByRow,
     mut here: Received,
     bound: u32,
     first: usize,
@@ -223,7 +238,7 @@ pub fn receive_messages(
     log: &mut [u32],
     out: &mut [u32],
 ) -> Received
-    requires { ⌜ ListReady (now book) bound first left here ⌝ }
+    requires { ⌜ ListReady (now book) (now partners) bound first left here ⌝ }
     ensures { λ r. ⌜ Led (now (book .entry)) (listDid (now (book .entry)) first left here) here (now (log .entry)) (now (log .exit)) (now (out .entry)) (now (out .exit)) r ⌝ }
 {
     let mut place = here.dictionary.next;
@@ -232,7 +247,15 @@ pub fn receive_messages(
     let mut i = first;
     let mut k = left;
     while 0 < k {
-        here = receive(book, here, entry(book, i, k, bound), place, log, out);
+        here = receive(
+            book,
+            partners,
+            here,
+            entry(book, i, k, bound),
+            place,
+            log,
+            out,
+        );
         place += 1;
         i += 1;
         k -= 1;

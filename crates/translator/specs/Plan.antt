@@ -11,5 +11,5 @@ use Rattle.translator.specs.declared.Plan.{Plan}
 -- of the words b, where there is room for so many words, whichever they are
 pub record Planned (b : List ℕ) (room : ℕ) (r : Plan) : Type 0 where
   pub says : (out : List ℕ) → length out ≡ room → answerSays (r .answer) ≡ translationSays b out
-  pub writable : answerSays (r .answer) .number ≡ 0 → Writable b (r .since)
+  pub writable : answerSays (r .answer) .number ≡ 0 → Writable b (r .since) (r .partners)
   pub heads : answerSays (r .answer) .number ≡ 0 → HeadsIn b (r .heads)

@@ -7,6 +7,7 @@ use book::Refusal;
 use book::parties;
 use book::steps;
 use claims::claims;
+use holding::partners;
 use reader::read;
 use translation::Answer;
 use walking::measure;
@@ -47,13 +48,14 @@ struct Surveyed {
 pub struct Plan {
     pub answer: Answer,
     pub since: ByRow,
+    pub partners: ByRow,
     pub heads: [u32; 32],
 }
 
 // Offset and count of each party's program; the first begins behind them. Where a party would make a taken atom there is no output, so
 // what is written then says nothing, and the parties that follow are asked about the steps before alone.
-fn write_heads(book: &[u32], since: &ByRow, out: &mut [u32], at: usize) -> Heads
-    requires { ⌜ Ready (now book) (now since) ⌝ }
+fn write_heads(book: &[u32], since: &ByRow, partners: &ByRow, out: &mut [u32], at: usize) -> Heads
+    requires { ⌜ Ready (now book) (now since) (now partners) ⌝ }
     ensures { λ r. ⌜ WroteHeads (now (book .entry)) (now (out .entry)) at (now (out .exit)) (r .at) (r .end) (r .step) (r .taken) ⌝ }
 {
     let n = parties(book);
@@ -64,7 +66,7 @@ fn write_heads(book: &[u32], since: &ByRow, out: &mut [u32], at: usize) -> Heads
     let mut taken = 0;
     let mut party = 0;
     while party < n {
-        let part = measure(book, since, party, step);
+        let part = measure(book, since, partners, party, step);
         next = put2(out, next, narrow(end), narrow(part.words));
         end += part.words;
         if part.taken != 0 {
@@ -82,38 +84,44 @@ fn write_heads(book: &[u32], since: &ByRow, out: &mut [u32], at: usize) -> Heads
 }
 
 // The programs, in party order.
-fn write_bodies(book: &[u32], since: &ByRow, out: &mut [u32], at: usize) -> usize
-    requires { ⌜ Writable (now book) (now since) ⌝ }
+fn write_bodies(book: &[u32], since: &ByRow, partners: &ByRow, out: &mut [u32], at: usize) -> usize
+    requires { ⌜ Writable (now book) (now since) (now partners) ⌝ }
     ensures { λ r. ⌜ Wrote (bodiesOf (now (book .entry))) (now (out .entry)) at (now (out .exit)) r ⌝ }
 {
     let n = parties(book);
     let mut next = at;
     let mut party = 0;
     while party < n {
-        next = write_program(book, since, party, out, next);
+        next = write_program(book, since, partners, party, out, next);
         party += 1;
     }
     next
 }
 
 // The whole output: its heads were found before.
-fn write_listing(book: &[u32], since: &ByRow, heads: &[u32], out: &mut [u32]) -> usize
-    requires { ⌜ Writable (now book) (now since) × HeadsIn (now book) (now heads) ⌝ }
+fn write_listing(
+    book: &[u32],
+    since: &ByRow,
+    partners: &ByRow,
+    heads: &[u32],
+    out: &mut [u32],
+) -> usize
+    requires { ⌜ Writable (now book) (now since) (now partners) × HeadsIn (now book) (now heads) ⌝ }
     ensures { λ r. ⌜ Wrote (listing (now (book .entry))) (now (out .entry)) 0 (now (out .exit)) r ⌝ }
 {
     let n = parties(book);
     let first = put(out, 0, n);
     let next = put_all(out, first, heads, 2 * wide(n));
-    write_bodies(book, since, out, next)
+    write_bodies(book, since, partners, out, next)
 }
 
 // The first taken atom or, where there is none, the heads and the output's length, with nothing written to the output.
-fn survey(book: &[u32], since: &ByRow) -> Surveyed
-    requires { ⌜ Ready (now book) (now since) ⌝ }
+fn survey(book: &[u32], since: &ByRow, partners: &ByRow) -> Surveyed
+    requires { ⌜ Ready (now book) (now since) (now partners) ⌝ }
     ensures { λ r. ⌜ Survey (now (book .entry)) (r .heads) (r .end) (r .step) (r .taken) ⌝ }
 {
     let mut heads = [0u32; 32];
-    let all = write_heads(book, since, &mut heads, 0);
+    let all = write_heads(book, since, partners, &mut heads, 0);
     Surveyed {
         heads,
         end: all.end,
@@ -128,13 +136,15 @@ fn prepare_valid(book: &[u32], room: usize) -> Plan
     ensures { λ r. ⌜ Planned (now (book .entry)) room r ⌝ }
 {
     let since = claims(book);
-    let all = survey(book, &since);
+    let partners = partners(book);
+    let all = survey(book, &since, &partners);
     let heads = all.heads;
     if all.taken != 0 {
         let answer = Answer::Refused(Refusal::Taken(all.step, all.taken - 1));
         return Plan {
             answer,
             since,
+            partners,
             heads,
         };
     }
@@ -143,6 +153,7 @@ fn prepare_valid(book: &[u32], room: usize) -> Plan
         return Plan {
             answer,
             since,
+            partners,
             heads,
         };
     }
@@ -150,6 +161,7 @@ fn prepare_valid(book: &[u32], room: usize) -> Plan
     Plan {
         answer,
         since,
+        partners,
         heads,
     }
 }
@@ -160,7 +172,8 @@ fn accept_valid(book: &[u32]) -> Reading
     ensures { λ r. ⌜ readingSays r ≡ acceptance (now (book .entry)) ⌝ }
 {
     let since = claims(book);
-    let all = survey(book, &since);
+    let partners = partners(book);
+    let all = survey(book, &since, &partners);
     if all.taken != 0 {
         return Reading::Refused(Refusal::Taken(all.step, all.taken - 1));
     }
@@ -175,6 +188,7 @@ pub fn prepare(book: &[u32], room: usize) -> Plan
         Reading::Refused(why) => Plan {
             answer: Answer::Refused(why),
             since: [0u32; 1024],
+            partners: [0u32; 1024],
             heads: [0u32; 32],
         },
         Reading::Accepted => prepare_valid(book, room),
@@ -191,8 +205,9 @@ pub fn translate(book: &[u32], out: &mut [u32]) -> Answer
         Answer::Refused(why) => Answer::Refused(why),
         Answer::Written(n) => {
             let since = plan.since;
+            let partners = plan.partners;
             let heads = plan.heads;
-            write_listing(book, &since, &heads, out);
+            write_listing(book, &since, &partners, &heads, out);
             Answer::Written(n)
         }
     }

@@ -79,11 +79,12 @@ module _ (b : List ℕ) (p s : ℕ) {f n z y : ℕ} (df : f ≡ stepFirst b s) (
 
 module _ {b : List ℕ} {p s : ℕ} {x : Received} {f n z y : ℕ} where
   -- the messages hand out what the step does, and that fits
-  pub step-ready : {d a : ℕ} → ActReady b p s x → d ≡ rows b → f ≡ stepFirst b s → n ≡ stepCount b s
-      → z ≡ sender b s → (z ≡ p → ⊥) → y ≡ receiver b s → y ≡ p → ListReady b d f n (record { dictionary = x .dictionary; at = a })
-  step-ready {d} ready dd df dn dz e dy h =
+  pub step-ready : {ps : List ℕ} {d a : ℕ} → ActReady b ps p s x → d ≡ rows b → f ≡ stepFirst b s → n ≡ stepCount b s
+      → z ≡ sender b s → (z ≡ p → ⊥) → y ≡ receiver b s → y ≡ p → ListReady b ps d f n (record { dictionary = x .dictionary; at = a })
+  step-ready {d = d} ready dd df dn dz e dy h =
       record {
         valid = ready .valid;
+        partners = ready .partners;
         bounded = omega arith;
         span = rw dd (span-step b (ready .valid) f n s (ready .step) df dn);
         fits = let fits = ready .fits in let same = ap (λ (g : Did). length (g .given)) (step-turns b p s df dn dz e dy h x) in omega arith;

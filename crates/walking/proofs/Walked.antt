@@ -43,8 +43,8 @@ pub walked-start : {b : List ℕ} {p i k a : ℕ} {log out e : List ℕ} {d : Di
 walked-start {b} {p} {e = e} h w idle =
     walked-skip idle (rw (w .0, w .1, w .2) (doing-as (rw (← h) (doing-none {b = b} {x = e})) (before-none b p))) (λ k l. absurd (omega arith))
 
-module _ {b l : List ℕ} {p upto i k a : ℕ} {log₀ log out₀ out : List ℕ} {x : Received}
-    (ready : WalkReady b l p upto) (h : i < upto) (g : Walked b p i k log₀ log a out₀ out x) where
+module _ {b l ps : List ℕ} {p upto i k a : ℕ} {log₀ log out₀ out : List ℕ} {x : Received}
+    (ready : WalkReady b l ps p upto) (h : i < upto) (g : Walked b p i k log₀ log a out₀ out x) where
   in-book : i < steps b
   in-book = let u = ready .within in omega arith
 

@@ -7,6 +7,7 @@ use Rattle.book.specs.Valid.{Valid}
 use Rattle.translation.specs.Receive.{Did}
 use Rattle.translation.specs.Steps.{stepDid, before}
 use Rattle.holding.specs.View.{view}
+use Rattle.holding.specs.Partners.{Partners}
 use Rattle.holding.specs.Doing.{Doing}
 use Rattle.claims.specs.Claims.{Claims}
 use Rattle.receiving.specs.declared.Received.{Received}
@@ -21,9 +22,10 @@ pub mod Laws
 abbrev pub actDid : List ℕ → ℕ → ℕ → Received → Did
 actDid b p s x = stepDid b p s (view b (x .dictionary .entries)) (x .dictionary .next)
 
--- party p can do its part in step s, from x on
-pub record ActReady (b : List ℕ) (p s : ℕ) (x : Received) : Type 0 where
+-- party p can do its part in step s, from x on, by the table ps of partners
+pub record ActReady (b ps : List ℕ) (p s : ℕ) (x : Received) : Type 0 where
   pub valid : Valid b
+  pub partners : Partners b ps
   pub step : s < steps b
   pub fits : Fits x (actDid b p s x)
 
@@ -33,10 +35,11 @@ pub record Acting (b l : List ℕ) (p s : ℕ) (x : Received) (log logAfter out 
   pub found : r .taken ≡ foundAt b l p s (view b (x .dictionary .entries))
 
 -- ---- the steps, one after another
--- party p can be taken through the steps before `upto`, by the table l of claims
-pub record WalkReady (b l : List ℕ) (p upto : ℕ) : Type 0 where
+-- party p can be taken through the steps before `upto`, by the tables of claims and of partners
+pub record WalkReady (b l ps : List ℕ) (p upto : ℕ) : Type 0 where
   pub valid : Valid b
   pub claims : Claims b l
+  pub partners : Partners b ps
   pub party : p < parties b
   pub within : upto ≤ steps b
 

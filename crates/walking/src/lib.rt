@@ -1,4 +1,4 @@
-// A party's way through the steps of a valid book. `walk` writes its events up to a step, or to the first at which it would make
+// A party's way through the steps of a valid book, by the tables of its claims and of its partners. `walk` writes its events up to a step, or to the first at which it would make
 // a taken atom; `measure` counts its program's words and finds that step; `write_program` writes the program of a party that
 // makes no taken atom; `act` and `next_own` are a walk's parts: one step, and the way to the next.
 use book::ByRow;
@@ -25,6 +25,7 @@ ghost use Rattle.words.specs.Overlay.{Wrote};
 ghost use Rattle.book.specs.Layout.{parties as partiesOf, steps as stepsOf};
 ghost use Rattle.book.specs.Valid.{Valid};
 ghost use Rattle.translation.specs.Listing.{partWords};
+ghost use Rattle.holding.specs.Partners.{Partners};
 ghost use Rattle.claims.specs.Claims.{Claims};
 ghost use Rattle.walking.specs.Walk.{Unrefused, IdleUntil};
 ghost use Rattle.walking.specs.Found.{FoundBefore};
@@ -48,13 +49,14 @@ pub struct Passed {
 pub fn act(
     book: &[u32],
     since: &ByRow,
+    partners: &ByRow,
     from: Received,
     party: u32,
     step: u32,
     log: &mut [u32],
     out: &mut [u32],
 ) -> Acted
-    requires { ⌜ ActReady (now book) party step from ⌝ }
+    requires { ⌜ ActReady (now book) (now partners) party step from ⌝ }
     ensures { λ r. ⌜ Acting (now (book .entry)) (now (since .entry)) party step from (now (log .entry)) (now (log .exit)) (now (out .entry)) (now (out .exit)) r ⌝ }
 {
     let first = step_first(book, step);
@@ -92,7 +94,7 @@ pub fn act(
         if n == 0 {
             return Acted { here, taken: 0 };
         }
-        let there = receive_messages(book, here, rows(book), first, n, log, out);
+        let there = receive_messages(book, partners, here, rows(book), first, n, log, out);
         return Acted {
             here: there,
             taken: 0,
@@ -129,6 +131,7 @@ pub fn next_own(book: &[u32], party: u32, from: u32) -> u32
 pub fn walk(
     book: &[u32],
     since: &ByRow,
+    partners: &ByRow,
     party: u32,
     upto: u32,
     kept: usize,
@@ -136,7 +139,7 @@ pub fn walk(
     out: &mut [u32],
     at: usize,
 ) -> Passed
-    requires { ⌜ WalkReady (now book) (now since) party upto ⌝ }
+    requires { ⌜ WalkReady (now book) (now since) (now partners) party upto ⌝ }
     ensures { λ r. ⌜ Walking (now (book .entry)) party upto kept (now (log .entry)) (now (log .exit)) at (now (out .entry)) (now (out .exit)) r ⌝ }
 {
     let entries = start(book, party);
@@ -144,7 +147,7 @@ pub fn walk(
     let mut here = Received { dictionary, at };
     let mut i = next_own(book, party, 0);
     while i < upto {
-        let acted = act(book, since, here, party, i, log, out);
+        let acted = act(book, since, partners, here, party, i, log, out);
         here = acted.here;
         if acted.taken != 0 {
             return Passed {
@@ -171,8 +174,8 @@ pub struct Measured {
 
 // The walk with nothing lent to write to. Steps from `upto` on are not looked at: all are before it, or a smaller one is refused
 // already and nobody asks for the words.
-pub fn measure(book: &[u32], since: &ByRow, party: u32, upto: u32) -> Measured
-    requires { ⌜ WalkReady (now book) (now since) party upto ⌝ }
+pub fn measure(book: &[u32], since: &ByRow, partners: &ByRow, party: u32, upto: u32) -> Measured
+    requires { ⌜ WalkReady (now book) (now since) (now partners) party upto ⌝ }
     ensures { λ r. ⌜ (r .taken ≡ 0 → upto ≡ stepsOf (now (book .entry)) → r .words ≡ length (partWords (now (book .entry)) party)) × (r .words ≤ mostPart) × FoundBefore (now (book .entry)) party upto (r .step) (r .taken) ⌝ }
 {
     let mut log = [0u32; 1];
@@ -180,6 +183,7 @@ pub fn measure(book: &[u32], since: &ByRow, party: u32, upto: u32) -> Measured
     let passed = walk(
         book,
         since,
+        partners,
         party,
         upto,
         0,
@@ -196,12 +200,29 @@ pub fn measure(book: &[u32], since: &ByRow, party: u32, upto: u32) -> Measured
 
 // The program of a party that makes no taken atom. What it stores is kept beside it while its events are written, and follows behind
 // them, in END.
-pub fn write_program(book: &[u32], since: &ByRow, party: u32, out: &mut [u32], at: usize) -> usize
-    requires { ⌜ Valid (now book) × Claims (now book) (now since) × (party < partiesOf (now book)) × Unrefused (now book) party (stepsOf (now book)) ⌝ }
+pub fn write_program(
+    book: &[u32],
+    since: &ByRow,
+    partners: &ByRow,
+    party: u32,
+    out: &mut [u32],
+    at: usize,
+) -> usize
+    requires { ⌜ Valid (now book) × Claims (now book) (now since) × Partners (now book) (now partners) × (party < partiesOf (now book)) × Unrefused (now book) party (stepsOf (now book)) ⌝ }
     ensures { λ r. ⌜ Wrote (partWords (now (book .entry)) party) (now (out .entry)) at (now (out .exit)) r ⌝ }
 {
     let mut log = [0u32; 2048];
-    let events = walk(book, since, party, steps(book), 0, &mut log, out, at);
+    let events = walk(
+        book,
+        since,
+        partners,
+        party,
+        steps(book),
+        0,
+        &mut log,
+        out,
+        at,
+    );
     let stored = events.here.dictionary.kept;
     let pairs = put2(out, events.here.at, Code::END, narrow(stored / 2));
     put_all(out, pairs, &log, stored)

@@ -12,11 +12,11 @@ use Rattle.editor.proofs.write_events.Statement.{statement}
 use Rattle.editor.proofs.write_events.Tie as tie
 
 abbrev Inv-loop : tie.InvT-loop
-Inv-loop book since party log₀ out₀ at step₀ n dictionary₀ next₀ i₀ log out step dictionary next i =
+Inv-loop book since partners party log₀ out₀ at step₀ n dictionary₀ next₀ i₀ log out step dictionary next i =
     Flushed book party i log₀ log out₀ at out next dictionary step
 
 abbrev μ-loop : tie.MeasureT-loop
-μ-loop book since party log₀ out₀ at step₀ n dictionary₀ next₀ i₀ log out step dictionary next i = n - i
+μ-loop book since partners party log₀ out₀ at step₀ n dictionary₀ next₀ i₀ log out step dictionary next i = n - i
 
 -- a place or a need, by its name
 abbrev in-events : (tie.InvT-loop → tie.MeasureT-loop → Type 0) → Type 0
@@ -49,7 +49,7 @@ module _ (c : in-events tie.In-loop) where
 act-requires : in-events tie.Need-act-requires
 act-requires c κs =
     let in-loop : in-events tie.In-loop = search in
-    flushed-ready (more in-loop) (at-loop in-loop .loop .inv)
+    flushed-ready (more in-loop) (at-loop in-loop .loop .inv) (start in-loop .pre .partners)
 
 -- the step's words have room in the buffer
 put-words-requires : in-events tie.Need-put-words-requires

@@ -9,10 +9,10 @@ use Rattle.placing.proofs.place.Statement.{statement}
 use Rattle.placing.proofs.place.Tie as tie
 
 abbrev Inv-loop : tie.InvT-loop
-Inv-loop book sends₀ receives₀ ends₀ n party₀ sends receives ends party = Noting book n party sends receives ends
+Inv-loop book sends₀ receives₀ ends₀ partners n party₀ sends receives ends party = Noting book n party sends receives ends
 
 abbrev μ-loop : tie.MeasureT-loop
-μ-loop book sends₀ receives₀ ends₀ n party₀ sends receives ends party = n - party
+μ-loop book sends₀ receives₀ ends₀ partners n party₀ sends receives ends party = n - party
 
 -- a place or a need of `place`, by its name
 abbrev in-place : (tie.InvT-loop → tie.MeasureT-loop → Type 0) → Type 0
@@ -35,6 +35,7 @@ place-spec =
     (tie.spec
     Inv-loop
     μ-loop
+    (λ c κs. search needs)  -- partners-requires
     (λ c κs. search valid-headed)  -- parties-requires
     (λ c. search noting-start)  -- loop-holds
     (λ c κs. search noting-ready)  -- place-party-requires

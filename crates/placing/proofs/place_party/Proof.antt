@@ -8,11 +8,11 @@ use Rattle.placing.proofs.place_party.Statement.{statement}
 use Rattle.placing.proofs.place_party.Tie as tie
 
 abbrev Inv-loop : tie.InvT-loop
-Inv-loop book party sends₀ receives₀ n here₀ i₀ sends receives here i =
+Inv-loop book partners party sends₀ receives₀ n here₀ i₀ sends receives here i =
     Passing book party n i sends₀ sends receives₀ receives here
 
 abbrev μ-loop : tie.MeasureT-loop
-μ-loop book party sends₀ receives₀ n here₀ i₀ sends receives here i = n - i
+μ-loop book partners party sends₀ receives₀ n here₀ i₀ sends receives here i = n - i
 
 -- a place or a need of `place_party`, by its name
 abbrev in-place-party : (tie.InvT-loop → tie.MeasureT-loop → Type 0) → Type 0

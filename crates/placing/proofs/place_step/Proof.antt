@@ -31,7 +31,7 @@ take-step-requires c κs =
     let then2 : tie.Then2 = search in
     let after-step-receiver : tie.After-step-receiver = search in
     let start : tie.Start = search in
-    step-ready (start .pre) (after-step-receiver .step-receiver .ensures) (then2 .if2 .taken)
+    (step-ready (start .pre) (after-step-receiver .step-receiver .ensures) (then2 .if2 .taken), start .pre .partners)
 
 -- the RECEIVE is its first event
 returns-2 : tie.Need-returns-2

@@ -13,7 +13,8 @@ receive-messages-requires c κs =
     let after-step-count : tie.After-step-count = search in
     let after-step-first : tie.After-step-first = search in
     let start : tie.Start = search in
-    took-ready (start .pre) (after-step-first .step-first .ensures .0) (after-step-count .step-count .ensures .0)
+    let (ready, partners) = start .pre in
+    took-ready ready (after-step-first .step-first .ensures .0) (after-step-count .step-count .ensures .0) partners
     (after-rows .rows .ensures)
 
 -- what the messages took, wherever they have been received
@@ -30,7 +31,7 @@ module _ (c : tie.After-receive-messages) where
   taken : Took (start .args .book .now) (start .args .from) (first .step-first .result) (count .step-count .result)
       (c .receive-messages .result)
   taken =
-      took (start .pre) (first .step-first .ensures .0) (count .step-count .ensures .0) (c .receive-messages .ensures)
+      took (start .pre .0) (first .step-first .ensures .0) (count .step-count .ensures .0) (c .receive-messages .ensures)
 
 -- a stored term took two words of the log
 returns : tie.Need-returns
@@ -40,7 +41,7 @@ returns c =
     let after-step-count : tie.After-step-count = search in
     let after-step-first : tie.After-step-first = search in
     let here : tie.Start = search in
-    took-counts (here .pre) (after-step-first .step-first .ensures .0) (after-step-count .step-count .ensures .0)
+    took-counts (here .pre .0) (after-step-first .step-first .ensures .0) (after-step-count .step-count .ensures .0)
     (after-receive-messages .receive-messages .ensures) (after-narrow .narrow .ensures)
 
 pub take-step-spec : {M : Type 1} → statement M

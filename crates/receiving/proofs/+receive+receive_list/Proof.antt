@@ -22,27 +22,27 @@ use Rattle.receiving.proofs.+receive+receive_list.Tie.{close}
 
 -- ---- why it ends: `receive` hands on its row as the bound, with at most 9 rows, and `receive_list` a row below it
 -- 16 times the row, and 15
-abbrev μ-receive : Measures 3 receive-kinds.ps ℕ
-μ-receive κs a = 16 * a .1 .1 .0 + 15
+abbrev μ-receive : Measures 4 receive-kinds.ps ℕ
+μ-receive κs a = 16 * a .1 .1 .1 .0 + 15
 
 -- 16 times the bound, and the rows left
-abbrev μ-receive-list : Measures 3 receive-list-kinds.ps ℕ
-μ-receive-list κs a = 16 * a .1 .1 .0 + a .1 .1 .1 .1 .0
+abbrev μ-receive-list : Measures 4 receive-list-kinds.ps ℕ
+μ-receive-list κs a = 16 * a .1 .1 .1 .0 + a .1 .1 .1 .1 .1 .0
 
 -- ---- what each asks for where its measure is t, and where it is below t
-abbrev receive-at : ℕ → In 3 receive-kinds.ps
-receive-at t = and 3 receive-kinds.ps (is 3 receive-kinds.ps μ-receive t) receive.Pre
+abbrev receive-at : ℕ → In 4 receive-kinds.ps
+receive-at t = and 4 receive-kinds.ps (is 4 receive-kinds.ps μ-receive t) receive.Pre
 
-abbrev receive-below : ℕ → In 3 receive-kinds.ps
-receive-below t = and 3 receive-kinds.ps (falls 3 receive-kinds.ps _<_ μ-receive t) receive.Pre
+abbrev receive-below : ℕ → In 4 receive-kinds.ps
+receive-below t = and 4 receive-kinds.ps (falls 4 receive-kinds.ps _<_ μ-receive t) receive.Pre
 
-abbrev receive-list-at : ℕ → In 3 receive-list-kinds.ps
+abbrev receive-list-at : ℕ → In 4 receive-list-kinds.ps
 receive-list-at t =
-    and 3 receive-list-kinds.ps (is 3 receive-list-kinds.ps μ-receive-list t) receive-list.Pre
+    and 4 receive-list-kinds.ps (is 4 receive-list-kinds.ps μ-receive-list t) receive-list.Pre
 
-abbrev receive-list-below : ℕ → In 3 receive-list-kinds.ps
+abbrev receive-list-below : ℕ → In 4 receive-list-kinds.ps
 receive-list-below t =
-    and 3 receive-list-kinds.ps (falls 3 receive-list-kinds.ps _<_ μ-receive-list t) receive-list.Pre
+    and 4 receive-list-kinds.ps (falls 4 receive-list-kinds.ps _<_ μ-receive-list t) receive-list.Pre
 
 -- ---- `receive`
 abbrev receive-calls : ℕ → receive-lts.Claims
@@ -55,11 +55,11 @@ receive-calls t = (
 
 -- ---- `receive_list`
 abbrev receive-list-Inv-loop : receive-list-lts.InvT-loop
-receive-list-Inv-loop book here₀ bound first left log₀ out₀ place₀ next i₀ k₀ here log out place i k =
+receive-list-Inv-loop book partners here₀ bound first left log₀ out₀ place₀ next i₀ k₀ here log out place i k =
     Going book bound first left (withNext place₀ here₀) log₀ out₀ i k place here log out
 
 abbrev receive-list-μ-loop : receive-list-lts.MeasureT-loop
-receive-list-μ-loop book here₀ bound first left log₀ out₀ place₀ next i₀ k₀ here log out place i k = k
+receive-list-μ-loop book partners here₀ bound first left log₀ out₀ place₀ next i₀ k₀ here log out place i k = k
 
 abbrev receive-list-calls : ℕ → receive-list-lts.Claims
 receive-list-calls t = (
@@ -72,8 +72,8 @@ receive-list-calls t = (
 )
 
 -- a place or a need of `receive_list`, by its name
-abbrev in-receive-list : (receive-list-lts.Claims → In 3 receive-list-kinds.ps
-    → Out 3 receive-list-kinds.ps receive-list-kinds.r → receive-list-lts.InvT-loop → receive-list-lts.MeasureT-loop
+abbrev in-receive-list : (receive-list-lts.Claims → In 4 receive-list-kinds.ps
+    → Out 4 receive-list-kinds.ps receive-list-kinds.r → receive-list-lts.InvT-loop → receive-list-lts.MeasureT-loop
     → Type 0) → ℕ → Type 0
 in-receive-list P t =
     P (receive-list-calls t) (receive-list-at t) receive-list.Post receive-list-Inv-loop receive-list-μ-loop

@@ -14,5 +14,5 @@ opens-spec =
     (λ c κs. search (valid-headed, needs))  -- row-kind-requires
     (λ c. search no-cipher)  -- returns
     (λ c κs. (search needs, search needs, omega arith))  -- first-part-requires
-    (λ c κs. (search needs, omega arith))  -- can-open-requires
+    (λ c κs. (search needs, search needs, omega arith))  -- can-open-requires
     (λ c. search by-key))  -- returns-2

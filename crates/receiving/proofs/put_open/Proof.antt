@@ -18,6 +18,6 @@ put-open-spec =
     (λ c κs. omega arith)  -- narrow-requires
     (λ c κs. search needs)  -- put2-requires-2
     (λ c κs. (search needs, search needs, omega arith))  -- first-part-requires
-    (λ c κs. (search needs, omega arith))  -- write-partner-requires
+    (λ c κs. (search needs, search needs, omega arith))  -- write-partner-requires
     (λ c. search needs)  -- same-length
     (λ c. search open-wrote))  -- returns

@@ -8,11 +8,11 @@ use Rattle.receiving.proofs.receive_messages.Tie as tie
 use Rattle.book.specs.Headed.Laws.{small-pool}
 
 abbrev Inv-loop : tie.InvT-loop
-Inv-loop book here₀ bound first left log₀ out₀ place₀ next i₀ k₀ here log out place i k =
+Inv-loop book partners here₀ bound first left log₀ out₀ place₀ next i₀ k₀ here log out place i k =
     Going book bound first left (withNext place₀ here₀) log₀ out₀ i k place here log out
 
 abbrev μ-loop : tie.MeasureT-loop
-μ-loop book here₀ bound first left log₀ out₀ place₀ next i₀ k₀ here log out place i k = k
+μ-loop book partners here₀ bound first left log₀ out₀ place₀ next i₀ k₀ here log out place i k = k
 
 -- the messages' placeholders are handed out, and none is received yet
 loop-holds : tie.Need-loop-holds Inv-loop μ-loop

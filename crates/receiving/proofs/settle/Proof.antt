@@ -70,7 +70,7 @@ settle-spec =
     (λ c. search needs)  -- same-length
     returns
     (λ c κs. search needs)  -- opens-requires
-    (λ c κs. (search needs, search needs, cipher (search)))  -- put-open-requires
+    (λ c κs. (search needs, search needs, search needs, cipher (search)))  -- put-open-requires
     (λ c κs. search (valid-headed, needs))  -- row-first-requires
     (λ c. omega arith)  -- add-first
     (λ c κs. search (valid-headed, needs))  -- row-count-requires

@@ -9,6 +9,7 @@ accept-valid-spec =
     tie.close
     (tie.spec
     (λ c κs. search needs)  -- claims-requires
+    (λ c κs. search needs)  -- partners-requires
     (λ c κs. search needs)  -- survey-requires
     (λ c. search needs)  -- sub-t7
     (λ c. search taken-accept)  -- returns

@@ -39,6 +39,7 @@ returns-3 c =
     let else2 : tie.Else2 = search in
     let else1 : tie.Else1 = search in
     let after-survey : tie.After-survey = search in
+    let after-partners : tie.After-partners = search in
     let after-claims : tie.After-claims = search in
     let start : tie.Start = search in
     let survey = after-survey .survey .ensures in
@@ -46,7 +47,12 @@ returns-3 c =
     let nobody = among-nobody (survey .found) none in
     record {
       says = λ out e. length-says (start .pre) (survey .found) none (survey .ends none) out (rw e (else2 .if2 .left));
-      writable = λ z. record { valid = start .pre; claims = after-claims .claims .ensures; nobody = nobody };
+      writable = λ z. record {
+        valid = start .pre;
+        claims = after-claims .claims .ensures;
+        partners = after-partners .partners .ensures;
+        nobody = nobody;
+      };
       heads = λ z. survey .heads none;
     }
 
@@ -55,6 +61,7 @@ prepare-valid-spec =
     tie.close
     (tie.spec
     (λ c κs. search needs)  -- claims-requires
+    (λ c κs. search needs)  -- partners-requires
     (λ c κs. search needs)  -- survey-requires
     (λ c. search needs)  -- sub-t10
     returns

@@ -11,10 +11,10 @@ use Rattle.translator.proofs.write_bodies.Statement.{statement}
 use Rattle.translator.proofs.write_bodies.Tie as tie
 
 abbrev Inv-loop : tie.InvT-loop
-Inv-loop book since out₀ at n next₀ party₀ out next party = Laid book n party out₀ at out next
+Inv-loop book since partners out₀ at n next₀ party₀ out next party = Laid book n party out₀ at out next
 
 abbrev μ-loop : tie.MeasureT-loop
-μ-loop book since out₀ at n next₀ party₀ out next party = n - party
+μ-loop book since partners out₀ at n next₀ party₀ out next party = n - party
 
 -- nobody would make a taken atom, so neither would this party
 write-program-requires : tie.Need-write-program-requires Inv-loop μ-loop
@@ -22,7 +22,7 @@ write-program-requires c κs =
     let at-loop : tie.At-loop Inv-loop μ-loop = search in
     let start : tie.Start Inv-loop μ-loop = search in
     let l : at-loop .loop .party < parties (start .args .book .now) = omega arith in
-    (start .pre .valid, start .pre .claims, l, start .pre .nobody _ l)
+    (start .pre .valid, start .pre .claims, start .pre .partners, l, start .pre .nobody _ l)
 
 pub write-bodies-spec : {M : Type 1} → statement M
 write-bodies-spec =

@@ -13,11 +13,11 @@ use Rattle.translator.proofs.write_heads.Statement.{statement}
 use Rattle.translator.proofs.write_heads.Tie as tie
 
 abbrev Inv-loop : tie.InvT-loop
-Inv-loop book since out₀ at n next₀ end₀ all step₀ taken₀ party₀ out next end step taken party =
+Inv-loop book since partners out₀ at n next₀ end₀ all step₀ taken₀ party₀ out next end step taken party =
     Measuring book n party out₀ at out next end step taken
 
 abbrev μ-loop : tie.MeasureT-loop
-μ-loop book since out₀ at n next₀ end₀ all step₀ taken₀ party₀ out next end step taken party = n - party
+μ-loop book since partners out₀ at n next₀ end₀ all step₀ taken₀ party₀ out next end step taken party = n - party
 
 -- the first program begins behind the number of parties and two words for each
 loop-holds : tie.Need-loop-holds Inv-loop μ-loop

@@ -10,11 +10,11 @@ use Rattle.walking.proofs.walk.Tie as tie
 use Rattle.book.specs.Headed.Laws.{few-steps}
 
 abbrev Inv-loop : tie.InvT-loop
-Inv-loop book since party upto kept log₀ out₀ at here₀ i₀ log out here i =
+Inv-loop book since partners party upto kept log₀ out₀ at here₀ i₀ log out here i =
     Walked book party i kept log₀ log at out₀ out here
 
 abbrev μ-loop : tie.MeasureT-loop
-μ-loop book since party upto kept log₀ out₀ at here₀ i₀ log out here i = upto - i
+μ-loop book since partners party upto kept log₀ out₀ at here₀ i₀ log out here i = upto - i
 
 -- a place or a need of `walk`, by its name
 abbrev in-walk : (tie.InvT-loop → tie.MeasureT-loop → Type 0) → Type 0
@@ -35,6 +35,7 @@ act-requires c κs =
     let start : in-walk tie.Start = search in
     record {
       valid = start .pre .valid;
+      partners = start .pre .partners;
       step = omega arith;
       fits = walked-fits (start .pre) (in-loop .loop-test .taken) (at-loop .loop .inv);
     }

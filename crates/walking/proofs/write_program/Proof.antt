@@ -31,7 +31,7 @@ returns c =
     let after-walk : tie.After-walk = search in
     let after-steps : tie.After-steps = search in
     let start : tie.Start = search in
-    let (valid, claims, inside, unrefused) = start .pre in
+    let (valid, claims, partners, inside, unrefused) = start .pre in
     programmed valid inside refl (after-steps .steps .ensures) unrefused
     (after-walk .walk .ensures) (after-narrow .narrow .ensures) (after-put2 .put2 .ensures)
     (after-put-all .put-all .ensures)

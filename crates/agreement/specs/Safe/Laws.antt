@@ -121,7 +121,7 @@ module _ (N : Narration) (all : List Term) where
     good-by : (t : Term) (o : Did) → getElem? ns x ≡ some t → (canOpen δ t ≡ true → Good hs hs ns o)
         → Good hs hs ns (byRule (rule δ t) (compared t x δ) o (kept t x δ))
     unfolding byRule
-    good-by t o e f = rule-ind (λ r. Good hs hs ns (byRule r (compared t x δ) o (kept t x δ))) δ t (good-compared t e) f (good-kept t e)
+    good-by t o e f = rule-ind (λ r. Good hs hs ns (byRule r (compared t x δ) o (kept t x δ))) δ t (good-compared t e) f (λ b. good-kept t e)
 
   mutual
     unfolding receive

@@ -26,12 +26,12 @@ pub rule-store : (δ : Dictionary) (t : Term) → buildable δ t ≡ false → c
 unfolding rule
 rule-store δ t e f = rw (pick-false (buildable δ t) Rule.compare (pick (canOpen δ t) Rule.unlock Rule.store) e) (pick-false _ _ _ f)
 
--- what a rule's answer means, whatever order the rules stand in: a term is compared only if it is buildable, and opened only if
--- it can be
+-- what a rule's answer means, whatever order the rules stand in: a term is compared only if it is buildable, opened only if it can
+-- be, and stored only if it isn't buildable
 pub rule-ind : (P : Rule → Type 0) (δ : Dictionary) (t : Term) → (buildable δ t ≡ true → P Rule.compare)
-    → (canOpen δ t ≡ true → P Rule.unlock) → P Rule.store → P (rule δ t)
+    → (canOpen δ t ≡ true → P Rule.unlock) → (buildable δ t ≡ false → P Rule.store) → P (rule δ t)
 unfolding rule
-rule-ind P δ t f g h = pick-ind P (buildable δ t) _ _ f (λ e. pick-ind P (canOpen δ t) _ _ g (λ d. h))
+rule-ind P δ t f g h = pick-ind P (buildable δ t) _ _ f (λ e. pick-ind P (canOpen δ t) _ _ g (λ d. h e))
 
 -- what holds of what each rule does holds of what the rule that fits does
 pub by-rule : (P : Did → Type 0) (r : Rule) (c o s : Did) → P c → P o → P s → P (byRule r c o s)
@@ -91,7 +91,7 @@ Settles c d = length (d .events) + length (d .stored) ≡ c + length (d .given)
 settles-rule : (t : Term) (p : ℕ) (δ : Dictionary) (o : Did) → (canOpen δ t ≡ true → Settles 1 o)
     → Settles 1 (byRule (rule δ t) (compared t p δ) o (kept t p δ))
 unfolding byRule
-settles-rule t p δ o h = rule-ind (λ r. Settles 1 (byRule r (compared t p δ) o (kept t p δ))) δ t (λ e. refl) h refl
+settles-rule t p δ o h = rule-ind (λ r. Settles 1 (byRule r (compared t p δ) o (kept t p δ))) δ t (λ e. refl) h (λ e. refl)
 
 settles-then : (c : ℕ) (d e : Did) → Settles 1 d → Settles c e → Settles (suc c) (followed d e)
 settles-then c d e h k =

@@ -1,8 +1,8 @@
 -- A party stores no more terms than there are rows. Assumes nothing.
 use Prim.Native.Nat.{ℕ, suc, _+_, _≤_, _<_}
-use mathlib.Core.Bool.{Bool, true, false}
+use mathlib.Core.Bool.{Bool, true, false, true≢false}
 use mathlib.Core.List.{List, [], _∷_}
-use mathlib.Core.Path.{_≡_, refl, ap, _∙_}
+use mathlib.Core.Path.{_≡_, refl, sym, ap, _∙_}
 use native.Mathlib.Omega.{arith}
 use lib.ListN.{length, length-append}
 use Rattle.words.specs.Choice.{pick}
@@ -15,12 +15,12 @@ use Rattle.terms.specs.Table.Laws.{parts-rows}
 use Rattle.book.specs.Layout.{table, rows, steps}
 use Rattle.book.specs.Valid.{Valid}
 use Rattle.book.specs.Valid.Laws.{formed}
-use Rattle.translation.specs.Dictionary.{Held, Dictionary, isHeld, enter, Derives, start}
+use Rattle.translation.specs.Dictionary.{Held, Dictionary, isHeld, enter, buildable, Derives, start}
 use Rattle.translation.specs.Dictionary.Laws.{enter-same, Grows, enter-grows, buildable-exact}
 use Rattle.translation.specs.Build.{buildAll}
 use Rattle.translation.specs.Build.Laws.{buildAll-makes}
 use Rattle.translation.specs.Receive.{Did, nothing, followed, rule, byRule, compared, kept, receive, receiveAll}
-use Rattle.translation.specs.Receive.Laws.{rule-compare, by-rule}
+use Rattle.translation.specs.Receive.Laws.{rule-ind}
 use Rattle.translation.specs.Program.{Act, actsOf, act, walk, walked}
 use Rattle.translation.specs.Narration.{stepAt}
 use Rattle.translation.specs.Rows.Laws.{ActRows, ActsRows, own-rows, steps-rows}
@@ -35,6 +35,14 @@ one-most h = pick-ind (λ k. k ≤ 1) h 1 0 (λ e. omega arith) (λ e. omega ari
 
 one-grows : (h k : Bool) → (h ≡ true → k ≡ true) → one h ≤ one k
 one-grows h k f = pick-ind (λ m. m ≤ one k) h 1 0 (λ e. let z : one k ≡ 1 = pick-true k _ _ (f e) in omega arith) (λ e. omega arith)
+
+-- what isn't buildable isn't held
+not-held : (δ : Dictionary) (t : Term) → buildable δ t ≡ false → isHeld (δ t) ≡ false
+not-held δ t b = go (isHeld (δ t)) refl
+  where
+    go : (v : Bool) → isHeld (δ t) ≡ v → v ≡ false
+    go true e = absurd (true≢false (sym (buildable-exact δ t .1 (Derives.held e)) ∙ b))
+    go false e = refl
 
 module _ (tab : Table) (n : ℕ) where
   -- ---- rowsHeld
@@ -67,15 +75,13 @@ module _ (tab : Table) (n : ℕ) where
   raises-then : (δ : Dictionary) (d e : Did) → Raises δ d → Raises (d .dictionary) e → Raises δ (followed d e)
   raises-then δ d e h k = let l = length-append (d .stored) (e .stored) in omega arith
 
-  -- a term that is held is compared, so only one that is not is stored
+  -- only a term that isn't buildable is stored
   raises-rule : (t : Term) (p : ℕ) (δ : Dictionary) (o : Did) → IsRow tab n t → Raises δ o
       → Raises δ (byRule (rule δ t) (compared t p δ) o (kept t p δ))
   unfolding byRule
-  raises-rule t p δ o i h = go (isHeld (δ t)) refl
-    where
-      go : (v : Bool) → isHeld (δ t) ≡ v → Raises δ (byRule (rule δ t) (compared t p δ) o (kept t p δ))
-      go true e = rw (rule-compare δ t (buildable-exact δ t .1 (Derives.held e))) (omega arith)
-      go false e = by-rule (Raises δ) (rule δ t) _ _ _ (omega arith) h (let k = held-more δ t p i e in omega arith)
+  raises-rule t p δ o i h =
+      rule-ind (λ r. Raises δ (byRule r (compared t p δ) o (kept t p δ))) δ t (λ b. omega arith) (λ b. h)
+      (λ b. let k = held-more δ t p i (not-held δ t b) in omega arith)
 
   module _ (ok : Formed n tab) where
     mutual

@@ -60,27 +60,30 @@ stepFrom p q ts = record { sender = p; receiver = q; messages = ts }
 abbrev pub instead : ℕ → List Event → (ℕ → List Event) → ℕ → List Event
 instead p es programs = change programs p es
 
--- ---- (a) "Comparing row against row where duplicates are let in": B knows the cipher of the nonce, but as another row than the one that
--- A sends, finds that it can't build it, and opens it. From then on its placeholders are off.
+-- ---- (a) "Comparing row against row where duplicates are let in": B knows the key of both ciphers, but the first has it as another row,
+-- so that B finds that it can't open that one, and stores it. From then on its placeholders are off.
+abbrev pub madeKey : Term
+madeKey = Term.operation 7 (oneTerm key)
+
 unfoldable pub duplicates : Narration
 duplicates =
     record {
       names = partyName 0 ∷ partyName 1 ∷ [];
-      knows = (key ∷ nonce ∷ []) ∷ (key ∷ Term.cipher key (oneTerm nonce) ∷ []) ∷ [];
-      says = stepFrom 0 1 (twoTerms (Term.cipher key (oneTerm nonce)) (Term.cipher key (oneTerm token))) ∷ [];
+      knows = (madeKey ∷ nonce ∷ []) ∷ (madeKey ∷ []) ∷ [];
+      says = stepFrom 0 1 (twoTerms (Term.cipher madeKey (oneTerm nonce)) (Term.cipher madeKey (oneTerm token))) ∷ [];
     }
 
 pub duplicates-right : programOf duplicates 1
-    ≡ Event.receives 0 0 2 ∷ Event.checks 0 (Image.itself (Term.cipher key (oneTerm nonce)))
-    ∷ Event.opens 1 2 1 (Image.itself key) ∷ Event.ends ((token, 2) ∷ []) ∷ []
+    ≡ Event.receives 0 0 2 ∷ Event.opens 0 2 1 (Image.itself madeKey)
+    ∷ Event.opens 1 3 1 (Image.itself madeKey) ∷ Event.ends ((nonce, 2) ∷ (token, 3) ∷ []) ∷ []
 unfolding computes duplicates
 duplicates-right = refl
 
 unfoldable pub row-by-row : ℕ → List Event
 row-by-row =
     instead 1
-    (Event.receives 0 0 2 ∷ Event.opens 0 2 1 (Image.itself key)
-    ∷ Event.opens 1 3 1 (Image.itself key) ∷ Event.ends ((nonce, 2) ∷ (token, 3) ∷ []) ∷ [])
+    (Event.receives 0 0 2 ∷ Event.opens 1 2 1 (Image.itself madeKey)
+    ∷ Event.ends ((Term.cipher madeKey (oneTerm nonce), 0) ∷ (token, 2) ∷ []) ∷ [])
     (programOf duplicates)
 
 pub row-by-row-breaks : Breaks duplicates row-by-row (Bound duplicates)
@@ -90,7 +93,7 @@ row-by-row-breaks =
     record {
       state = stateAfter duplicates row-by-row ms;
       reached = sequence-reach (receiverOf duplicates) _ ms Reach.start;
-      fails = λ h. (let e : some token ≡ some nonce = h 1 2 nonce refl in let z : _≡_ {A = ℕ} 5 4 = cc in omega arith);
+      fails = λ h. (let e : some nonce ≡ some token = h 1 2 token refl in let z : _≡_ {A = ℕ} 4 5 = cc in omega arith);
     }
 
 -- ---- (b) "Opening with the cipher's own key where its partner is asked": B halts.

@@ -24,7 +24,6 @@ use Rattle.holding.specs.Doing.{Doing}
 use Rattle.holding.specs.Doing.Laws.{doing-none, doing-as}
 use Rattle.receiving.specs.declared.Dictionary.{Dictionary}
 use Rattle.receiving.specs.declared.Received.{Received}
-use Rattle.walking.specs.declared.Acted.{Acted}
 use Rattle.walking.specs.Walk.{IdleUntil}
 use Rattle.walking.specs.Walk.Laws.{before-skip}
 use Rattle.holding.specs.Partners.{Partners}
@@ -54,13 +53,14 @@ pub record Flushed (b : List ℕ) (p i : ℕ) (log₀ log out₀ : List ℕ) (a 
   pub along : Along b p i 0 log₀ log 0 [] [] (standing d count)
   pub wrote : Wrote (bytesOfAll (programWords (rowOf b) (before b p i .events))) out₀ a out next
   pub size : length step ≡ stepWords
+  pub long : length (d .entries) ≡ 1024
 
 -- steps in which the party has no part add nothing
 module _ {b : List ℕ} {p i j : ℕ} (valid : Valid b) (idle : IdleUntil b p i j) {log₀ log out₀ : List ℕ} {a : ℕ} {out : List ℕ} {next : ℕ}
     {d : Dictionary} {step : List ℕ} where
   skip : {c : ℕ} → Along b p i 0 log₀ log 0 [] [] (standing d c) → Wrote (bytesOfAll (programWords (rowOf b) (before b p i .events))) out₀ a out next
-      → length step ≡ stepWords → Flushed b p j log₀ log out₀ a out next d step
-  skip {c} g w l =
+      → length step ≡ stepWords → length (d .entries) ≡ 1024 → Flushed b p j log₀ log out₀ a out next d step
+  skip {c} g w l m =
       let same = before-skip b p idle in
       record {
         valid = valid;
@@ -69,56 +69,59 @@ module _ {b : List ℕ} {p i j : ℕ} (valid : Valid b) (idle : IdleUntil b p i 
         along = doing-as g same;
         wrote = wrote-as w (ap (λ (e : Did). bytesOfAll (programWords (rowOf b) (e .events))) same);
         size = l;
+        long = m;
       }
 
 -- ---- at the start the party holds what it knows
 pub flushed-start : {b : List ℕ} {p i : ℕ} {log out e : List ℕ} {a : ℕ} {d : Dictionary} {step : List ℕ}
-    → Valid b → view b e ≡ start (map (term (table b)) (known b p)) → (d .entries ≡ e) × (d .next ≡ 0) × (d .kept ≡ 0) → IdleUntil b p 0 i
-    → length step ≡ stepWords → Flushed b p i log log out a out a d step
+    → Valid b → length e ≡ 1024 → view b e ≡ start (map (term (table b)) (known b p)) → (d .entries ≡ e) × (d .next ≡ 0) × (d .kept ≡ 0)
+    → IdleUntil b p 0 i → length step ≡ stepWords → Flushed b p i log log out a out a d step
 unfolding programWords
-flushed-start {b} {p} {e = e} v h w idle l =
+flushed-start {b} {p} {e = e} v long h w idle l =
     let none = before-none b p in
     skip v idle {d = _} {c = 0} (rw (w .0, w .1, w .2) (doing-as (rw (← h) (doing-none {b = b} {x = e})) none))
-    (wrote-as bytes-none (ap (λ (f : Did). bytesOfAll (programWords (rowOf b) (f .events))) none)) l
+    (wrote-as bytes-none (ap (λ (f : Did). bytesOfAll (programWords (rowOf b) (f .events))) none)) l (ap length (w .0) ∙ long)
 
 module _ {b : List ℕ} {p i : ℕ} (h : i < steps b) {log₀ log out₀ : List ℕ} {a : ℕ} {out : List ℕ} {next : ℕ} {d : Dictionary}
     {step : List ℕ} (g : Flushed b p i log₀ log out₀ a out next d step) where
   -- ---- a step more can be done
   pub flushed-ready : {ps : List ℕ} → Partners b ps → ActReady b ps p i (standing d 0)
-  flushed-ready partners = record { valid = g .valid; partners = partners; step = h; fits = along-fits b p i (g .along) (g .valid) h }
+  flushed-ready partners = record { valid = g .valid; partners = partners; step = h; size = g .long; fits = along-fits b p i (g .along) (g .valid) h }
 
-  module _ {l logAfter stepAfter : List ℕ} {r : Acted} (w : Acting b l p i (standing d 0) log logAfter step stepAfter r) where
-    -- the step's words stand in front of the buffer
-    abbrev did : Did
-    did = actDid b p i (standing d 0)
+  module _ {l logAfter stepAfter : List ℕ} {y : Received} {t : ℕ} (w : Acting b l p i (standing d 0) log logAfter step stepAfter y t)
+    where
+      -- the step's words stand in front of the buffer
+      abbrev did : Did
+      did = actDid b p i (standing d 0)
 
-    few : length (programWords (rowOf b) (did .events)) ≤ stepWords
-    few = step-within b (g .valid) (rowOf b) p i h _ _ .words
+      few : length (programWords (rowOf b) (did .events)) ≤ stepWords
+      few = step-within b (g .valid) (rowOf b) p i h _ _ .words
 
-    pub flushed-size : length stepAfter ≡ stepWords
-    flushed-size = wrote-length (w .doing .wrote) ∙ g .size
+      pub flushed-size : length stepAfter ≡ stepWords
+      flushed-size = wrote-length (w .doing .wrote) ∙ g .size
 
-    behind : r .here .at ≡ length (programWords (rowOf b) (did .events))
-    behind = let n = w .doing .wrote .next in let f = few in omega arith
+      behind : y .at ≡ length (programWords (rowOf b) (did .events))
+      behind = let n = w .doing .wrote .next in let f = few in omega arith
 
-    pub flushed-few : r .here .at ≤ length stepAfter
-    flushed-few = let e = behind in let f = few in let s = flushed-size in omega arith
+      pub flushed-few : y .at ≤ length stepAfter
+      flushed-few = let e = behind in let f = few in let s = flushed-size in omega arith
 
-    front : take (r .here .at) stepAfter ≡ programWords (rowOf b) (did .events)
-    front =
-        let f = few in
-        let s = g .size in
-        ap (λ k. take k stepAfter) behind ∙ wrote-take (w .doing .wrote) (omega arith)
+      front : take (y .at) stepAfter ≡ programWords (rowOf b) (did .events)
+      front =
+          let f = few in
+          let s = g .size in
+          ap (λ k. take k stepAfter) behind ∙ wrote-take (w .doing .wrote) (omega arith)
 
-    -- ---- and its bytes are behind those of the steps before
-    pub flushed-on : {j : ℕ} {outAfter : List ℕ} {after : ℕ} → Wrote (bytesOfAll (take (r .here .at) stepAfter)) out next outAfter after
-        → IdleUntil b p (i + 1) j → Flushed b p j log₀ logAfter out₀ a outAfter after (r .here .dictionary) stepAfter
-    flushed-on {j} {outAfter} {after} put idle =
-        let events = programWords (rowOf b) (before b p i .events) in
-        let both = bytes-then events (programWords (rowOf b) (did .events)) (g .wrote) (wrote-as put (ap bytesOfAll (sym front))) in
-        let joined = program-append (rowOf b) (before b p i .events) (did .events) in
-        let more = ap (λ (f : Did). programWords (rowOf b) (f .events)) (along-more b p i (g .along)) ∙ joined in
-        skip (g .valid) idle (along-on b p i (g .along) (doing-counted (w .doing) (g .count))) (wrote-as both (ap bytesOfAll more)) flushed-size
+      -- ---- and its bytes are behind those of the steps before
+      pub flushed-on : {j : ℕ} {outAfter : List ℕ} {after : ℕ} → Wrote (bytesOfAll (take (y .at) stepAfter)) out next outAfter after
+          → IdleUntil b p (i + 1) j → Flushed b p j log₀ logAfter out₀ a outAfter after (y .dictionary) stepAfter
+      flushed-on {j} {outAfter} {after} put idle =
+          let events = programWords (rowOf b) (before b p i .events) in
+          let both = bytes-then events (programWords (rowOf b) (did .events)) (g .wrote) (wrote-as put (ap bytesOfAll (sym front))) in
+          let joined = program-append (rowOf b) (before b p i .events) (did .events) in
+          let more = ap (λ (f : Did). programWords (rowOf b) (f .events)) (along-more b p i (g .along)) ∙ joined in
+          skip (g .valid) idle (along-on b p i (g .along) (doing-counted (w .doing) (g .count))) (wrote-as both (ap bytesOfAll more)) flushed-size
+          (w .size)
 
 -- ---- all steps
 pub flushed-end : {b : List ℕ} {p i n : ℕ} {log₀ log out₀ : List ℕ} {a : ℕ} {out : List ℕ} {next : ℕ} {d : Dictionary} {step : List ℕ}

@@ -12,7 +12,6 @@ use holding::start;
 use octets::load;
 use octets::put_words;
 use receiving::Dictionary;
-use receiving::Received;
 use translation::Answer;
 use translator::prepare;
 use walking::act;
@@ -74,20 +73,33 @@ fn write_events(
     let mut step = [0u32; Most::STEP];
     let n = steps(book);
     let entries = start(book, party);
-    let mut dictionary = Dictionary::new(entries, 0);
+    let mut held = Dictionary::new(entries, 0);
     let mut next = at;
     let mut i = next_own(book, party, 0);
     while i < n {
-        let here = Received { dictionary, at: 0 };
-        let acted = act(book, since, partners, here, party, i, log, &mut step);
-        let there = acted.here;
-        dictionary = there.dictionary;
-        next = put_words(out, next, &step, there.at);
+        let given = held.next;
+        let stored = held.kept;
+        let acted = act(
+            book,
+            since,
+            partners,
+            &mut held.entries,
+            given,
+            stored,
+            party,
+            i,
+            log,
+            &mut step,
+            0,
+        );
+        held.next = acted.next;
+        held.kept = acted.kept;
+        next = put_words(out, next, &step, acted.at);
         i = next_own(book, party, i + 1);
     }
     Events {
         at: next,
-        kept: dictionary.kept,
+        kept: held.kept,
     }
 }
 

@@ -30,14 +30,13 @@ use Rattle.receiving.specs.declared.Received.{Received}
 use Rattle.receiving.specs.Turn.{inTurn}
 use Rattle.receiving.specs.Receiving.{listDid, ListReady, Led}
 use Rattle.walking.specs.Found.{foundAt}
-use Rattle.walking.specs.Walking.{actDid, ActReady, Acting}
+use Rattle.walking.specs.Walking.{standing, actDid, ActReady, Acting}
 
 -- ---- the party sends the step
 pub acts-send : {b l : List ℕ} {p s : ℕ} {x : Received} {f n z : ℕ} {e out outAfter log : List ℕ} {m : Made}
     → f ≡ stepFirst b s → n ≡ stepCount b s → z ≡ sender b s → z ≡ p
     → Sends b l s (buildAll (terms (table b) (listAt b f n)) (view b (x .dictionary .entries))) (x .at) e out outAfter m
-    → Acting b l p s x log log out outAfter
-    (record { here = record { dictionary = record { entries = e; next = x .dictionary .next; kept = x .dictionary .kept }; at = m .at }; taken = m .taken })
+    → Acting b l p s x log log out outAfter (standing e (x .dictionary .next) (x .dictionary .kept) (m .at)) (m .taken)
 unfolding pairWords foundAt
 acts-send {b} {p = p} {s = s} {x = x} df dn dz e w =
     let same = messages-at b s _ _ df dn in
@@ -51,6 +50,7 @@ acts-send {b} {p = p} {s = s} {x = x} df dn dz e w =
         keeps = wrote-none;
       }) (step-sends b p s δ (x .dictionary .next) is);
       found = w .found ∙ sym (pick-true _ _ _ (eq-eqb (sender b s) p is) ∙ rw (← same));
+      size = w .size;
     }
 
 -- ---- it receives the step: RECEIVE, and then the messages in turn
@@ -91,34 +91,37 @@ module _ {b : List ℕ} {p s : ℕ} {x : Received} {f n z y : ℕ} where
       }
 
   pub acts-receive : {l log logAfter out middle outAfter : List ℕ} {a c : ℕ} {r : Received}
+      → length (r .dictionary .entries) ≡ 1024
       → f ≡ stepFirst b s → n ≡ stepCount b s → z ≡ sender b s → (z ≡ p → ⊥) → y ≡ receiver b s → y ≡ p → c ≡ n
       → Wrote (3 ∷ s ∷ x .dictionary .next ∷ c ∷ []) out (x .at) middle a
       → Led b (listDid b f n x) (record { dictionary = x .dictionary; at = a }) log logAfter middle outAfter r
-      → Acting b l p s x log logAfter out outAfter (record { here = r; taken = 0 })
+      → Acting b l p s x log logAfter out outAfter r 0
   unfolding pairWords programWords eventWords foundAt
-  acts-receive {log = log} {out = out} {middle = middle} {a = a} df dn dz e dy h dc w t =
+  acts-receive {log = log} {out = out} {middle = middle} {a = a} size df dn dz e dy h dc w t =
       let head : Led b (announced b s n x) x log log out middle (record { dictionary = x .dictionary; at = a }) =
       record { holds = refl; goes = sym (add-zero _); wrote = wrote-as w (rw dc); keeps = wrote-none } in
       record {
         doing = doing-as (doing-then b _ _ head t) (step-turns b p s df dn dz e dy h x);
         found = sym (pick-false _ _ _ (ne-eqb (sender b s) p (λ q. e (dz ∙ q))));
+        size = size;
       }
 
   -- with no messages RECEIVE is all
-  pub acts-empty : {l log out middle : List ℕ} {a c : ℕ}
+  pub acts-empty : {l log out middle : List ℕ} {a c : ℕ} → length (x .dictionary .entries) ≡ 1024
       → f ≡ stepFirst b s → n ≡ stepCount b s → z ≡ sender b s → (z ≡ p → ⊥) → y ≡ receiver b s → y ≡ p → c ≡ n → n ≡ 0
       → Wrote (3 ∷ s ∷ x .dictionary .next ∷ c ∷ []) out (x .at) middle a
-      → Acting b l p s x log log out middle (record { here = record { dictionary = x .dictionary; at = a }; taken = 0 })
-  acts-empty df dn dz e dy h dc o w = acts-receive df dn dz e dy h dc w (doing-as doing-none (turns-none b p s df dn dz e dy h x o))
+      → Acting b l p s x log log out middle (record { dictionary = x .dictionary; at = a }) 0
+  acts-empty size df dn dz e dy h dc o w = acts-receive size df dn dz e dy h dc w (doing-as doing-none (turns-none b p s df dn dz e dy h x o))
 
 -- ---- it has no part in the step
-pub acts-idle : {b l : List ℕ} {p s : ℕ} {x : Received} {z y : ℕ} {log out : List ℕ}
+pub acts-idle : {b l : List ℕ} {p s : ℕ} {x : Received} {z y : ℕ} {log out : List ℕ} → length (x .dictionary .entries) ≡ 1024
     → z ≡ sender b s → (z ≡ p → ⊥) → y ≡ receiver b s → (y ≡ p → ⊥)
-    → Acting b l p s x log log out out (record { here = x; taken = 0 })
+    → Acting b l p s x log log out out x 0
 unfolding foundAt
-acts-idle {b} {p = p} {s = s} {x = x} dz e dy h =
+acts-idle {b} {p = p} {s = s} {x = x} size dz e dy h =
     let no : sender b s ≡ p → ⊥ = λ q. e (dz ∙ q) in
     record {
       doing = doing-as doing-none (step-idle b p s (view b (x .dictionary .entries)) (x .dictionary .next) no (λ q. h (dy ∙ q)));
       found = sym (pick-false _ _ _ (ne-eqb (sender b s) p no));
+      size = size;
     }

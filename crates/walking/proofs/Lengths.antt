@@ -30,12 +30,12 @@ module _ {b : List ℕ} (v : Valid b) (p : ℕ) {i : ℕ} {log logAfter out outA
       omega arith
 
 -- ---- and they are few
-pub record FewPlaces (x : Received) : Type 0 where
-  pub words : x .at ≤ mostEvents
-  pub kept : x .dictionary .kept ≤ 2 * mostPlaceholders
+pub record FewPlaces (r : Passed) : Type 0 where
+  pub words : r .at ≤ mostEvents
+  pub kept : r .kept ≤ 2 * mostPlaceholders
 
 pub few-places : {b : List ℕ} {p upto : ℕ} {log logAfter out outAfter : List ℕ} {r : Passed} → Valid b
-    → Walking b p upto 0 log logAfter 0 out outAfter r → FewPlaces (r .here)
+    → Walking b p upto 0 log logAfter 0 out outAfter r → FewPlaces r
 few-places {b} {p} v g =
     let e = ends-at v p (g .within) (g .along) in
     let k = ends-kept v p (g .within) (g .along) in
@@ -46,7 +46,7 @@ few-places {b} {p} v g =
 
 -- a log of 2,048 words has room for all pairs
 pub few-pairs : {b : List ℕ} {p upto a : ℕ} {log logAfter out outAfter : List ℕ} {r : Passed} → Valid b
-    → Walking b p upto 0 log logAfter a out outAfter r → r .here .dictionary .kept ≤ 2048
+    → Walking b p upto 0 log logAfter a out outAfter r → r .kept ≤ 2048
 few-pairs {b} {p} v g =
     let k = ends-kept v p (g .within) (g .along) in
     let s = stored-few b v p (g .far) (g .within) in

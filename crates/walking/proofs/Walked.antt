@@ -2,7 +2,7 @@
 use Prim.Native.Nat.{ℕ, _+_, _≤_, _<_}
 use native.Mathlib.Omega.{arith}
 use mathlib.Core.List.{List, map}
-use mathlib.Core.Path.{_≡_, _∙_}
+use mathlib.Core.Path.{_≡_, ap, _∙_}
 use lib.ListN.{length}
 use Rattle.words.specs.Choice.{pick}
 use Rattle.words.specs.Overlay.Laws.{wrote-length}
@@ -17,7 +17,6 @@ use Rattle.holding.specs.Doing.Laws.{doing-none, doing-as}
 use Rattle.receiving.specs.declared.Dictionary.{Dictionary}
 use Rattle.receiving.specs.declared.Received.{Received}
 use Rattle.receiving.specs.Receiving.{Fits}
-use Rattle.walking.specs.declared.Acted.{Acted}
 use Rattle.walking.specs.Walk.{refusedFor, Unrefused, IdleUntil}
 use Rattle.walking.specs.Walk.Laws.{before-skip}
 use Rattle.walking.specs.Found.{FoundBefore}
@@ -29,19 +28,23 @@ use Rattle.walking.specs.Walking.Laws.{along-fits, along-on}
 pub record Walked (b : List ℕ) (p i k : ℕ) (log₀ log : List ℕ) (a : ℕ) (out₀ out : List ℕ) (x : Received) : Type 0 where
   pub within : i ≤ steps b
   pub along : Along b p i k log₀ log a out₀ out x
+  pub size : length (x .dictionary .entries) ≡ 1024
   pub unrefused : Unrefused b p i
 
 -- steps in which the party has no part add nothing
 walked-skip : {b : List ℕ} {p i j k a : ℕ} {log₀ log out₀ out : List ℕ} {x : Received}
-    → IdleUntil b p i j → Along b p i k log₀ log a out₀ out x → Unrefused b p i → Walked b p j k log₀ log a out₀ out x
-walked-skip {b} {p} w g u = record { within = w .within; along = doing-as g (before-skip b p w); unrefused = unrefused-skip w u }
+    → IdleUntil b p i j → Along b p i k log₀ log a out₀ out x → length (x .dictionary .entries) ≡ 1024 → Unrefused b p i
+    → Walked b p j k log₀ log a out₀ out x
+walked-skip {b} {p} w g l u =
+    record { within = w .within; along = doing-as g (before-skip b p w); size = l; unrefused = unrefused-skip w u }
 
 -- ---- at the start the party holds what it knows
 pub walked-start : {b : List ℕ} {p i k a : ℕ} {log out e : List ℕ} {d : Dictionary}
-    → view b e ≡ start (map (term (table b)) (known b p)) → (d .entries ≡ e) × (d .next ≡ 0) × (d .kept ≡ k) → IdleUntil b p 0 i
+    → length e ≡ 1024 → view b e ≡ start (map (term (table b)) (known b p)) → (d .entries ≡ e) × (d .next ≡ 0) × (d .kept ≡ k) → IdleUntil b p 0 i
     → Walked b p i k log log a out out (record { dictionary = d; at = a })
-walked-start {b} {p} {e = e} h w idle =
-    walked-skip idle (rw (w .0, w .1, w .2) (doing-as (rw (← h) (doing-none {b = b} {x = e})) (before-none b p))) (λ k l. absurd (omega arith))
+walked-start {b} {p} {e = e} l h w idle =
+    walked-skip idle (rw (w .0, w .1, w .2) (doing-as (rw (← h) (doing-none {b = b} {x = e})) (before-none b p))) (ap length (w .0) ∙ l)
+    (λ k l. absurd (omega arith))
 
 module _ {b l ps : List ℕ} {p upto i k a : ℕ} {log₀ log out₀ out : List ℕ} {x : Received}
     (ready : WalkReady b l ps p upto) (h : i < upto) (g : Walked b p i k log₀ log a out₀ out x) where
@@ -52,33 +55,36 @@ module _ {b l ps : List ℕ} {p upto i k a : ℕ} {log₀ log out₀ out : List 
   pub walked-fits : Fits x (actDid b p i x)
   walked-fits = along-fits b p i (g .along) (ready .valid) in-book
 
-  module _ {logAfter outAfter : List ℕ} {r : Acted} (w : Acting b l p i x log logAfter out outAfter r) where
-    further : Along b p (i + 1) k log₀ logAfter a out₀ outAfter (r .here)
+  module _ {logAfter outAfter : List ℕ} {y : Received} {t : ℕ} (w : Acting b l p i x log logAfter out outAfter y t) where
+    further : Along b p (i + 1) k log₀ logAfter a out₀ outAfter y
     further = along-on b p i (g .along) (w .doing)
 
     -- what the step found is what refusal 10 says of it
-    exact : r .taken ≡ pick (refusedFor b p i) (firstTaken (narration b) i + 1) 0
+    exact : t ≡ pick (refusedFor b p i) (firstTaken (narration b) i + 1) 0
     exact = w .found ∙ found-exact b i in-book l p _ (ready .claims) (ready .party) (g .along .holds)
 
     -- ---- a step at which something was found is the last
-    pub walked-stops : (r .taken ≡ 0 → ⊥) → Walking b p upto k log₀ logAfter a out₀ outAfter (record { here = r .here; step = i; taken = r .taken })
+    pub walked-stops : (t ≡ 0 → ⊥)
+        → Walking b p upto k log₀ logAfter a out₀ outAfter (record { kept = y .dictionary .kept; at = y .at; step = i; taken = t })
     walked-stops z =
         let j = in-book in
         record {
           far = i + 1;
           within = omega arith;
+          entries = y .dictionary .entries;
+          next = y .dictionary .next;
           along = further;
-          found = found-here b p i (r .taken) exact h (g .unrefused) z;
+          found = found-here b p i t exact h (g .unrefused) z;
           whole = λ e m. absurd (z e);
         }
 
     -- ---- else the walk goes on to the party's next step
-    pub walked-on : {j : ℕ} → r .taken ≡ 0 → IdleUntil b p (i + 1) j → Walked b p j k log₀ logAfter a out₀ outAfter (r .here)
-    walked-on z idle = walked-skip idle further (unrefused-on b p i (r .taken) exact (g .unrefused) z)
+    pub walked-on : {j : ℕ} → t ≡ 0 → IdleUntil b p (i + 1) j → Walked b p j k log₀ logAfter a out₀ outAfter y
+    walked-on z idle = walked-skip idle further (w .size) (unrefused-on b p i t exact (g .unrefused) z)
 
 -- ---- what was lent keeps its length
-module _ {b l : List ℕ} {p i k a : ℕ} {log₀ log logAfter out₀ out outAfter : List ℕ} {x : Received} {r : Acted}
-    (g : Walked b p i k log₀ log a out₀ out x) (w : Acting b l p i x log logAfter out outAfter r) where
+module _ {b l : List ℕ} {p i k a : ℕ} {log₀ log logAfter out₀ out outAfter : List ℕ} {x y : Received} {t : ℕ}
+    (g : Walked b p i k log₀ log a out₀ out x) (w : Acting b l p i x log logAfter out outAfter y t) where
   pub acted-log : length logAfter ≡ length log₀
   acted-log = wrote-length (w .doing .keeps) ∙ wrote-length (g .along .keeps)
 
@@ -87,11 +93,14 @@ module _ {b l : List ℕ} {p i k a : ℕ} {log₀ log logAfter out₀ out outAft
 
 -- ---- nothing was found
 pub walked-ends : {b : List ℕ} {p upto i k a : ℕ} {log₀ log out₀ out : List ℕ} {x : Received}
-    → Walked b p i k log₀ log a out₀ out x → upto ≤ i → Walking b p upto k log₀ log a out₀ out (record { here = x; step = upto; taken = 0 })
-walked-ends {i = i} g h =
+    → Walked b p i k log₀ log a out₀ out x → upto ≤ i → Walking b p upto k log₀ log a out₀ out
+    (record { kept = x .dictionary .kept; at = x .at; step = upto; taken = 0 })
+walked-ends {i = i} {x = x} g h =
     record {
       far = i;
       within = g .within;
+      entries = x .dictionary .entries;
+      next = x .dictionary .next;
       along = g .along;
       found = FoundBefore.none (λ k l. g .unrefused k (omega arith));
       whole = λ e z. let m = g .within in omega arith;

@@ -16,16 +16,16 @@ use Rattle.receiving.specs.declared.Received.{Received}
 use Rattle.walking.specs.declared.Passed.{Passed}
 use Rattle.walking.specs.Walk.{Unrefused}
 use Rattle.walking.specs.Found.Laws.{found-unrefused}
-use Rattle.walking.specs.Walking.{Along, Walking}
+use Rattle.walking.specs.Walking.{standing, Along, Walking}
 use Rattle.walking.specs.Walking.Laws.{part-words}
 use Rattle.walking.proofs.Lengths.{ends-at, ends-kept, few-pairs}
 
 module _ {b : List ℕ} (v : Valid b) {p : ℕ} (h : p < parties b) where
   -- ---- measured: the words of the events, two of END, and two for each pair
   pub measured : {upto : ℕ} {log logAfter out outAfter : List ℕ} {r : Passed} → Walking b p upto 0 log logAfter 0 out outAfter r
-      → r .taken ≡ 0 → upto ≡ steps b → r .here .at + 2 + r .here .dictionary .kept ≡ length (partWords b p)
+      → r .taken ≡ 0 → upto ≡ steps b → r .at + 2 + r .kept ≡ length (partWords b p)
   measured {log = log} {logAfter = logAfter} {out = out} {outAfter = outAfter} {r = r} g z e =
-      let w : Along b p (steps b) 0 log logAfter 0 out outAfter (r .here) = rw (g .whole z e) at (g .along) in
+      let w : Along b p (steps b) 0 log logAfter 0 out outAfter (standing (g .entries) (g .next) (r .kept) (r .at)) = rw (g .whole z e) at (g .along) in
       let a = ends-at v p (omega arith) w in
       let k = ends-kept v p (omega arith) w in
       let l = part-length b p h in
@@ -41,11 +41,12 @@ module _ {b : List ℕ} (v : Valid b) {p : ℕ} (h : p < parties b) where
 
   pub programmed : {upto : ℕ} {log logAfter out middle between outAfter : List ℕ} {a i m j : ℕ} {r : Passed}
       → length log ≡ 2048 → upto ≡ steps b → Unrefused b p (steps b) → Walking b p upto 0 log logAfter a out middle r
-      → m ≡ r .here .dictionary .kept / 2 → Wrote (6 ∷ m ∷ []) middle (r .here .at) between i
-      → Wrote (take (r .here .dictionary .kept) logAfter) between i outAfter j → Wrote (partWords b p) out a outAfter j
+      → m ≡ r .kept / 2 → Wrote (6 ∷ m ∷ []) middle (r .at) between i
+      → Wrote (take (r .kept) logAfter) between i outAfter j → Wrote (partWords b p) out a outAfter j
   programmed {log = log} {logAfter = logAfter} {out = out} {middle = middle} {a = a} {r = r} l q x g d w f =
-      let t : Along b p (steps b) 0 log logAfter a out middle (r .here) = rw (g .whole (found-unrefused x (rw q at (g .found))) q) at (g .along) in
+      let t : Along b p (steps b) 0 log logAfter a out middle (standing (g .entries) (g .next) (r .kept) (r .at)) =
+      rw (g .whole (found-unrefused x (rw q at (g .found))) q) at (g .along) in
       let k = ends-kept v p (omega arith) t in
-      let pairs : r .here .dictionary .kept / 2 ≡ length (before b p (steps b) .stored) = omega arith in
+      let pairs : r .kept / 2 ≡ length (before b p (steps b) .stored) = omega arith in
       let parts = wrote-then (t .wrote) (wrote-then (rw (d ∙ pairs) at w) (wrote-as f (sym (logged l (few-pairs v g) t)))) in
       wrote-as parts (part-words b p h)

@@ -2,6 +2,7 @@
 use Prim.Native.Nat.{ℕ, _≤_, _<_}
 use mathlib.Core.List.{List}
 use mathlib.Core.Path.{_≡_}
+use lib.ListN.{length}
 use Rattle.book.specs.Layout.{parties, steps}
 use Rattle.book.specs.Valid.{Valid}
 use Rattle.translation.specs.Receive.{Did}
@@ -12,10 +13,13 @@ use Rattle.holding.specs.Doing.{Doing}
 use Rattle.claims.specs.Claims.{Claims}
 use Rattle.receiving.specs.declared.Received.{Received}
 use Rattle.receiving.specs.Receiving.{Fits, Led}
-use Rattle.walking.specs.declared.Acted.{Acted}
 use Rattle.walking.specs.declared.Passed.{Passed}
 use Rattle.walking.specs.Found.{foundAt, FoundBefore}
 pub mod Laws
+
+-- a party that holds the entries e: n is its next placeholder, k and a are the places of its next stored pair and its next word
+abbrev pub standing : List ℕ → ℕ → ℕ → ℕ → Received
+standing e n k a = record { dictionary = record { entries = e; next = n; kept = k }; at = a }
 
 -- ---- one step
 -- what party p does in step s, from x on
@@ -27,12 +31,14 @@ pub record ActReady (b ps : List ℕ) (p s : ℕ) (x : Received) : Type 0 where
   pub valid : Valid b
   pub partners : Partners b ps
   pub step : s < steps b
+  pub size : length (x .dictionary .entries) ≡ 1024
   pub fits : Fits x (actDid b p s x)
 
--- party p's part in step s led from x to r
-pub record Acting (b l : List ℕ) (p s : ℕ) (x : Received) (log logAfter out outAfter : List ℕ) (r : Acted) : Type 0 where
-  pub doing : Led b (actDid b p s x) x log logAfter out outAfter (r .here)
-  pub found : r .taken ≡ foundAt b l p s (view b (x .dictionary .entries))
+-- party p's part in step s led from x to y, and t was found
+pub record Acting (b l : List ℕ) (p s : ℕ) (x : Received) (log logAfter out outAfter : List ℕ) (y : Received) (t : ℕ) : Type 0 where
+  pub doing : Led b (actDid b p s x) x log logAfter out outAfter y
+  pub found : t ≡ foundAt b l p s (view b (x .dictionary .entries))
+  pub size : length (y .dictionary .entries) ≡ 1024
 
 -- ---- the steps, one after another
 -- party p can be taken through the steps before `upto`, by the tables of claims and of partners
@@ -53,6 +59,8 @@ Along b p i k log logAfter a out outAfter y =
 pub record Walking (b : List ℕ) (p upto k : ℕ) (log logAfter : List ℕ) (a : ℕ) (out outAfter : List ℕ) (r : Passed) : Type 0 where
   pub far : ℕ
   pub within : far ≤ steps b
-  pub along : Along b p far k log logAfter a out outAfter (r .here)
+  pub entries : List ℕ
+  pub next : ℕ
+  pub along : Along b p far k log logAfter a out outAfter (standing entries next (r .kept) (r .at))
   pub found : FoundBefore b p upto (r .step) (r .taken)
   pub whole : r .taken ≡ 0 → upto ≡ steps b → far ≡ steps b

@@ -30,78 +30,97 @@ ghost use Rattle.claims.specs.Claims.{Claims};
 ghost use Rattle.walking.specs.Walk.{Unrefused, IdleUntil};
 ghost use Rattle.walking.specs.Found.{FoundBefore};
 ghost use Rattle.translation.specs.Long.{mostPart};
-ghost use Rattle.walking.specs.Walking.{ActReady, Acting, WalkReady, Walking};
+ghost use Rattle.walking.specs.Walking.{standing, ActReady, Acting, WalkReady, Walking};
 
-// What a step left: how far the party got, and one more than the first taken atom that it would make there (0 if there is none).
+// What a step left: the next placeholder, the places of the next stored pair and of the next word, and one more than the first taken
+// atom that the party would make there (0 if there is none).
 pub struct Acted {
-    pub here: Received,
+    pub next: u32,
+    pub kept: usize,
+    pub at: usize,
     pub taken: u32,
 }
 
-// What the steps left: how far the party got, and the first step of its own at which it would make a taken atom.
+// What the steps left: the places of the next stored pair and of the next word, and the first step of its own at which the party would
+// make a taken atom.
 pub struct Passed {
-    pub here: Received,
+    pub kept: usize,
+    pub at: usize,
     pub step: u32,
     pub taken: u32,
 }
 
-// A party's part in one step.
+// A party's part in one step, in its entries. Only where messages are received is the dictionary handed on.
 pub fn act(
     book: &[u32],
     since: &ByRow,
     partners: &ByRow,
-    from: Received,
+    entries: &mut ByRow,
+    next: u32,
+    kept: usize,
     party: u32,
     step: u32,
     log: &mut [u32],
     out: &mut [u32],
+    at: usize,
 ) -> Acted
-    requires { ⌜ ActReady (now book) (now partners) party step from ⌝ }
-    ensures { λ r. ⌜ Acting (now (book .entry)) (now (since .entry)) party step from (now (log .entry)) (now (log .exit)) (now (out .entry)) (now (out .exit)) r ⌝ }
+    requires { ⌜ ActReady (now book) (now partners) party step (standing (now entries) next kept at) ⌝ }
+    ensures { λ r. ⌜ Acting (now (book .entry)) (now (since .entry)) party step (standing (now (entries .entry)) next kept at) (now (log .entry)) (now (log .exit)) (now (out .entry)) (now (out .exit)) (standing (now (entries .exit)) (r .next) (r .kept) (r .at)) (r .taken) ⌝ }
 {
     let first = step_first(book, step);
     let n = step_count(book, step);
     if step_sender(book, step) == party {
-        let mut here = from;
-        let at = here.at;
-        let sent = send(
-            book,
-            since,
-            &mut here.dictionary.entries,
-            step,
-            first,
-            n,
-            out,
-            at,
-        );
-        here.at = sent.at;
+        let sent = send(book, since, entries, step, first, n, out, at);
         return Acted {
-            here,
+            next,
+            kept,
+            at: sent.at,
             taken: sent.taken,
         };
     }
     if step_receiver(book, step) == party {
-        let mut here = from;
-        let at = put4(
-            out,
-            here.at,
-            Code::RECEIVE,
-            step,
-            here.dictionary.next,
-            narrow(n),
-        );
-        here.at = at;
+        let last = put4(out, at, Code::RECEIVE, step, next, narrow(n));
         if n == 0 {
-            return Acted { here, taken: 0 };
+            return Acted {
+                next,
+                kept,
+                at: last,
+                taken: 0,
+            };
         }
-        let there = receive_messages(book, partners, here, rows(book), first, n, log, out);
+        let held = *entries;
+        let dictionary = Dictionary {
+            entries: held,
+            next,
+            kept,
+        };
+        let there = receive_messages(
+            book,
+            partners,
+            Received {
+                dictionary,
+                at: last,
+            },
+            rows(book),
+            first,
+            n,
+            log,
+            out,
+        );
+        let after = there.dictionary;
+        let holds = after.entries;
+        *entries = holds;
         return Acted {
-            here: there,
+            next: after.next,
+            kept: after.kept,
+            at: there.at,
             taken: 0,
         };
     }
     Acted {
-        here: from,
+        next,
+        kept,
+        at,
         taken: 0,
     }
 }
@@ -143,15 +162,32 @@ pub fn walk(
     ensures { λ r. ⌜ Walking (now (book .entry)) party upto kept (now (log .entry)) (now (log .exit)) at (now (out .entry)) (now (out .exit)) r ⌝ }
 {
     let entries = start(book, party);
-    let dictionary = Dictionary::new(entries, kept);
-    let mut here = Received { dictionary, at };
+    let mut held = Dictionary::new(entries, kept);
+    let mut last = at;
     let mut i = next_own(book, party, 0);
     while i < upto {
-        let acted = act(book, since, partners, here, party, i, log, out);
-        here = acted.here;
+        let next = held.next;
+        let stored = held.kept;
+        let acted = act(
+            book,
+            since,
+            partners,
+            &mut held.entries,
+            next,
+            stored,
+            party,
+            i,
+            log,
+            out,
+            last,
+        );
+        held.next = acted.next;
+        held.kept = acted.kept;
+        last = acted.at;
         if acted.taken != 0 {
             return Passed {
-                here,
+                kept: held.kept,
+                at: last,
                 step: i,
                 taken: acted.taken,
             };
@@ -159,7 +195,8 @@ pub fn walk(
         i = next_own(book, party, i + 1);
     }
     Passed {
-        here,
+        kept: held.kept,
+        at: last,
         step: upto,
         taken: 0,
     }
@@ -192,7 +229,7 @@ pub fn measure(book: &[u32], since: &ByRow, partners: &ByRow, party: u32, upto: 
         0,
     );
     Measured {
-        words: passed.here.at + 2 + passed.here.dictionary.kept,
+        words: passed.at + 2 + passed.kept,
         step: passed.step,
         taken: passed.taken,
     }
@@ -223,7 +260,7 @@ pub fn write_program(
         out,
         at,
     );
-    let stored = events.here.dictionary.kept;
-    let pairs = put2(out, events.here.at, Code::END, narrow(stored / 2));
+    let stored = events.kept;
+    let pairs = put2(out, events.at, Code::END, narrow(stored / 2));
     put_all(out, pairs, &log, stored)
 }

@@ -12,11 +12,11 @@ use Rattle.editor.proofs.write_events.Statement.{statement}
 use Rattle.editor.proofs.write_events.Tie as tie
 
 abbrev Inv-loop : tie.InvT-loop
-Inv-loop book since partners party log₀ out₀ at step₀ n dictionary₀ next₀ i₀ log out step dictionary next i =
-    Flushed book party i log₀ log out₀ at out next dictionary step
+Inv-loop book since partners party log₀ out₀ at step₀ n held₀ next₀ i₀ log out step held next i =
+    Flushed book party i log₀ log out₀ at out next held step
 
 abbrev μ-loop : tie.MeasureT-loop
-μ-loop book since partners party log₀ out₀ at step₀ n dictionary₀ next₀ i₀ log out step dictionary next i = n - i
+μ-loop book since partners party log₀ out₀ at step₀ n held₀ next₀ i₀ log out step held next i = n - i
 
 -- a place or a need, by its name
 abbrev in-events : (tie.InvT-loop → tie.MeasureT-loop → Type 0) → Type 0
@@ -28,8 +28,8 @@ loop-holds c =
     let after-new : in-events tie.After-new = search in
     let after-start : in-events tie.After-start = search in
     let start : in-events tie.Start = search in
-    flushed-start (start .pre .valid) (after-start .start .ensures) (after-new .new .ensures) (c .next-own .ensures)
-    refl
+    flushed-start (start .pre .valid) (search needs) (after-start .start .ensures) (after-new .new .ensures)
+    (c .next-own .ensures) refl
 
 -- the loop runs while there are steps
 module _ (c : in-events tie.In-loop) where

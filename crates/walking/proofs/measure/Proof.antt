@@ -8,7 +8,7 @@ use Rattle.walking.proofs.measure.Statement.{statement}
 use Rattle.walking.proofs.measure.Tie as tie
 
 -- the places are few, wherever the walk has ended
-few : (c : tie.After-walk) → FewPlaces (c .walk .result .here)
+few : (c : tie.After-walk) → FewPlaces (c .walk .result)
 few c = search few-places
 
 -- the words are those of the events, two of END's, and two for each pair

@@ -10,11 +10,11 @@ use Rattle.walking.proofs.walk.Tie as tie
 use Rattle.book.specs.Headed.Laws.{few-steps}
 
 abbrev Inv-loop : tie.InvT-loop
-Inv-loop book since partners party upto kept log₀ out₀ at here₀ i₀ log out here i =
-    Walked book party i kept log₀ log at out₀ out here
+Inv-loop book since partners party upto kept log₀ out₀ at held₀ last₀ i₀ log out held last i =
+    Walked book party i kept log₀ log at out₀ out (record { dictionary = held; at = last })
 
 abbrev μ-loop : tie.MeasureT-loop
-μ-loop book since partners party upto kept log₀ out₀ at here₀ i₀ log out here i = upto - i
+μ-loop book since partners party upto kept log₀ out₀ at held₀ last₀ i₀ log out held last i = upto - i
 
 -- a place or a need of `walk`, by its name
 abbrev in-walk : (tie.InvT-loop → tie.MeasureT-loop → Type 0) → Type 0
@@ -25,7 +25,7 @@ loop-holds : in-walk tie.Need-loop-holds
 loop-holds c =
     let after-new : in-walk tie.After-new = search in
     let after-start : in-walk tie.After-start = search in
-    walked-start (after-start .start .ensures) (after-new .new .ensures) (c .next-own .ensures)
+    walked-start (search needs) (after-start .start .ensures) (after-new .new .ensures) (c .next-own .ensures)
 
 -- there is room for the placeholders of all steps, so for those of this one
 act-requires : in-walk tie.Need-act-requires
@@ -37,8 +37,22 @@ act-requires c κs =
       valid = start .pre .valid;
       partners = start .pre .partners;
       step = omega arith;
+      size = at-loop .loop .inv .size;
       fits = walked-fits (start .pre) (in-loop .loop-test .taken) (at-loop .loop .inv);
     }
+
+-- what was lent keeps its length
+same-length : in-walk tie.Need-same-length
+same-length c =
+    let after-act : in-walk tie.After-act = search in
+    let at-loop : in-walk tie.At-loop = search in
+    acted-log (at-loop .loop .inv) (after-act .act .ensures)
+
+same-length-2 : in-walk tie.Need-same-length-2
+same-length-2 c =
+    let after-act : in-walk tie.After-act = search in
+    let at-loop : in-walk tie.At-loop = search in
+    acted-out (at-loop .loop .inv) (after-act .act .ensures)
 
 -- the step would make a taken atom
 returns : in-walk tie.Need-returns
@@ -79,8 +93,8 @@ walk-spec =
     (λ c κs. search needs)  -- next-own-requires
     loop-holds
     act-requires
-    (λ c. search acted-log)  -- same-length
-    (λ c. search acted-out)  -- same-length-2
+    same-length
+    same-length-2
     returns
     (λ c. let start : in-walk tie.Start = search in omega (arith, few-steps))  -- add-next-own
     (λ c κs. let start : in-walk tie.Start = search in (search needs, omega arith))  -- next-own-requires-2

@@ -12,7 +12,7 @@ use Rattle.walking.proofs.write_program.Statement.{statement}
 use Rattle.walking.proofs.write_program.Tie as tie
 
 -- the pairs are few, wherever the walk has ended
-few : (c : tie.After-walk) → c .walk .result .here .dictionary .kept ≤ 2048
+few : (c : tie.After-walk) → c .walk .result .kept ≤ 2048
 few c = search few-pairs
 
 -- and the log is as long as it was

@@ -12,7 +12,7 @@
 //! let book = std::fs::read("../books/example-1.book").expect("a book");
 //!
 //! let listing = nghiralum::listing(&book).expect("it can be played");
-//! assert_eq!(listing.len(), 4 * 47);
+//! assert_eq!(listing.len(), 4 * 51);
 //! assert_eq!(listing[..4], 2u32.to_le_bytes()); // two parties
 //!
 //! // Two moves by party 1, then one by party 0.
@@ -128,7 +128,7 @@ pub fn rehearse(book: &[u8], schedule: &[u8], out: &mut [u8]) -> Result<usize, R
 /// let words: Vec<u32> = (nghiralum::listing(&book).expect("a listing").chunks_exact(4))
 ///     .map(|word| u32::from_le_bytes([word[0], word[1], word[2], word[3]]))
 ///     .collect();
-/// assert_eq!(words[..5], [2, 5, 19, 24, 23]); // two parties: 19 words from word 5, 23 words from word 24
+/// assert_eq!(words[..5], [2, 5, 19, 24, 27]); // two parties: 19 words from word 5, 27 words from word 24
 /// ```
 pub fn listing(book: &[u8]) -> Result<Vec<u8>, Refusal> {
     let needed = match translate(book, &mut []) {

@@ -143,7 +143,7 @@ mod tests {
     #[test]
     fn answers() {
         assert_eq!(unpack(0), Ok(0));
-        assert_eq!(unpack(47 << 8), Ok(188));
+        assert_eq!(unpack(51 << 8), Ok(204));
         assert_eq!(unpack(33_558_593 << 8), Ok(134_234_372));
         let taken = refusal(10, 63, 1_023);
         assert_eq!((taken.number(), taken.place(), taken.row()), (10, 63, Some(1_023)));

@@ -244,7 +244,7 @@ mod tests {
     #[test]
     fn answers_are_packed() {
         assert_eq!(packed(&Ok(0)), 0);
-        assert_eq!(packed(&Ok(47)), 47 << 8);
+        assert_eq!(packed(&Ok(51)), 51 << 8);
         assert_eq!(packed(&Err(Refusal::new(1, &[0]))), 1);
         assert_eq!(packed(&Err(Refusal::new(12, &[33_558_593]))), 33_558_593 << 8 | 12);
         assert_eq!(packed(&Err(Refusal::new(10, &[63, 1_023]))), 1_023 << 40 | 63 << 8 | 10);

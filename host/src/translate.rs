@@ -1,5 +1,5 @@
-//! The translation of figure 3 as document 01 reads it: one program per party (refusals 10 and 12), the listing's
-//! words, and the line that the small program prints.
+//! The translation of figure 3 as document 01 reads it, with document 02's order of receiving: one program per party
+//! (refusals 10 and 12), the listing's words, and the line that the small program prints.
 
 use crate::book::{self, Book, Refusal, Step};
 use crate::term::{Form, Shared, SharedMap, SharedSet};
@@ -150,13 +150,11 @@ impl Side {
         Ok(Image::Itself(row))
     }
 
-    /// Receiving: the terms have the placeholders from `first` on; "then, left to right, the first
-    /// rule that fits".
+    /// Receiving: the terms have the placeholders from `first` on, and are gone through left to right. "A cipher whose
+    /// key's partner is buildable is opened first; then a buildable row is compared; then storing" (document 02).
     fn receive(&mut self, terms: &[Shared], first: u32, rows: &SharedMap<u32>) {
         for (term, placeholder) in terms.iter().zip(first..) {
-            if let Some(image) = self.dictionary.image(term) {
-                self.events.push(Event::Check { placeholder, image });
-            } else if let Some((key, contents)) = self.dictionary.opening(term) {
+            if let Some((key, contents)) = self.dictionary.opening(term) {
                 let first = self.placeholders(contents.len());
                 self.events.push(Event::Open {
                     placeholder,
@@ -165,6 +163,8 @@ impl Side {
                     key,
                 });
                 self.receive(contents, first, rows);
+            } else if let Some(image) = self.dictionary.image(term) {
+                self.events.push(Event::Check { placeholder, image });
             } else {
                 self.stored.push((rows[term], placeholder));
                 let images = &mut self.dictionary.images;

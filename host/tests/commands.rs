@@ -153,7 +153,7 @@ fn shelf() {
     let said = |done: &str| format!("1 books on the shelf, {done} {at}\n");
     assert_eq!(printed(&["shelf", &at, &at]), said("written to"));
     assert_eq!(printed(&["shelf", "--check", &at, &at]), said("current in"));
-    assert_eq!(folder.text("stdout").lines().nth(1), Some("2 4"));
+    assert_eq!(folder.text("stdout").lines().nth(1), Some("2 6"));
     folder.file("stdin", "");
     assert!(complains(&["shelf", "--check", &at, &at]).contains("stale"));
 }

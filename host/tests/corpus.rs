@@ -74,13 +74,13 @@ fn every_source_begins_with_a_comment() {
     }
 }
 
-/// Document 01's trials, word for word.
+/// Document 01's trials, word for word, and those of document 02's order of receiving.
 const TRIALS: &[(&str, &str)] = &[
     ("trial-smallest", "1 3 2 6 0"),
     (
         "example-1",
-        "2 5 19 24 23 3 0 0 1 2 1 1 3 2 0 2 1 0 0 1 6 1 3 0 \
-         1 3 2 0 1 0 3 3 1 0 1 4 0 3 2 0 2 0 3 0 1 6 0",
+        "2 5 19 24 27 3 0 0 1 2 1 1 3 2 0 2 1 0 0 1 6 1 3 0 \
+         1 3 2 0 1 0 3 3 1 0 1 5 0 1 2 0 2 4 1 0 3 4 2 0 1 6 0",
     ),
     ("unplayable-unopened-nonce", "refused 10 1 3"),
     ("trial-public-half", "2 5 10 15 8 1 2 2 0 1 4 0 2 6 0 3 0 0 1 6 1 3 0"),
@@ -101,10 +101,20 @@ const TRIALS: &[(&str, &str)] = &[
     ("trial-sender-is-receiver", "refused 8 0"),
     ("trial-row-1022", "1 3 2 6 0"),
     ("refusal-5", "refused 5 1023"),
+    (
+        "trial-empty-cipher",
+        "3 7 24 31 18 49 10 2 0 2 3 0 0 2 3 0 0 3 2 1 2 3 0 0 2 3 0 0 3 6 0 \
+         3 0 0 2 5 0 2 0 0 5 5 1 2 0 0 3 6 0 3 1 0 2 6 2 7 0 8 1",
+    ),
+    (
+        "trial-open-before-compare",
+        "2 5 27 32 38 1 5 2 0 3 3 1 0 1 0 2 3 2 0 1 0 2 0 5 3 1 0 1 0 5 6 0 \
+         3 0 0 3 5 0 3 1 0 1 4 3 0 2 5 1 4 2 0 1 4 4 0 2 5 2 6 1 0 1 4 6 1 5 6 1 5 5",
+    ),
 ];
 
 #[test]
-fn the_trials_of_document_01() {
+fn the_trials() {
     for (name, expected) in TRIALS {
         assert_eq!(listing(name), *expected, "{name}");
     }
@@ -123,11 +133,16 @@ fn the_edges_are_reached() {
         let bytes = fs::read(books().join(format!("{name}.book"))).unwrap();
         show(&words::of_bytes(&bytes).unwrap())
     };
-    let opens = |name: &str| shown(name).matches("# B: open ").count();
-    assert_eq!(opens("deep-ciphers"), 255);
-    assert_eq!(opens("deep-ciphers-halves"), 204);
-    assert_eq!(opens("deep-ciphers-built"), 0);
-    assert_eq!(opens("deep-partner"), 1);
+    let events = |name: &str, event: &str| shown(name).matches(&format!("# B: {event} ")).count();
+    for (name, opens, checks) in [
+        ("deep-ciphers", 255, 0),
+        ("deep-ciphers-halves", 204, 0),
+        ("deep-ciphers-built", 255, 1),
+        ("deep-keys", 1, 0),
+        ("deep-partner", 1, 0),
+    ] {
+        assert_eq!((events(name, "open"), events(name, "check")), (opens, checks), "{name}");
+    }
     assert!(shown("deep-halves").contains(&format!("# B: check x0 = A{}\n", "+".repeat(1022))));
 }
 

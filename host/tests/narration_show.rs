@@ -43,18 +43,19 @@ B -> A: op0(n7), {B, n12, n14}({n6}n2)+
 # A: new n7
 # A: send step 0: {n6, op0(n7)}n3+, {}n2
 # A: receive step 1: x0, x1
-# A: check x0 = {n6}n2
+# A: open x0 with n2: x2
+# A: check x2 = n6
 # A: send step 2: nothing
-# A: receive step 3: x2, x3
-# A: check x2 = op0(n7)
-# A: open x3 with ({n6}n2)-: x4, x5, x6
-# A: check x4 = B
-# A: check x5 = x1
-# A: end: n12 = x1, n14 = x6
+# A: receive step 3: x3, x4
+# A: check x3 = op0(n7)
+# A: open x4 with ({n6}n2)-: x5, x6, x7
+# A: check x5 = B
+# A: check x6 = x1
+# A: end: n12 = x1, n14 = x7
 
 # B: receive step 0: x0, x1
 # B: open x0 with n3-: x2, x3
-# B: check x1 = {}n2
+# B: open x1 with n2: nothing
 # B: new n12
 # B: send step 1: {x2}n2, n12
 # B: receive step 2: nothing

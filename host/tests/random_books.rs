@@ -3,7 +3,8 @@
 use host::book::{self, Book};
 use host::compare;
 use host::random;
-use host::translate::{self, Event, Image};
+use host::term::Form;
+use host::translate::{self, Event, Image, Translation};
 use host::words;
 use std::collections::BTreeMap;
 
@@ -146,6 +147,38 @@ fn every_kind_of_event_occurs() {
         all.placeholders_sent,
     ];
     assert!(counts.iter().all(|count| *count >= 20), "{all:?}");
+}
+
+/// Messages at which document 02's order of receiving shows: opened though the receiver could build them, opened though
+/// they were stored before, and ciphers that are compared because they can't be opened. Beside them, opened ones that
+/// the receiver couldn't build.
+#[test]
+fn the_order_of_receiving_shows() {
+    let (mut built, mut stored, mut compared, mut unknown) = (0, 0, 0, 0);
+    for book in random::well_formed(SEED, 1_500, 1) {
+        let mut translation = Translation::start(&book);
+        for step in &book.steps {
+            let receiver = translation.dictionary(step.receiver);
+            for row in &step.messages {
+                let term = &translation.terms[*row as usize];
+                let cipher = matches!(term.form(), Form::Cipher(..));
+                match (receiver.opening(term).is_some(), receiver.image(term)) {
+                    (true, Some(Image::Placeholder(_))) => stored += 1,
+                    (true, Some(_)) => built += 1,
+                    (true, None) => unknown += 1,
+                    (false, Some(_)) if cipher => compared += 1,
+                    _ => (),
+                }
+            }
+            if translation.step(step).is_err() {
+                break;
+            }
+        }
+    }
+    println!("{built} opened though buildable, {stored} though stored, {unknown} else, {compared} compared");
+    for (count, least) in [(built, 500), (unknown, 500), (stored, 50), (compared, 100)] {
+        assert!(count >= least, "{built}, {unknown}, {stored}, {compared}");
+    }
 }
 
 /// "An image is never longer than its row's size."

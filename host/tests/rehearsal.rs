@@ -8,7 +8,7 @@ use host::rehearse::{print, rehearse};
 use host::translate::{self, Event};
 use host::words;
 
-/// Events done in example 1, where A receives and sends, and B makes, sends, receives and compares.
+/// Events done in example 1, where A receives and sends, and B makes, sends, receives, opens and compares twice.
 fn done(schedule: &[u32]) -> [u32; 2] {
     let mut out = [77; 3];
     assert_eq!(rehearse(&EXAMPLE_1, schedule, &mut out), Ok(2));
@@ -28,8 +28,9 @@ fn example_1() {
     assert_eq!(done(&[1, 1, 1, 1, 0]), [1, 2]);
     assert_eq!(done(&[1, 1, 0, 1, 0, 1]), [2, 3]);
     assert_eq!(done(&[1, 1, 0, 0, 1, 1]), [2, 4]);
+    assert_eq!(done(&[1, 1, 0, 0, 1, 1, 1]), [2, 5]);
     // At END nothing is done.
-    assert_eq!(done(&[0, 1].repeat(100)), [2, 4]);
+    assert_eq!(done(&[0, 1].repeat(100)), [2, 6]);
 }
 
 #[test]

@@ -34,10 +34,10 @@ fn each_function() {
         &book,
         &[3],
         &book,
-        &slice(&[9; 47]),
+        &slice(&[9; 51]),
         &[3],
         &book,
-        &slice(&[9; 46]),
+        &slice(&[9; 50]),
         &[4],
         &book,
         &slice(&[1, 1, 0]),
@@ -52,7 +52,7 @@ fn each_function() {
         &slice(&[9]),
     ];
     let lines = format!(
-        "accepted\naccepted\n{}refused 12 47\n1 2\nrefused 11 1\nrefused 12 2\n",
+        "accepted\naccepted\n{}refused 12 51\n1 2\nrefused 11 1\nrefused 12 2\n",
         line_1()
     );
     assert_eq!(answered(&to_bytes(&stream.concat())), (lines, Ok(7)));
@@ -72,10 +72,10 @@ fn on_bytes() {
         let stream = [
             to_bytes(&[5]),
             octets(&book, fill),
-            octets(&[9; 4 * 47 + 3], fill),
+            octets(&[9; 4 * 51 + 3], fill),
             to_bytes(&[5]),
             octets(&book, fill),
-            octets(&[9; 4 * 47 - 1], fill),
+            octets(&[9; 4 * 51 - 1], fill),
             to_bytes(&[5]),
             octets(&book[..211], fill),
             octets(&[], fill),
@@ -88,7 +88,7 @@ fn on_bytes() {
             octets(&[1, 0, 0, 0, 1, 0, 0, 0, 0], fill),
             octets(&[9; 8], fill),
         ];
-        let lines = format!("{}refused 12 47\nrefused 1 0\n1 2\nrefused 1 0\n", line_1());
+        let lines = format!("{}refused 12 51\nrefused 1 0\n1 2\nrefused 1 0\n", line_1());
         assert_eq!(answered(&stream.concat()), (lines, Ok(5)));
     }
     let most = [&to_bytes(&[5, 65_536])[..], &[0; 65_536], &to_bytes(&[0])].concat();
@@ -219,7 +219,7 @@ fn piped(arguments: &[&str], input: &[u8]) -> Output {
 fn the_commands() {
     let folder = Folder::new("requests-commands");
     let book = folder.file("1.book", to_bytes(&EXAMPLE_1));
-    let one = output(&["requests", "--write", "translate", &book, "=47x0"]).stdout;
+    let one = output(&["requests", "--write", "translate", &book, "=51x0"]).stdout;
     let two = output(&["requests", "--write", "rehearse", &book, "=1,1,0", "=2x0"]).stdout;
     let answer = piped(&["requests", "--answer"], &[&one[..], &two].concat());
     assert_eq!(answer.stdout, (line_1() + "1 2\n").into_bytes());

@@ -1,5 +1,5 @@
-//! The rules of "What a party holds" once more, as plainly as they can be put: a list of terms with
-//! their images, searched from one end to the other. The translation must say the same.
+//! The rules of "What a party holds" once more, with document 02's order of receiving, as plainly as they can be put: a
+//! list of terms with their images, searched from one end to the other. The translation must say the same.
 
 use host::book::{Book, Refusal};
 use host::random;
@@ -64,11 +64,6 @@ impl Side {
     }
 
     fn receive(&mut self, book: &Book, placeholder: u32, term: &Term) {
-        if self.buildable(term) {
-            let image = self.image(term);
-            self.events.push(Event::Check { placeholder, image });
-            return;
-        }
         if let Term::Cipher(key, contents) = term {
             if self.buildable(&key.partner()) {
                 let (first, n) = (self.next, contents.len() as u32);
@@ -85,6 +80,11 @@ impl Side {
                 }
                 return;
             }
+        }
+        if self.buildable(term) {
+            let image = self.image(term);
+            self.events.push(Event::Check { placeholder, image });
+            return;
         }
         self.stored.push((row_of(book, term), placeholder));
         self.held.push((term.clone(), Image::Placeholder(placeholder)));

@@ -8,7 +8,7 @@ use host::words::{self, to_bytes};
 
 /// The lines of example 1: its listing, and its rehearsals.
 fn lines_1() -> String {
-    words::line(&LISTING_1) + "\n2 4\n2 4\n2 4\n2 4\nrefused 11 2\nrefused 11 4096\n"
+    words::line(&LISTING_1) + "\n2 6\n2 6\n2 6\n2 6\nrefused 11 2\nrefused 11 4096\n"
 }
 
 fn text(shelf: &Shelf) -> &str {
@@ -84,7 +84,7 @@ fn stale_and_missing_files_are_named() {
     assert_eq!(shelf.write(to.at()), Ok(()));
     assert_eq!(shelf.check(to.at()), Ok(()));
     assert_eq!(to.text("stdout"), lines_1());
-    to.file("stdout", "2 4\n");
+    to.file("stdout", "2 6\n");
     to.remove("stdin");
     let faults = shelf.check(to.at()).unwrap_err();
     let faults: Vec<&str> = faults.lines().collect();

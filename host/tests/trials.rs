@@ -1,9 +1,9 @@
-//! Document 01's "Trials at the edges", marked P or not, and the examples of source 000 as
-//! document 01 reads them. Every expected word was worked out by hand from figure 3.
+//! Document 01's "Trials at the edges", marked P or not, the examples of source 000, and document 02's order of
+//! receiving. Every expected word was worked out by hand.
 
 mod common;
 
-use common::{atoms, book, party, row, step, EXAMPLE_1, LISTING_1, SMALLEST};
+use common::{atom, atoms, book, party, row, step, EXAMPLE_1, LISTING_1, SMALLEST};
 use host::book::{read, Book, Party, Refusal, Row, Step};
 use host::translate::{print, translate};
 use host::words::{self, to_bytes};
@@ -234,7 +234,8 @@ fn example_2() {
         &[1, 5],                            // new NB
         &[2, 1, 1, 3, 2, 0, 6, 1, 1, 0, 5], // {x1, NB}KA+
         &[3, 2, 3, 1],                      // z
-        &[4, 3, 3, 1, 0, 8, 0, 5],          // z = {NB}KB+, as rule 1 stands before rule 2
+        &[5, 3, 4, 1, 0, 9],                // case z of {z1}KB-
+        &[4, 4, 0, 5],                      // z1 = NB
         &[6, 1, 4, 1],                      // NA is x1
     ];
     assert_eq!(listing(&book.words()), Ok(joined(&[&a.concat(), &b.concat()])));
@@ -280,7 +281,8 @@ fn example_3() {
         &[1, 4],                                     // new NB
         &[2, 1, 1, 3, 2, 0, 2, 2, 1, 1, 1, 2, 0, 4], // {succ(x3), NB}K
         &[3, 2, 3, 1],                               // z
-        &[4, 3, 3, 1, 0, 2, 2, 1, 1, 0, 4],          // z = {succ(NB)}K, compared, not opened
+        &[5, 3, 4, 1, 0, 2],                         // case z of {z1}K
+        &[4, 4, 2, 1, 1, 0, 4],                      // z1 = succ(NB)
         &[1, 5, 1, 6],                               // new K', new N'
         &[2, 3, 1, 3, 2, 0, 2, 0, 5, 0, 6],          // {K', N'}K
         &[6, 1, 3, 2],                               // NA is x3, where the example prints z1
@@ -321,7 +323,8 @@ fn example_4() {
         &[3, 2, 1, 1],                      // z, stored
         &[2, 3, 1, 3, 2, 0, 4, 0, 0, 1, 1], // {A, z}KBS
         &[3, 4, 2, 1],                      // u
-        &[4, 2, 3, 1, 0, 4, 0, 5],          // u = {NB}KBS, compared, not opened
+        &[5, 2, 3, 1, 0, 4],                // case u of {u1}KBS
+        &[4, 3, 0, 5],                      // u1 = NB
         &[6, 1, 6, 1],                      // {NB}KAS is z
     ];
     let s = [
@@ -338,16 +341,160 @@ fn example_4() {
 
 #[test]
 fn a_stored_cipher_is_not_opened_later() {
-    // Rows A, B, K, N, {N}K. B gets the cipher, then its key, then the cipher again: the first time
-    // it is stored, so the second time it is compared with that placeholder.
+    // Rows A, B, K, N, {N}K. B gets the cipher and then its key, and stores both: placeholders 0 and 1. Received once
+    // more the cipher is opened with the placeholder of its key, and its entry stays what it was.
     let book = book(
         [atoms(4), vec![row(2, 0, &[2, 3])]].concat(),
         &[party(0, &[2]), party(1, &[])],
-        &[step(0, 1, &[4, 2]), step(0, 1, &[4])],
+        &[step(0, 1, &[4, 2]), step(0, 1, &[4]), step(1, 0, &[4])],
     );
-    let a = [1, 3, 2, 0, 2, 3, 1, 0, 2, 0, 3, 0, 2, 2, 1, 1, 3, 1, 0, 2, 0, 3, 6, 0];
-    let b = [3, 0, 0, 2, 3, 1, 2, 1, 4, 2, 1, 0, 6, 2, 4, 0, 2, 1];
+    let a = [
+        &[1, 3][..],                        // new N
+        &[2, 0, 2, 3, 1, 0, 2, 0, 3, 0, 2], // {N}K, K
+        &[2, 1, 1, 3, 1, 0, 2, 0, 3],       // {N}K
+        &[3, 2, 0, 1, 5, 0, 1, 1, 0, 2],    // x0, opened with K
+        &[4, 1, 0, 3, 6, 0],                // x1 = N
+    ];
+    let b = [
+        &[3, 0, 0, 2][..],               // x0 and x1, both stored
+        &[3, 1, 2, 1, 5, 2, 3, 1, 1, 1], // x2, opened with x1; x3 is stored
+        &[2, 2, 1, 1, 0],                // x0
+        &[6, 3, 4, 0, 2, 1, 3, 3],       // {N}K is x0, K is x1, N is x3
+    ];
+    assert_eq!(listing(&book.words()), Ok(joined(&[&a.concat(), &b.concat()])));
+}
+
+/// "A cipher whose key's partner is buildable is opened first": also one that the receiver could build.
+#[test]
+fn opened_though_buildable() {
+    // Rows A, B, K, M, {M}K, and {{M}K}K; both know K and M.
+    let book = book(
+        [atoms(4), vec![row(2, 0, &[2, 3]), row(2, 0, &[2, 4])]].concat(),
+        &[party(0, &[2, 3]), party(1, &[2, 3])],
+        &[step(0, 1, &[5, 3])],
+    );
+    let a = [2, 0, 2, 3, 1, 0, 2, 3, 1, 0, 2, 0, 3, 0, 3, 6, 0];
+    let b = [
+        &[3, 0, 0, 2][..],   // x0, x1
+        &[5, 0, 2, 1, 0, 2], // x0 holds x2
+        &[5, 2, 3, 1, 0, 2], // x2 holds x3
+        &[4, 3, 0, 3],       // x3 = M
+        &[4, 1, 0, 3, 6, 0], // x1 = M
+    ];
+    assert_eq!(listing(&book.words()), Ok(joined(&[&a, &b.concat()])));
+
+    // And one that the receiver knows from the start as itself.
+    let mut known = book;
+    known.parties[1].known = vec![2, 3, 5];
+    assert_eq!(listing(&known.words()), Ok(joined(&[&a, &b.concat()])));
+}
+
+/// A cipher without contents is opened into no placeholders; the next one is named all the same.
+#[test]
+fn opened_without_contents() {
+    // Rows A, B, K, {}K, N.
+    let book = book(
+        [atoms(3), vec![row(2, 0, &[2]), atom()]].concat(),
+        &[party(0, &[2]), party(1, &[2])],
+        &[step(0, 1, &[3]), step(0, 1, &[4])],
+    );
+    let a = [2, 0, 1, 3, 0, 0, 2, 1, 4, 2, 1, 1, 0, 4, 6, 0];
+    let b = [3, 0, 0, 1, 5, 0, 1, 0, 0, 2, 3, 1, 1, 1, 6, 1, 4, 1];
     assert_eq!(listing(&book.words()), Ok(joined(&[&a, &b])));
+}
+
+/// "Then a buildable row is compared": a cipher too, if it can't be opened.
+#[test]
+fn a_cipher_that_cannot_be_opened_is_compared() {
+    // Rows A, B, K, N, K+, {N}K+. B knows K+ and N, and lacks K-.
+    let rows = [atoms(4), vec![row(3, 0, &[2]), row(2, 0, &[4, 3])]].concat();
+    let one = step(0, 1, &[5]);
+    let compared = book(
+        rows.clone(),
+        &[party(0, &[3, 4]), party(1, &[3, 4])],
+        std::slice::from_ref(&one),
+    );
+    let a = [2, 0, 1, 3, 1, 0, 4, 0, 3, 6, 0];
+    let b = [3, 0, 0, 1, 4, 0, 3, 1, 0, 4, 0, 3, 6, 0];
+    assert_eq!(listing(&compared.words()), Ok(joined(&[&a, &b])));
+
+    // With K in place of K+ B has both halves, and opens it with the private one.
+    let opened = book(rows.clone(), &[party(0, &[3, 4]), party(1, &[2, 3])], &[one]);
+    let b = [3, 0, 0, 1, 5, 0, 1, 1, 5, 0, 2, 4, 1, 0, 3, 6, 0];
+    assert_eq!(listing(&opened.words()), Ok(joined(&[&a, &b])));
+
+    // Stored, and received again without its key: compared with the first placeholder.
+    let stored = book(rows, &[party(0, &[3, 4]), party(1, &[])], &[step(0, 1, &[5, 5])]);
+    let a = [2, 0, 2, 3, 1, 0, 4, 0, 3, 3, 1, 0, 4, 0, 3, 6, 0];
+    let b = [3, 0, 0, 2, 4, 1, 1, 0, 6, 1, 5, 0];
+    assert_eq!(listing(&stored.words()), Ok(joined(&[&a, &b])));
+}
+
+/// "A cipher stored earlier and received again with its key now teaches its contents": B can send N.
+#[test]
+fn a_cipher_received_again_teaches_its_contents() {
+    // Rows A, B, K, N, {N}K.
+    let steps = |again: &[Step]| {
+        let last = step(1, 0, &[3]);
+        [&[step(0, 1, &[4]), step(0, 1, &[2])], again, &[last]].concat()
+    };
+    let rows = [atoms(4), vec![row(2, 0, &[2, 3])]].concat();
+    let parties = [party(0, &[]), party(1, &[])];
+    let taught = book(rows.clone(), &parties, &steps(&[step(0, 1, &[4])]));
+    let a = [
+        &[1, 2, 1, 3][..],            // new K, new N
+        &[2, 0, 1, 3, 1, 0, 2, 0, 3], // {N}K
+        &[2, 1, 1, 0, 2],             // K
+        &[2, 2, 1, 3, 1, 0, 2, 0, 3], // {N}K
+        &[3, 3, 0, 1, 4, 0, 0, 3],    // x0 = N
+        &[6, 0],
+    ];
+    let b = [
+        &[3, 0, 0, 1][..],               // x0, stored
+        &[3, 1, 1, 1],                   // x1, stored
+        &[3, 2, 2, 1, 5, 2, 3, 1, 1, 1], // x2, opened with x1; x3 is stored
+        &[2, 3, 1, 1, 3],                // x3
+        &[6, 3, 4, 0, 2, 1, 3, 3],       // {N}K is x0, K is x1, N is x3
+    ];
+    assert_eq!(listing(&taught.words()), Ok(joined(&[&a.concat(), &b.concat()])));
+
+    // Not received again, the cipher stays closed.
+    let late = book(rows, &parties, &steps(&[]));
+    assert_eq!(listing(&late.words()), Err(Refusal::new(10, &[2, 3])));
+}
+
+/// The other way round: what is opened is not kept whole. A learns K- from a cipher received again, opens {N}K+ with it,
+/// and can't send {N}K+ on, as it would have to make K.
+#[test]
+fn a_cipher_received_again_teaches_too_much() {
+    // Rows A, B, L, K, K-, {K-}L, N, K+, {N}K+.
+    let rows = vec![
+        row(4, 0, &[3]),
+        row(2, 0, &[2, 4]),
+        atom(),
+        row(3, 0, &[3]),
+        row(2, 0, &[7, 6]),
+    ];
+    let rows = [atoms(4), rows].concat();
+    let steps = [5, 2, 5, 8].map(|message| step(1, 0, &[message]));
+    let parties = [party(0, &[0]), party(1, &[])];
+    let last = step(0, 1, &[8]);
+    let taught = book(
+        rows.clone(),
+        &parties,
+        &[&steps[..], std::slice::from_ref(&last)].concat(),
+    );
+    assert_eq!(listing(&taught.words()), Err(Refusal::new(10, &[4, 3])));
+
+    // Not received again, {K-}L stays closed; {N}K+ is stored as placeholder 2 and sent on.
+    let closed = [&steps[..2], &[steps[3].clone(), last]].concat();
+    let closed = book(rows, &parties, &closed);
+    let a = [
+        3, 0, 0, 1, 3, 1, 1, 1, 3, 2, 2, 1, 2, 3, 1, 1, 2, 6, 3, 5, 0, 2, 1, 8, 2,
+    ];
+    let own = listing(&closed.words()).expect("A only hands on");
+    assert_eq!(own[5..5 + a.len()], a);
+    assert_eq!(own[1..3], [5, a.len() as u32]);
 }
 
 #[test]

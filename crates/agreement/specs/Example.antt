@@ -1,5 +1,5 @@
 -- Demand 3 speaks of something: example 1 of source 000, whole, from the words of its book. It is accepted; its listing's words spell
--- programs that run to END, A with 2 events done and B with 4, by six moves that each get something done.
+-- programs that run to END, A with 2 events done and B with 6, by eight moves that each get something done.
 use Prim.Native.Nat.{ℕ}
 use mathlib.Core.List.{List, [], _∷_}
 use mathlib.Core.Path.{_≡_, refl}
@@ -27,9 +27,9 @@ pub example-accepted : outcome exampleBook exampleLent .says .number ≡ 0
 unfolding computes trials exampleBook exampleLent
 example-accepted = refl
 
--- B makes its atom and sends, A receives and sends, B receives and compares
+-- B makes its atom and sends, A receives and sends, B receives, opens and compares both contents
 unfoldable pub exampleMoves : List Move
-exampleMoves = Move.own 1 ∷ Move.own 1 ∷ Move.delivery 0 ∷ Move.own 0 ∷ Move.delivery 1 ∷ Move.own 1 ∷ []
+exampleMoves = Move.own 1 ∷ Move.own 1 ∷ Move.delivery 0 ∷ Move.own 0 ∷ Move.delivery 1 ∷ Move.own 1 ∷ Move.own 1 ∷ Move.own 1 ∷ []
 
 unfoldable pub exampleEnd : System
 exampleEnd = sequence (receiverOf (narration exampleBook)) exampleMoves (started exampleBook (outcome exampleBook exampleLent .lent))
@@ -42,7 +42,7 @@ pub A-ends : leftAndDone exampleEnd 0 ≡ (Event.ends ((Term.atom 3, 0) ∷ []) 
 unfolding computes trials exampleBook exampleLent exampleMoves exampleEnd leftAndDone
 A-ends = refl
 
-pub B-ends : leftAndDone exampleEnd 1 ≡ (Event.ends [] ∷ [], 4)
+pub B-ends : leftAndDone exampleEnd 1 ≡ (Event.ends [] ∷ [], 6)
 unfolding computes trials exampleBook exampleLent exampleMoves exampleEnd leftAndDone
 B-ends = refl
 

@@ -30,52 +30,53 @@ use Rattle.receiving.proofs.Ciphers.{opens-kind}
 empty-span : (b : List ℕ) (r : ℕ) → Span b r 0 0
 empty-span b r = record { inside = omega arith; below = rw (list-none b 0 0 (omega arith)) tt; few = omega arith }
 
--- ---- the three rules; t and u are the code's tests, of building and of opening
-module _ {b ps e : List ℕ} {r p : ℕ} (ready : SettleReady b ps r p e) {t : Bool} (dt : t ≡ buildable (view b e) (term (table b) r)) where
-  pub settle-compare : {n k : ℕ} {l o s : List ℕ} {a j : ℕ} → t ≡ true
-      → Wrote (programWords (rowOf b) (compared (term (table b) r) p (view b e) .events)) o a s j
-      → Settling b r p n k e e l l a o s (record { first = 0; left = 0; kept = k; at = j })
-  unfolding pairWords
-  settle-compare {n} q x =
-      let can : buildable (view b e) (term (table b) r) ≡ true = sym dt ∙ q in
+-- ---- the three rules; u and t are the code's tests, of opening and of building
+module _ {b ps e : List ℕ} {r p : ℕ} (ready : SettleReady b ps r p e) {u : Bool} (du : u ≡ canOpen (view b e) (term (table b) r)) where
+  pub settle-unlock : (n : ℕ) {from k f c : ℕ} {l o s : List ℕ} {a j : ℕ} → u ≡ true → f ≡ rowFirst b r → c ≡ rowCount b r
+      → Wrote (programWords (rowOf b) (unlocked (term (table b) r) p (view b e) from .events)) o a s j → from ≡ n
+      → Settling b r p n k e e l l a o s (record { first = f + 1; left = c - 1; kept = k; at = j })
+  unfolding pairWords contentsOf
+  settle-unlock n {f = f} {c = c} y df dc x dn =
+      let can : canOpen (view b e) (term (table b) r) ≡ true = sym du ∙ y in
+      let w = unlocked-rest (term (table b) r) p (view b e) n in
+      let cipher : kind b r ≡ 2 = opens-kind b e r u (ready .valid) (ready .row) du y in
+      let key = some-key b (ready .valid) r c (ready .row) cipher dc in
       record {
-        doing = doing-as (record { holds = refl; goes = omega arith; wrote = x; keeps = wrote-none })
-            (settled-compare (term (table b) r) p (view b e) n can);
-        names = terms-none b 0 0 (omega arith) ∙ sym (contents-compare (view b e) (term (table b) r) can);
-        span = empty-span b r;
+        doing = doing-as (record {
+          holds = sym (w .0);
+          goes = let g = ap length (w .1) in omega arith;
+          wrote = rw dn at x;
+          keeps = wrote-as wrote-none (ap (pairWords (rowOf b)) (w .2));
+        }) (settled-unlock (term (table b) r) p (view b e) n can);
+        names = rw (df, dc) (sym (contents-unlock (view b e) (term (table b) r) can
+            ∙ ap contentsOf (cipher-row b (ready .valid) r (ready .row) cipher)));
+        span = span-tail b r f c (span-row b (ready .valid) f c r (ready .row) df dc) (omega arith);
         size = ready .size;
       }
 
-  module _ (q : t ≡ false) {u : Bool} (du : u ≡ canOpen (view b e) (term (table b) r)) where
-    pub settle-unlock : (n : ℕ) {from k f c : ℕ} {l o s : List ℕ} {a j : ℕ} → u ≡ true → f ≡ rowFirst b r → c ≡ rowCount b r
-        → Wrote (programWords (rowOf b) (unlocked (term (table b) r) p (view b e) from .events)) o a s j → from ≡ n
-        → Settling b r p n k e e l l a o s (record { first = f + 1; left = c - 1; kept = k; at = j })
-    unfolding pairWords contentsOf
-    settle-unlock n {f = f} {c = c} y df dc x dn =
-        let cannot : buildable (view b e) (term (table b) r) ≡ false = sym dt ∙ q in
-        let can : canOpen (view b e) (term (table b) r) ≡ true = sym du ∙ y in
-        let w = unlocked-rest (term (table b) r) p (view b e) n in
-        let cipher : kind b r ≡ 2 = opens-kind b e r u (ready .valid) (ready .row) du y in
-        let key = some-key b (ready .valid) r c (ready .row) cipher dc in
+  module _ (y : u ≡ false) {t : Bool} (dt : t ≡ buildable (view b e) (term (table b) r)) where
+    abbrev shut : canOpen (view b e) (term (table b) r) ≡ false
+    shut = sym du ∙ y
+
+    pub settle-compare : {n k : ℕ} {l o s : List ℕ} {a j : ℕ} → t ≡ true
+        → Wrote (programWords (rowOf b) (compared (term (table b) r) p (view b e) .events)) o a s j
+        → Settling b r p n k e e l l a o s (record { first = 0; left = 0; kept = k; at = j })
+    unfolding pairWords
+    settle-compare {n} q x =
+        let can : buildable (view b e) (term (table b) r) ≡ true = sym dt ∙ q in
         record {
-          doing = doing-as (record {
-            holds = sym (w .0);
-            goes = let g = ap length (w .1) in omega arith;
-            wrote = rw dn at x;
-            keeps = wrote-as wrote-none (ap (pairWords (rowOf b)) (w .2));
-          }) (settled-unlock (term (table b) r) p (view b e) n cannot can);
-          names = rw (df, dc) (sym (contents-unlock (view b e) (term (table b) r) cannot can
-              ∙ ap contentsOf (cipher-row b (ready .valid) r (ready .row) cipher)));
-          span = span-tail b r f c (span-row b (ready .valid) f c r (ready .row) df dc) (omega arith);
+          doing = doing-as (record { holds = refl; goes = omega arith; wrote = x; keeps = wrote-none })
+              (settled-compare (term (table b) r) p (view b e) n shut can);
+          names = terms-none b 0 0 (omega arith) ∙ sym (contents-compare (view b e) (term (table b) r) shut can);
+          span = empty-span b r;
           size = ready .size;
         }
 
-    pub settle-store : (k : ℕ) {n w x : ℕ} {l m o : List ℕ} {a j : ℕ} → u ≡ false → w ≡ r → x ≡ p + 2 → Wrote (r ∷ p ∷ []) l k m j
+    pub settle-store : (k : ℕ) {n w x : ℕ} {l m o : List ℕ} {a j : ℕ} → t ≡ false → w ≡ r → x ≡ p + 2 → Wrote (r ∷ p ∷ []) l k m j
         → Settling b r p n k e (set e w x) l m a o o (record { first = 0; left = 0; kept = j; at = a })
     unfolding pairWords programWords heldOf
-    settle-store k {n} {w} {x} y dw dx put =
+    settle-store k {n} {w} {x} q dw dx put =
         let cannot : buildable (view b e) (term (table b) r) ≡ false = sym dt ∙ q in
-        let shut : canOpen (view b e) (term (table b) r) ≡ false = sym du ∙ y in
         let c : p + 2 ≡ suc (suc p) = omega arith in
         let i = few-rows b (ready .valid) in
         let h = ready .row in
@@ -87,8 +88,8 @@ module _ {b ps e : List ℕ} {r p : ℕ} (ready : SettleReady b ps r p e) {t : B
             goes = omega arith;
             wrote = wrote-none;
             keeps = wrote-as put (ap (λ (y : ℕ). y ∷ p ∷ []) (row-of b (ready .valid) r (term (table b) r) h refl));
-          }) (settled-store (term (table b) r) p (view b e) n cannot shut);
-          names = terms-none b 0 0 (omega arith) ∙ sym (contents-store (view b e) (term (table b) r) cannot shut);
+          }) (settled-store (term (table b) r) p (view b e) n shut cannot);
+          names = terms-none b 0 0 (omega arith) ∙ sym (contents-store (view b e) (term (table b) r) shut cannot);
           span = empty-span b r;
           size = length-set e w x ∙ z;
         }

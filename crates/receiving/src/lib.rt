@@ -109,7 +109,7 @@ fn put_open(
     write_partner(book, partners, entries, first_part(book, row), out, last)
 }
 
-// The first rule that fits: compare, open or store.
+// The first rule that fits: open, compare or store.
 fn settle(
     book: &[u32],
     partners: &ByRow,
@@ -125,15 +125,6 @@ fn settle(
     requires { ⌜ SettleReady (now book) (now partners) row place (now entries) ⌝ }
     ensures { λ r. ⌜ Settling (now (book .entry)) row place next kept (now (entries .entry)) (now (entries .exit)) (now (log .entry)) (now (log .exit)) at (now (out .entry)) (now (out .exit)) r ⌝ }
 {
-    if buildable(book, entries, row) {
-        let last = put_check(book, entries, row, place, out, at);
-        return Settled {
-            first: 0,
-            left: 0,
-            kept,
-            at: last,
-        };
-    }
     if opens(book, partners, entries, row) {
         let last = put_open(book, partners, entries, row, place, next, out, at);
         let first = row_first(book, row) + 1;
@@ -141,6 +132,15 @@ fn settle(
         return Settled {
             first,
             left,
+            kept,
+            at: last,
+        };
+    }
+    if buildable(book, entries, row) {
+        let last = put_check(book, entries, row, place, out, at);
+        return Settled {
+            first: 0,
+            left: 0,
             kept,
             at: last,
         };

@@ -54,7 +54,7 @@ skips-steps b out = record { says = said 0 (length (firstListing b) ∷ []); len
 unfoldable pub refuses-rightly : Translator → Translator
 refuses-rightly f b out = pick (eqb (outcome b out .says .number) 0) (f b out) (outcome b out)
 
--- the smallest book, with 6 words lent, and example 1, with 50 (the first and third of the trials)
+-- the smallest book, with 6 words lent, and example 1, with 54 (the first and third of the trials)
 book-at : ℕ → List ℕ
 book-at i = getD trials i (trial [] [] 0 [] []) .book
 
@@ -76,7 +76,7 @@ pub writes-always-caught : (ws : List ℕ) → Caught (writes-always ws)
 unfolding computed trials book-at lent-at writes-always first-value
 writes-always-caught ws h =
     let d : length ws ≡ 5 = ap first-value (h (book-at 0) (lent-at 0)) in
-    let e : length ws ≡ 47 = ap first-value (h (book-at 2) (lent-at 2)) in
+    let e : length ws ≡ 51 = ap first-value (h (book-at 2) (lent-at 2)) in
     omega arith
 
 pub writes-nothing-caught : (f : Translator) → WritesNothing f → Caught f
@@ -87,7 +87,7 @@ writes-nothing-caught f n h =
 
 pub skips-steps-caught : Caught skips-steps
 unfolding computed trials book-at lent-at skips-steps firstListing firstStep first-value
-skips-steps-caught h = let e : _≡_ {A = ℕ} 22 47 = ap first-value (h (book-at 2) (lent-at 2)) in omega arith
+skips-steps-caught h = let e : _≡_ {A = ℕ} 22 51 = ap first-value (h (book-at 2) (lent-at 2)) in omega arith
 
 -- ---- the same, of translators that refuse rightly; this is that they do
 pub refuses-rightly-right : (f : Translator) (b out : List ℕ) → (outcome b out .says .number ≡ 0 → ⊥) → Promise b out (refuses-rightly f b out)
@@ -99,10 +99,10 @@ pub constant-on-acceptance-caught : (ws : List ℕ) → Caught (refuses-rightly 
 unfolding computed trials book-at lent-at refuses-rightly writes-always first-value
 constant-on-acceptance-caught ws h =
     let d : length ws ≡ 5 = ap first-value (h (book-at 0) (lent-at 0)) in
-    let e : length ws ≡ 47 = ap first-value (h (book-at 2) (lent-at 2)) in
+    let e : length ws ≡ 51 = ap first-value (h (book-at 2) (lent-at 2)) in
     omega arith
 
 -- on acceptance, the listing of the first step only
 pub first-step-on-acceptance-caught : Caught (refuses-rightly skips-steps)
 unfolding computed trials book-at lent-at refuses-rightly skips-steps firstListing firstStep first-value
-first-step-on-acceptance-caught h = let e : _≡_ {A = ℕ} 22 47 = ap first-value (h (book-at 2) (lent-at 2)) in omega arith
+first-step-on-acceptance-caught h = let e : _≡_ {A = ℕ} 22 51 = ap first-value (h (book-at 2) (lent-at 2)) in omega arith

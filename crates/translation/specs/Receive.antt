@@ -1,5 +1,5 @@
--- Receiving, figure 3's R. Document 01: "The n messages get the next n placeholders; a party's placeholders count from 0. Then, left
--- to right, the first rule that fits". Which rule fits is `rule`'s answer and nobody else's.
+-- Receiving, figure 3's R. Document 01: "The n messages get the next n placeholders; a party's placeholders count from 0." Then, left
+-- to right, each by its rule, in the order of document 02, [2]. Which rule fits is `rule`'s answer and nobody else's.
 use Prim.Native.Nat.{ℕ, suc, _+_}
 use mathlib.Core.Bool.{Bool, false}
 use mathlib.Core.List.{List, [], _∷_, _++_}
@@ -37,8 +37,8 @@ followed d e = record { dictionary = e .dictionary; given = d .given ++ e .given
 
 -- ---- the three rules
 pub data Rule : Type 0 where
-  compare : Rule
   unlock : Rule
+  compare : Rule
   store : Rule
 
 -- "It is a cipher and the partner of its key is buildable." The partner need not be a row, nor held.
@@ -49,10 +49,10 @@ canOpen δ (Term.cipher k ts) = buildable δ (partner k)
 canOpen δ (Term.public t) = false
 canOpen δ (Term.private t) = false
 
--- "1. The row is buildable: the placeholder is compared with its image. 2. It is a cipher and the partner of its key is buildable:
--- it is opened .. 3. Else the row is stored"
+-- Document 02, [2], in place of document 01's order: "a cipher whose key's partner is buildable is opened first; then a buildable row
+-- is compared; then storing"
 unfoldable pub rule : Dictionary → Term → Rule
-rule δ t = pick (buildable δ t) compare (pick (canOpen δ t) unlock store)
+rule δ t = pick (canOpen δ t) unlock (pick (buildable δ t) compare store)
 
 unfoldable pub byRule : Rule → Did → Did → Did → Did
 byRule compare c o s = c

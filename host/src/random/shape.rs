@@ -94,7 +94,8 @@ fn deep_ciphers(random: &mut Random) -> Book {
     table.finish(random, 4)
 }
 
-/// Large terms over atoms that all know, sent and compared in full: the longest listings.
+/// Large terms over atoms that all know; on arrival operations are compared in full and ciphers opened all the way down:
+/// the longest listings.
 fn long_listing(random: &mut Random) -> Book {
     let mut table = Table::default();
     let atoms = random.between(2, 6);
@@ -338,7 +339,7 @@ fn narrate(random: &mut Random, mut book: Book, steps: usize, most: usize, playa
 }
 
 /// A row the sender can send without making a taken atom, if some tries find one; often, if there
-/// is one, such that the receiver opens it.
+/// is one, such that the receiver opens it and finds something in it that it can't build.
 fn sendable(random: &mut Random, translation: &Translation, sender: u32, receiver: u32) -> Option<u32> {
     let receiver = translation.dictionary(receiver);
     let to_open = random.percent(60);
@@ -351,8 +352,9 @@ fn sendable(random: &mut Random, translation: &Translation, sender: u32, receive
             continue;
         }
         found = Some(row as u32);
-        let opened = receiver.image(term).is_none() && receiver.opening(term).is_some();
-        if opened || !to_open {
+        let unknown = |content: &Shared| receiver.image(content).is_none();
+        let learns = (receiver.opening(term)).is_some_and(|(_, contents)| contents.iter().any(unknown));
+        if learns || !to_open {
             break;
         }
     }

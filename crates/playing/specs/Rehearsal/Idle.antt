@@ -57,7 +57,7 @@ first-word o = getD (o .lent) 0 0
 pub ignores-schedule-caught : (f : Rehearser) → IgnoresSchedule f → RehearsalCaught f
 unfolding allRehearsed first-word
 ignores-schedule-caught f n h =
-    let ms : List ℕ = 1 ∷ 1 ∷ 0 ∷ 0 ∷ 1 ∷ 1 ∷ [] in
+    let ms : List ℕ = 1 ∷ 1 ∷ 0 ∷ 0 ∷ 1 ∷ 1 ∷ 1 ∷ 1 ∷ [] in
     let e : _≡_ {A = ℕ} 0 2 =
     ap first-word (sym (h exampleBook [] (replicate 2 9)) ∙ n exampleBook [] ms (replicate 2 9) ∙ h exampleBook ms (replicate 2 9)) in
     omega arith

@@ -30,10 +30,10 @@ unfoldable pub rehearsals : List Rehearsing
 rehearsals =
     -- nobody moves
     rehearsing exampleBook [] (replicate 3 9) 0 (2 ∷ []) (0 ∷ 0 ∷ 9 ∷ [])
-    ∷  -- B makes its atom and sends, A receives and sends, B receives and compares: both are at END
-    rehearsing exampleBook (1 ∷ 1 ∷ 0 ∷ 0 ∷ 1 ∷ 1 ∷ []) (replicate 3 9) 0 (2 ∷ []) (2 ∷ 4 ∷ 9 ∷ [])
+    ∷  -- B makes its atom and sends, A receives and sends, B receives, opens and compares both contents: both are at END
+    rehearsing exampleBook (1 ∷ 1 ∷ 0 ∷ 0 ∷ 1 ∷ 1 ∷ 1 ∷ 1 ∷ []) (replicate 3 9) 0 (2 ∷ []) (2 ∷ 6 ∷ 9 ∷ [])
     ∷  -- a party at END stays there
-    rehearsing exampleBook (1 ∷ 1 ∷ 0 ∷ 0 ∷ 1 ∷ 1 ∷ 0 ∷ 1 ∷ []) (replicate 2 9) 0 (2 ∷ []) (2 ∷ 4 ∷ [])
+    rehearsing exampleBook (1 ∷ 1 ∷ 0 ∷ 0 ∷ 1 ∷ 1 ∷ 1 ∷ 1 ∷ 0 ∷ 1 ∷ []) (replicate 2 9) 0 (2 ∷ []) (2 ∷ 6 ∷ [])
     ∷  -- A waits for a step not yet sent
     rehearsing exampleBook (0 ∷ 0 ∷ 1 ∷ 1 ∷ []) (replicate 2 9) 0 (2 ∷ []) (0 ∷ 2 ∷ [])
     ∷  -- the smallest move that names no party

@@ -40,27 +40,27 @@ receive-turn t p δ n = receive-rule t p δ n ∙ by-turn (rule δ t) t p δ n
 
 -- ---- settled and contents, by the rule
 module _ (t : Term) (p : ℕ) (δ : Dictionary) (n : ℕ) where
-  pub settled-compare : buildable δ t ≡ true → settled t p δ n ≡ compared t p δ
+  pub settled-unlock : canOpen δ t ≡ true → settled t p δ n ≡ unlocked t p δ n
   unfolding settled byRule
-  settled-compare e = rw (rule-compare δ t e)
+  settled-unlock e = rw (rule-unlock δ t e)
 
-  pub settled-unlock : buildable δ t ≡ false → canOpen δ t ≡ true → settled t p δ n ≡ unlocked t p δ n
+  pub settled-compare : canOpen δ t ≡ false → buildable δ t ≡ true → settled t p δ n ≡ compared t p δ
   unfolding settled byRule
-  settled-unlock e f = rw (rule-unlock δ t e f)
+  settled-compare e f = rw (rule-compare δ t e f)
 
-  pub settled-store : buildable δ t ≡ false → canOpen δ t ≡ false → settled t p δ n ≡ kept t p δ
+  pub settled-store : canOpen δ t ≡ false → buildable δ t ≡ false → settled t p δ n ≡ kept t p δ
   unfolding settled byRule
   settled-store e f = rw (rule-store δ t e f)
 
-pub contents-compare : (δ : Dictionary) (t : Term) → buildable δ t ≡ true → nextTerms δ t ≡ Terms.nil
+pub contents-unlock : (δ : Dictionary) (t : Term) → canOpen δ t ≡ true → nextTerms δ t ≡ contentsOf t
 unfolding nextTerms freed
-contents-compare δ t e = rw (rule-compare δ t e)
+contents-unlock δ t e = rw (rule-unlock δ t e)
 
-pub contents-unlock : (δ : Dictionary) (t : Term) → buildable δ t ≡ false → canOpen δ t ≡ true → nextTerms δ t ≡ contentsOf t
+pub contents-compare : (δ : Dictionary) (t : Term) → canOpen δ t ≡ false → buildable δ t ≡ true → nextTerms δ t ≡ Terms.nil
 unfolding nextTerms freed
-contents-unlock δ t e f = rw (rule-unlock δ t e f)
+contents-compare δ t e f = rw (rule-compare δ t e f)
 
-pub contents-store : (δ : Dictionary) (t : Term) → buildable δ t ≡ false → canOpen δ t ≡ false → nextTerms δ t ≡ Terms.nil
+pub contents-store : (δ : Dictionary) (t : Term) → canOpen δ t ≡ false → buildable δ t ≡ false → nextTerms δ t ≡ Terms.nil
 unfolding nextTerms freed
 contents-store δ t e f = rw (rule-store δ t e f)
 

@@ -14,24 +14,24 @@ use Rattle.translation.specs.Dictionary.{Dictionary, buildable}
 use Rattle.translation.specs.Receive.{Event, Did, nothing, followed, Rule, canOpen, rule, byRule, compared, kept, opened, receive, receiveAll}
 
 -- ---- rule
-pub rule-compare : (δ : Dictionary) (t : Term) → buildable δ t ≡ true → rule δ t ≡ Rule.compare
+pub rule-unlock : (δ : Dictionary) (t : Term) → canOpen δ t ≡ true → rule δ t ≡ Rule.unlock
 unfolding rule
-rule-compare δ t e = pick-true _ _ _ e
+rule-unlock δ t e = pick-true _ _ _ e
 
-pub rule-unlock : (δ : Dictionary) (t : Term) → buildable δ t ≡ false → canOpen δ t ≡ true → rule δ t ≡ Rule.unlock
+pub rule-compare : (δ : Dictionary) (t : Term) → canOpen δ t ≡ false → buildable δ t ≡ true → rule δ t ≡ Rule.compare
 unfolding rule
-rule-unlock δ t e f = rw (pick-false (buildable δ t) Rule.compare (pick (canOpen δ t) Rule.unlock Rule.store) e) (pick-true _ _ _ f)
+rule-compare δ t e f = rw (pick-false (canOpen δ t) Rule.unlock (pick (buildable δ t) Rule.compare Rule.store) e) (pick-true _ _ _ f)
 
-pub rule-store : (δ : Dictionary) (t : Term) → buildable δ t ≡ false → canOpen δ t ≡ false → rule δ t ≡ Rule.store
+pub rule-store : (δ : Dictionary) (t : Term) → canOpen δ t ≡ false → buildable δ t ≡ false → rule δ t ≡ Rule.store
 unfolding rule
-rule-store δ t e f = rw (pick-false (buildable δ t) Rule.compare (pick (canOpen δ t) Rule.unlock Rule.store) e) (pick-false _ _ _ f)
+rule-store δ t e f = rw (pick-false (canOpen δ t) Rule.unlock (pick (buildable δ t) Rule.compare Rule.store) e) (pick-false _ _ _ f)
 
 -- what a rule's answer means, whatever order the rules stand in: a term is compared only if it is buildable, opened only if it can
 -- be, and stored only if it isn't buildable
 pub rule-ind : (P : Rule → Type 0) (δ : Dictionary) (t : Term) → (buildable δ t ≡ true → P Rule.compare)
     → (canOpen δ t ≡ true → P Rule.unlock) → (buildable δ t ≡ false → P Rule.store) → P (rule δ t)
 unfolding rule
-rule-ind P δ t f g h = pick-ind P (buildable δ t) _ _ f (λ e. pick-ind P (canOpen δ t) _ _ g (λ d. h e))
+rule-ind P δ t f g h = pick-ind P (canOpen δ t) _ _ g (λ e. pick-ind P (buildable δ t) _ _ f h)
 
 -- what holds of what each rule does holds of what the rule that fits does
 pub by-rule : (P : Did → Type 0) (r : Rule) (c o s : Did) → P c → P o → P s → P (byRule r c o s)

@@ -1,8 +1,10 @@
 -- Receiving, figure 3's R. Document 01: "The n messages get the next n placeholders; a party's placeholders count from 0." Then, left
 -- to right, each by its rule, in the order of document 02, [2]. Which rule fits is `rule`'s answer and nobody else's.
 use Prim.Native.Nat.{ℕ, suc, _+_}
-use mathlib.Core.Bool.{Bool, false}
+use mathlib.Core.Bool.{Bool, true, false}
 use mathlib.Core.List.{List, [], _∷_, _++_}
+use mathlib.Core.Logic.{_↔_}
+use mathlib.Core.Path.{_≡_}
 use lib.ListN.{length}
 use Rattle.words.specs.Choice.{pick}
 use Rattle.terms.specs.Term.{Term, Terms, count, listed, partner}
@@ -53,6 +55,12 @@ canOpen δ (Term.private t) = false
 -- is compared; then storing"
 unfoldable pub rule : Dictionary → Term → Rule
 rule δ t = pick (canOpen δ t) unlock (pick (buildable δ t) compare store)
+
+-- each rule exactly when: which tests of a term lead to it, and that no others do
+pub record RuleExact (δ : Dictionary) (t : Term) : Type 0 where
+  pub opens : (rule δ t ≡ Rule.unlock) ↔ (canOpen δ t ≡ true)
+  pub compares : (rule δ t ≡ Rule.compare) ↔ ((canOpen δ t ≡ false) × (buildable δ t ≡ true))
+  pub stores : (rule δ t ≡ Rule.store) ↔ ((canOpen δ t ≡ false) × (buildable δ t ≡ false))
 
 unfoldable pub byRule : Rule → Did → Did → Did → Did
 byRule compare c o s = c

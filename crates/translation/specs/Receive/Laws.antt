@@ -1,7 +1,7 @@
 -- Laws of receiving: everything goes by the cases of `rule`. Assumes nothing.
 use Prim.Native.Nat.{ℕ, suc, _+_}
 use native.Mathlib.Omega.{arith}
-use mathlib.Core.Bool.{true, false, false≢true}
+use mathlib.Core.Bool.{Bool, true, false, false≢true}
 use mathlib.Core.List.{List, [], _∷_, _++_}
 use mathlib.Core.Path.{_≡_, refl}
 use lib.ListN.{length, length-append}
@@ -11,7 +11,7 @@ use Rattle.terms.specs.Term.{Term, Terms, count, listed}
 use Rattle.terms.specs.Term.Laws.{count-listed}
 use Rattle.terms.specs.Image.{Image}
 use Rattle.translation.specs.Dictionary.{Dictionary, buildable}
-use Rattle.translation.specs.Receive.{Event, Did, nothing, followed, Rule, canOpen, rule, byRule, compared, kept, opened, receive, receiveAll}
+use Rattle.translation.specs.Receive.{Event, Did, nothing, followed, Rule, canOpen, rule, RuleExact, byRule, compared, kept, opened, receive, receiveAll}
 
 -- ---- rule
 pub rule-unlock : (δ : Dictionary) (t : Term) → canOpen δ t ≡ true → rule δ t ≡ Rule.unlock
@@ -25,6 +25,21 @@ rule-compare δ t e f = rw (pick-false (canOpen δ t) Rule.unlock (pick (buildab
 pub rule-store : (δ : Dictionary) (t : Term) → canOpen δ t ≡ false → buildable δ t ≡ false → rule δ t ≡ Rule.store
 unfolding rule
 rule-store δ t e f = rw (pick-false (canOpen δ t) Rule.unlock (pick (buildable δ t) Rule.compare Rule.store) e) (pick-false _ _ _ f)
+
+-- each exactly when
+pub rule-exact : (δ : Dictionary) (t : Term) → RuleExact δ t
+rule-exact δ t = go (canOpen δ t) (buildable δ t) refl refl
+  where
+    go : (o b : Bool) → canOpen δ t ≡ o → buildable δ t ≡ b → RuleExact δ t
+    go true b e f =
+        let r = rule-unlock δ t e in
+        record { opens = (λ q. e, λ h. r); compares = (λ q. (cc, cc), λ (h, k). cc); stores = (λ q. (cc, cc), λ (h, k). cc) }
+    go false true e f =
+        let r = rule-compare δ t e f in
+        record { opens = (λ q. cc, λ h. cc); compares = (λ q. (e, f), λ h. r); stores = (λ q. (cc, cc), λ (h, k). cc) }
+    go false false e f =
+        let r = rule-store δ t e f in
+        record { opens = (λ q. cc, λ h. cc); compares = (λ q. (cc, cc), λ (h, k). cc); stores = (λ q. (e, f), λ h. r) }
 
 -- what a rule's answer means, whatever order the rules stand in: a term is compared only if it is buildable, opened only if it can
 -- be, and stored only if it isn't buildable

@@ -1,6 +1,5 @@
--- The P trials of document 01, 'Trials at the edges', and behind them four on the order of receiving, document 02, [2]: one statement
--- over one table, computed from the definitions. A trial is the book's words and the lent words, 9s; and what is answered and lent
--- afterwards.
+-- The P trials of document 01, 'Trials at the edges': one statement over one table, computed from the definitions. A trial is the
+-- book's words and the lent words, 9s; and what is answered and lent afterwards. Smaller tables stand behind it.
 use Prim.Native.Nat.{ℕ}
 use native.Mathlib.Decide.{ℕ-discrete}
 use mathlib.Core.List.{List, [], _∷_}
@@ -91,36 +90,6 @@ trials =
     ∷ 0 ∷ 0 ∷ 0 ∷ [])
     (replicate 20 9) 8 (0 ∷ [])
     (replicate 20 9)
-    ∷  -- A sends B the cipher of N under K, then K, then the cipher again: stored at first, it is opened now, and B can send N
-    trial (5 ∷ 8 ∷ 2 ∷ 28 ∷ 4 ∷ 34 ∷ 11 ∷ 50 ∷ 0 ∷ 0 ∷ 0 ∷ 0 ∷ 0 ∷ 0 ∷ 0 ∷ 0 ∷ 0 ∷ 0 ∷ 0 ∷ 0 ∷ 0 ∷ 0 ∷ 0
-    ∷ 0 ∷ 2 ∷ 0 ∷ 0 ∷ 2 ∷ 0 ∷ 2 ∷ 3 ∷ 1 ∷ 5 ∷ 2 ∷ 0 ∷ 1 ∷ 7 ∷ 1 ∷ 0 ∷ 1 ∷ 8 ∷ 1 ∷ 0 ∷ 1 ∷ 9 ∷ 1
-    ∷ 1 ∷ 0 ∷ 10 ∷ 1 ∷ 2 ∷ 3 ∷ 0 ∷ 1 ∷ 2 ∷ 0 ∷ 1 ∷ 4 ∷ 2 ∷ 4 ∷ 3 ∷ [])
-    (replicate 72 9) 0 (71 ∷ [])
-    (2 ∷ 5 ∷ 35 ∷ 40 ∷ 31 ∷ 1 ∷ 3 ∷ 2 ∷ 0 ∷ 1 ∷ 3 ∷ 1 ∷ 0 ∷ 2 ∷ 0 ∷ 3 ∷ 2 ∷ 1 ∷ 1 ∷ 0 ∷ 2 ∷ 2 ∷ 2
-    ∷ 1 ∷ 3 ∷ 1 ∷ 0 ∷ 2 ∷ 0 ∷ 3 ∷ 3 ∷ 3 ∷ 0 ∷ 1 ∷ 4 ∷ 0 ∷ 0 ∷ 3 ∷ 6 ∷ 0 ∷ 3 ∷ 0 ∷ 0 ∷ 1 ∷ 3 ∷ 1
-    ∷ 1 ∷ 1 ∷ 3 ∷ 2 ∷ 2 ∷ 1 ∷ 5 ∷ 2 ∷ 3 ∷ 1 ∷ 1 ∷ 1 ∷ 2 ∷ 3 ∷ 1 ∷ 1 ∷ 3 ∷ 6 ∷ 3 ∷ 4 ∷ 0 ∷ 2 ∷ 1
-    ∷ 3 ∷ 3 ∷ replicate 1 9)
-    ∷  -- A receives the cipher of K- under L, then L, then the cipher again, and has K- of it; so the cipher of N under K+ is opened and
-    -- not stored, and to send it A would have to make K
-    trial (9 ∷ 8 ∷ 2 ∷ 44 ∷ 5 ∷ 50 ∷ 13 ∷ 70 ∷ 0 ∷ 0 ∷ 0 ∷ 0 ∷ 0 ∷ 0 ∷ 0 ∷ 0 ∷ 0 ∷ 0 ∷ 0 ∷ 0 ∷ 0 ∷ 0 ∷ 0
-    ∷ 0 ∷ 0 ∷ 0 ∷ 0 ∷ 0 ∷ 4 ∷ 0 ∷ 0 ∷ 1 ∷ 2 ∷ 0 ∷ 1 ∷ 2 ∷ 3 ∷ 0 ∷ 3 ∷ 1 ∷ 2 ∷ 0 ∷ 4 ∷ 2 ∷ 0 ∷ 6
-    ∷ 1 ∷ 1 ∷ 7 ∷ 1 ∷ 1 ∷ 0 ∷ 8 ∷ 1 ∷ 1 ∷ 0 ∷ 9 ∷ 1 ∷ 1 ∷ 0 ∷ 10 ∷ 1 ∷ 1 ∷ 0 ∷ 11 ∷ 1 ∷ 0 ∷ 1 ∷ 12
-    ∷ 1 ∷ 2 ∷ 3 ∷ 5 ∷ 2 ∷ 7 ∷ 4 ∷ 0 ∷ 1 ∷ 6 ∷ 3 ∷ 6 ∷ 8 ∷ 8 ∷ [])
-    (replicate 3 9) 10 (4 ∷ 2 ∷ [])
-    (replicate 3 9)
-    ∷  -- a cipher with no contents, which B could build, is opened
-    trial (4 ∷ 8 ∷ 2 ∷ 24 ∷ 1 ∷ 30 ∷ 4 ∷ 34 ∷ 0 ∷ 0 ∷ 0 ∷ 0 ∷ 0 ∷ 0 ∷ 0 ∷ 0 ∷ 0 ∷ 0 ∷ 0 ∷ 0 ∷ 2 ∷ 0 ∷ 0
-    ∷ 1 ∷ 0 ∷ 1 ∷ 1 ∷ 1 ∷ 2 ∷ 1 ∷ 0 ∷ 1 ∷ 3 ∷ 1 ∷ 2 ∷ 2 ∷ 2 ∷ 3 ∷ [])
-    (replicate 27 9) 0 (26 ∷ [])
-    (2 ∷ 5 ∷ 9 ∷ 14 ∷ 12 ∷ 2 ∷ 0 ∷ 1 ∷ 3 ∷ 0 ∷ 0 ∷ 2 ∷ 6 ∷ 0 ∷ 3 ∷ 0 ∷ 0 ∷ 1 ∷ 5 ∷ 0 ∷ 1 ∷ 0 ∷ 0
-    ∷ 2 ∷ 6 ∷ 0 ∷ replicate 1 9)
-    ∷  -- B holds N and K+, and neither K- nor K: the cipher of N under K+ can be built and not opened, and is compared
-    trial (6 ∷ 8 ∷ 2 ∷ 32 ∷ 1 ∷ 38 ∷ 8 ∷ 42 ∷ 0 ∷ 0 ∷ 0 ∷ 0 ∷ 0 ∷ 0 ∷ 0 ∷ 0 ∷ 0 ∷ 0 ∷ 0 ∷ 0 ∷ 0 ∷ 0 ∷ 0
-    ∷ 0 ∷ 3 ∷ 0 ∷ 0 ∷ 1 ∷ 2 ∷ 0 ∷ 1 ∷ 2 ∷ 0 ∷ 3 ∷ 2 ∷ 1 ∷ 5 ∷ 2 ∷ 0 ∷ 1 ∷ 7 ∷ 1 ∷ 2 ∷ 4 ∷ 3 ∷ 3
-    ∷ 4 ∷ 3 ∷ 4 ∷ 5 ∷ [])
-    (replicate 31 9) 0 (30 ∷ [])
-    (2 ∷ 5 ∷ 11 ∷ 16 ∷ 14 ∷ 2 ∷ 0 ∷ 1 ∷ 3 ∷ 1 ∷ 0 ∷ 4 ∷ 0 ∷ 3 ∷ 6 ∷ 0 ∷ 3 ∷ 0 ∷ 0 ∷ 1 ∷ 4 ∷ 0 ∷ 3
-    ∷ 1 ∷ 0 ∷ 4 ∷ 0 ∷ 3 ∷ 6 ∷ 0 ∷ replicate 1 9)
     ∷ []
 
 -- what the definitions say of each
@@ -152,3 +121,52 @@ storing =
 pub storing-holds : computed storing ≡ expected storing
 unfolding computed expected storing
 storing-holds = refl
+
+-- ---- document 02, [2]: "a cipher stored earlier and received again with its key now teaches its contents, so some books change
+-- sides": one is accepted by that, one refused
+unfoldable pub sides : List Trial
+sides =
+    -- A sends B the cipher of N under K, then K, then the cipher again: stored the first time, it is opened the second, and B can send N
+    trial (5 ∷ 8 ∷ 2 ∷ 28 ∷ 4 ∷ 34 ∷ 11 ∷ 50 ∷ 0 ∷ 0 ∷ 0 ∷ 0 ∷ 0 ∷ 0 ∷ 0 ∷ 0 ∷ 0 ∷ 0 ∷ 0 ∷ 0 ∷ 0 ∷ 0 ∷ 0
+    ∷ 0 ∷ 2 ∷ 0 ∷ 0 ∷ 2 ∷ 0 ∷ 2 ∷ 3 ∷ 1 ∷ 5 ∷ 2 ∷ 0 ∷ 1 ∷ 7 ∷ 1 ∷ 0 ∷ 1 ∷ 8 ∷ 1 ∷ 0 ∷ 1 ∷ 9 ∷ 1
+    ∷ 1 ∷ 0 ∷ 10 ∷ 1 ∷ 2 ∷ 3 ∷ 0 ∷ 1 ∷ 2 ∷ 0 ∷ 1 ∷ 4 ∷ 2 ∷ 4 ∷ 3 ∷ [])
+    (replicate 72 9) 0 (71 ∷ [])
+    (2 ∷ 5 ∷ 35 ∷ 40 ∷ 31 ∷ 1 ∷ 3 ∷ 2 ∷ 0 ∷ 1 ∷ 3 ∷ 1 ∷ 0 ∷ 2 ∷ 0 ∷ 3 ∷ 2 ∷ 1 ∷ 1 ∷ 0 ∷ 2 ∷ 2 ∷ 2
+    ∷ 1 ∷ 3 ∷ 1 ∷ 0 ∷ 2 ∷ 0 ∷ 3 ∷ 3 ∷ 3 ∷ 0 ∷ 1 ∷ 4 ∷ 0 ∷ 0 ∷ 3 ∷ 6 ∷ 0 ∷ 3 ∷ 0 ∷ 0 ∷ 1 ∷ 3 ∷ 1
+    ∷ 1 ∷ 1 ∷ 3 ∷ 2 ∷ 2 ∷ 1 ∷ 5 ∷ 2 ∷ 3 ∷ 1 ∷ 1 ∷ 1 ∷ 2 ∷ 3 ∷ 1 ∷ 1 ∷ 3 ∷ 6 ∷ 3 ∷ 4 ∷ 0 ∷ 2 ∷ 1
+    ∷ 3 ∷ 3 ∷ replicate 1 9)
+    ∷  -- A receives the cipher of K- under L, then L, then the cipher again, and has K- of it; so the cipher of N under K+ is opened and
+    -- not stored, and to send it A would have to make K
+    trial (9 ∷ 8 ∷ 2 ∷ 44 ∷ 5 ∷ 50 ∷ 13 ∷ 70 ∷ 0 ∷ 0 ∷ 0 ∷ 0 ∷ 0 ∷ 0 ∷ 0 ∷ 0 ∷ 0 ∷ 0 ∷ 0 ∷ 0 ∷ 0 ∷ 0 ∷ 0
+    ∷ 0 ∷ 0 ∷ 0 ∷ 0 ∷ 0 ∷ 4 ∷ 0 ∷ 0 ∷ 1 ∷ 2 ∷ 0 ∷ 1 ∷ 2 ∷ 3 ∷ 0 ∷ 3 ∷ 1 ∷ 2 ∷ 0 ∷ 4 ∷ 2 ∷ 0 ∷ 6
+    ∷ 1 ∷ 1 ∷ 7 ∷ 1 ∷ 1 ∷ 0 ∷ 8 ∷ 1 ∷ 1 ∷ 0 ∷ 9 ∷ 1 ∷ 1 ∷ 0 ∷ 10 ∷ 1 ∷ 1 ∷ 0 ∷ 11 ∷ 1 ∷ 0 ∷ 1 ∷ 12
+    ∷ 1 ∷ 2 ∷ 3 ∷ 5 ∷ 2 ∷ 7 ∷ 4 ∷ 0 ∷ 1 ∷ 6 ∷ 3 ∷ 6 ∷ 8 ∷ 8 ∷ [])
+    (replicate 3 9) 10 (4 ∷ 2 ∷ [])
+    (replicate 3 9)
+    ∷ []
+
+pub sides-hold : computed sides ≡ expected sides
+unfolding computed expected sides
+sides-hold = refl
+
+-- ---- "a cipher whose key's partner is buildable is opened first; then a buildable row is compared"
+unfoldable pub openedFirst : List Trial
+openedFirst =
+    -- a cipher with no contents, which B could build, is opened
+    trial (4 ∷ 8 ∷ 2 ∷ 24 ∷ 1 ∷ 30 ∷ 4 ∷ 34 ∷ 0 ∷ 0 ∷ 0 ∷ 0 ∷ 0 ∷ 0 ∷ 0 ∷ 0 ∷ 0 ∷ 0 ∷ 0 ∷ 0 ∷ 2 ∷ 0 ∷ 0
+    ∷ 1 ∷ 0 ∷ 1 ∷ 1 ∷ 1 ∷ 2 ∷ 1 ∷ 0 ∷ 1 ∷ 3 ∷ 1 ∷ 2 ∷ 2 ∷ 2 ∷ 3 ∷ [])
+    (replicate 27 9) 0 (26 ∷ [])
+    (2 ∷ 5 ∷ 9 ∷ 14 ∷ 12 ∷ 2 ∷ 0 ∷ 1 ∷ 3 ∷ 0 ∷ 0 ∷ 2 ∷ 6 ∷ 0 ∷ 3 ∷ 0 ∷ 0 ∷ 1 ∷ 5 ∷ 0 ∷ 1 ∷ 0 ∷ 0
+    ∷ 2 ∷ 6 ∷ 0 ∷ replicate 1 9)
+    ∷  -- B holds N and K+, and neither K- nor K: the cipher of N under K+ can be built and not opened, and is compared
+    trial (6 ∷ 8 ∷ 2 ∷ 32 ∷ 1 ∷ 38 ∷ 8 ∷ 42 ∷ 0 ∷ 0 ∷ 0 ∷ 0 ∷ 0 ∷ 0 ∷ 0 ∷ 0 ∷ 0 ∷ 0 ∷ 0 ∷ 0 ∷ 0 ∷ 0 ∷ 0
+    ∷ 0 ∷ 3 ∷ 0 ∷ 0 ∷ 1 ∷ 2 ∷ 0 ∷ 1 ∷ 2 ∷ 0 ∷ 3 ∷ 2 ∷ 1 ∷ 5 ∷ 2 ∷ 0 ∷ 1 ∷ 7 ∷ 1 ∷ 2 ∷ 4 ∷ 3 ∷ 3
+    ∷ 4 ∷ 3 ∷ 4 ∷ 5 ∷ [])
+    (replicate 31 9) 0 (30 ∷ [])
+    (2 ∷ 5 ∷ 11 ∷ 16 ∷ 14 ∷ 2 ∷ 0 ∷ 1 ∷ 3 ∷ 1 ∷ 0 ∷ 4 ∷ 0 ∷ 3 ∷ 6 ∷ 0 ∷ 3 ∷ 0 ∷ 0 ∷ 1 ∷ 4 ∷ 0 ∷ 3
+    ∷ 1 ∷ 0 ∷ 4 ∷ 0 ∷ 3 ∷ 6 ∷ 0 ∷ replicate 1 9)
+    ∷ []
+
+pub openedFirst-holds : computed openedFirst ≡ expected openedFirst
+unfolding computed expected openedFirst
+openedFirst-holds = refl

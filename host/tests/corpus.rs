@@ -102,6 +102,12 @@ const TRIALS: &[(&str, &str)] = &[
     ("trial-row-1022", "1 3 2 6 0"),
     ("refusal-5", "refused 5 1023"),
     (
+        "trial-taught-nonce",
+        "2 5 37 42 31 1 2 1 3 2 0 1 3 1 0 2 0 3 2 1 1 0 2 2 2 1 3 1 0 2 0 3 3 3 0 1 4 0 0 3 6 0 \
+         3 0 0 1 3 1 1 1 3 2 2 1 5 2 3 1 1 1 2 3 1 1 3 6 3 4 0 2 1 3 3",
+    ),
+    ("unplayable-taught-key", "refused 10 4 3"),
+    (
         "trial-empty-cipher",
         "3 7 24 31 18 49 10 2 0 2 3 0 0 2 3 0 0 3 2 1 2 3 0 0 2 3 0 0 3 6 0 \
          3 0 0 2 5 0 2 0 0 5 5 1 2 0 0 3 6 0 3 1 0 2 6 2 7 0 8 1",
@@ -110,6 +116,12 @@ const TRIALS: &[(&str, &str)] = &[
         "trial-open-before-compare",
         "2 5 27 32 38 1 5 2 0 3 3 1 0 1 0 2 3 2 0 1 0 2 0 5 3 1 0 1 0 5 6 0 \
          3 0 0 3 5 0 3 1 0 1 4 3 0 2 5 1 4 2 0 1 4 4 0 2 5 2 6 1 0 1 4 6 1 5 6 1 5 5",
+    ),
+    (
+        "trial-compared-cipher",
+        "3 7 36 43 20 63 16 \
+         1 8 1 9 2 0 3 3 1 0 2 0 3 3 1 0 8 0 9 3 1 0 8 0 9 2 1 1 3 1 0 2 0 3 6 0 \
+         3 0 0 3 4 0 3 1 0 2 0 3 4 2 1 1 6 1 10 1 3 1 0 1 5 0 1 1 0 6 4 1 0 3 6 0",
     ),
 ];
 
@@ -138,6 +150,7 @@ fn the_edges_are_reached() {
         ("deep-ciphers", 255, 0),
         ("deep-ciphers-halves", 204, 0),
         ("deep-ciphers-built", 255, 1),
+        ("deep-ciphers-compared", 0, 1),
         ("deep-keys", 1, 0),
         ("deep-partner", 1, 0),
     ] {

@@ -1,14 +1,15 @@
 //! The worked examples of source 000: the listings of books/example-1 to example-4 are the processes printed there, word
 //! by word, with document 01's two corrections; and so is that of section 5's request, but for one pair.
 //!
-//! Every line has a piece of a printed process and, beside it, the event that document 01's layout makes of it. A
-//! variable that a process binds is a placeholder, numbered in the order of binding, each party's from 0. Where a process
-//! names the channel of the receiver, a listing names the step, from 0. `After` with its map is END.
+//! Every line has a piece of a printed process and, beside it, the event that document 01's layout makes of it. `^chan_B`
+//! is printed with a line over it, `new` as a Greek letter, and the map of an `After` above it. A variable that a process
+//! binds is a placeholder, numbered in the order of binding, each party's from 0. Where a process names the channel of the
+//! receiver, a listing names the step, from 0. An `After` is END.
 
 mod common;
 
 use common::{atom, atoms, book, party, row, step, top};
-use host::book::Book;
+use host::book::{Book, Refusal};
 use host::translate::{print, translate};
 use host::words::{line, of_bytes, to_bytes};
 use std::fs;
@@ -163,10 +164,16 @@ fn example_2() {
         ("After_B, N_A -> x1", vec![END, 1, NA, x1]),
     ];
     is_printed("example-2", &book, &[&a, &b], 90);
+
+    // With the knowledge as it is printed A couldn't open the answer, and would have to make N_B.
+    let mut uncorrected = book;
+    uncorrected.parties[0].known = vec![A, B, KA_PUBLIC, KB_PUBLIC, KB_PRIVATE];
+    let refused = translate(&uncorrected.words(), &mut [0; 90]);
+    assert_eq!(refused, Err(Refusal::new(10, &[2, NB])));
 }
 
-/// Andrew Secure RPC. "B's end prints z1 for N_A where the figure gives x3" (document 01). A's second receiving is
-/// printed on a channel C_A, which nothing else names: it is chan_A.
+/// Andrew Secure RPC. "B's end prints z1 for N_A where the figure gives x3" (document 01): z1 is succ(N_B), and N_A was
+/// bound to x3. A's second receiving is printed on a channel C_A, which nothing else names: it is chan_A.
 #[test]
 fn example_3() {
     const A: u32 = 0;

@@ -38,7 +38,7 @@ fn is_printed(name: &str, book: &Book, parties: &[&[Line]], length: usize) {
     assert_eq!(of_bytes(&bytes), Ok(words.clone()), "{name}");
 
     let mut listing = vec![0; 2 * length];
-    assert_eq!(translate(&words, &mut listing), Ok(length), "{name}");
+    let answer = translate(&words, &mut listing);
     let mut at = 1 + 2 * parties.len();
     let mut heads = vec![parties.len()];
     for (number, lines) in parties.iter().enumerate() {
@@ -53,7 +53,7 @@ fn is_printed(name: &str, book: &Book, parties: &[&[Line]], length: usize) {
         }
         heads.extend([start, at - start]);
     }
-    assert_eq!(at, length, "{name}");
+    assert_eq!((at, answer), (length, Ok(length)), "{name}");
     let heads: Vec<u32> = heads.into_iter().map(|head| head as u32).collect();
     assert_eq!(listing[..heads.len()], heads, "{name}");
     let told = fs::read_to_string(file("listing")).expect(name);

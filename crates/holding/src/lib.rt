@@ -35,7 +35,7 @@ ghost use Rattle.translation.specs.Dictionary.{start as startOf, buildable as b
 ghost use Rattle.holding.specs.View.{rowOf, view};
 ghost use Rattle.book.specs.Span.{Span};
 ghost use Rattle.holding.specs.AtRow.{imageAt, imagesAt, headWords, entryWords};
-ghost use Rattle.holding.specs.Partners.{Halves, Partners};
+ghost use Rattle.holding.specs.Partners.{PartnersBefore, Partners};
 
 // What a party holds at the start: each row that it knows, as itself.
 pub fn start(book: &[u32], party: u32) -> ByRow
@@ -75,51 +75,35 @@ pub fn buildable(book: &[u32], entries: &ByRow, row: u32) -> bool
     true
 }
 
-// The halves of that kind, an entry for each row: the row of its half, or T where that is no row.
-fn halves(book: &[u32], side: u32) -> ByRow
-    requires { ⌜ Valid (now book) × (3 ≤ side) × (side ≤ 4) ⌝ }
-    ensures { λ r. ⌜ Halves (now (book .entry)) side r ⌝ }
+// A half finds the other half of its part, where that stands before it, and each is entered as the other's partner.
+fn join(book: &[u32], table: &mut ByRow, seen: &mut ByRow, row: u32)
+    requires { ⌜ Valid (now book) × PartnersBefore (now book) row (now table) (now seen) × (row < rowsOf (now book)) × (3 ≤ kind (now book) row) ⌝ }
+    ensures { λ _. ⌜ PartnersBefore (now (book .entry)) (row + 1) (now (table .exit)) (now (seen .exit)) ⌝ }
 {
-    let n = rows(book);
-    let mut table = [n; 1024];
-    let mut row = 0;
-    while row < n {
-        if row_kind(book, row) == side {
-            let part = first_part(book, row);
-            table[wide(part)] = row;
-        }
-        row += 1;
+    let part = first_part(book, row);
+    let other = seen[wide(part)];
+    table[wide(row)] = other;
+    if other < rows(book) {
+        table[wide(other)] = row;
     }
-    table
+    seen[wide(part)] = row;
 }
 
-// The row of a key's partner, or T where it is no row. A key that is no half is its own partner.
-fn partner_row(book: &[u32], publics: &ByRow, privates: &ByRow, key: u32) -> u32
-    requires { ⌜ Valid (now book) × Halves (now book) 3 (now publics) × Halves (now book) 4 (now privates) × (key < rowsOf (now book)) ⌝ }
-    ensures { λ r. ⌜ r ≡ rowOf (now (book .entry)) (partner (term (table (now (book .entry))) key)) ⌝ }
-{
-    let side = row_kind(book, key);
-    if side == Kind::PUBLIC {
-        return privates[wide(first_part(book, key))];
-    }
-    if side == Kind::PRIVATE {
-        return publics[wide(first_part(book, key))];
-    }
-    key
-}
-
-// The partners of a book's rows, made once for the book.
+// The row of each row's partner, or T where that is no row, made once for the book. A row that is no half is its own partner.
 pub fn partners(book: &[u32]) -> ByRow
     requires { ⌜ Valid (now book) ⌝ }
     ensures { λ r. ⌜ Partners (now (book .entry)) r ⌝ }
 {
-    let publics = halves(book, Kind::PUBLIC);
-    let privates = halves(book, Kind::PRIVATE);
     let n = rows(book);
     let mut table = [0u32; 1024];
+    let mut seen = [n; 1024];
     let mut row = 0;
     while row < n {
-        table[wide(row)] = partner_row(book, &publics, &privates, row);
+        if is_half(row_kind(book, row)) {
+            join(book, &mut table, &mut seen, row);
+        } else {
+            table[wide(row)] = row;
+        }
         row += 1;
     }
     table

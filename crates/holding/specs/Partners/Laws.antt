@@ -17,7 +17,7 @@ use Rattle.terms.specs.Image.{words}
 use Rattle.terms.specs.Table.{form, term, terms, number}
 use Rattle.terms.specs.Table.Laws.{term-row, kindOf}
 use Rattle.book.specs.Layout.{table, rows, kind, rowFirst, rowCount}
-use Rattle.book.specs.Kinds.Laws.{other-low, other-high}
+use Rattle.book.specs.Kinds.Laws.{other-low, other-high, other-private, other-public}
 use Rattle.book.specs.Valid.{Valid}
 use Rattle.book.specs.Valid.Laws.{formed, equal-terms, row-kind}
 use Rattle.translation.specs.Dictionary.{free, Dictionary, buildable, imageOr, image}
@@ -25,13 +25,17 @@ use Rattle.holding.specs.View.{rowOf, view}
 use Rattle.holding.specs.View.Laws.{row-stands, row-of, view-none}
 use Rattle.book.specs.Span.{entry}
 use Rattle.book.specs.Span.Laws.{list-more, some-part, part-low}
-use Rattle.holding.specs.Partners.{half, Partners}
+use Rattle.holding.specs.Partners.{Partners, HalfOf}
 
-pub kind-half : (k : ℕ) (t : Term) → 3 ≤ k → k ≤ 4 → kindOf (half k t) ≡ k
+-- a half of a term: kind 3 public, 4 private
+unfoldable half : ℕ → Term → Term
+half k t = pick (eqb k 3) (Term.public t) (Term.private t)
+
+kind-half : (k : ℕ) (t : Term) → 3 ≤ k → k ≤ 4 → kindOf (half k t) ≡ k
 unfolding kindOf half pick
 kind-half k t l h = elim (ℕ-discrete k 3) [ yes e ↦ rw e | no e ↦ (let z : k ≡ 4 = omega arith in rw z) ]
 
-pub half-part : (k : ℕ) (t u : Term) → half k t ≡ half k u → t ≡ u
+half-part : (k : ℕ) (t u : Term) → half k t ≡ half k u → t ≡ u
 unfolding half pick
 half-part k t u = go (eqb k 3)
   where
@@ -40,7 +44,7 @@ half-part k t u = go (eqb k 3)
     go false e = cc
 
 module _ (b : List ℕ) (v : Valid b) where
-  pub half-row : (r : ℕ) → r < rows b → 3 ≤ kind b r → term (table b) r ≡ half (kind b r) (term (table b) (entry b (rowFirst b r)))
+  half-row : (r : ℕ) → r < rows b → 3 ≤ kind b r → term (table b) r ≡ half (kind b r) (term (table b) (entry b (rowFirst b r)))
   unfolding form half pick terms gathered table
   half-row r h k =
       let l = v .rowsKeep r h .kinded in
@@ -64,11 +68,62 @@ module _ (b : List ℕ) (v : Valid b) where
   unfolding partner half otherHalf pick
   partner-half k t = elim (ℕ-discrete k 3) [ yes e ↦ rw e | no n ↦ rw (ne-eqb k 3 n) ]
 
-  pub partner-other : (r k p : ℕ) → r < rows b → k ≡ kind b r → 3 ≤ k → p ≡ entry b (rowFirst b r) → partner (term (table b) r)
+  partner-other : (r k p : ℕ) → r < rows b → k ≡ kind b r → 3 ≤ k → p ≡ entry b (rowFirst b r) → partner (term (table b) r)
       ≡ half (otherHalf k) (term (table b) p)
   partner-other r k p h e l g =
       let i : term (table b) r ≡ half k (term (table b) p) = half-row r h (omega arith) ∙ rw (← e, g) in
       ap partner i ∙ partner-half k (term (table b) p)
+
+  -- ---- the halves of one row
+  module _ {p r : ℕ} (h : r < rows b) (f : HalfOf b p r) where
+    kind-partner : kindOf (partner (term (table b) r)) ≡ otherHalf (kind b r)
+    kind-partner =
+        ap kindOf (partner-other r (kind b r) p h refl (f .half) (sym (f .part)))
+        ∙ kind-half (otherHalf (kind b r)) (term (table b) p) (other-low (kind b r)) (other-high (kind b r))
+
+    part-row : p < rows b
+    part-row = let e = f .part in let l = part-low b v r h (let k = f .half in omega arith) in omega arith
+
+    -- a half is not its own partner
+    pub half-alone : term (table b) r ≡ partner (term (table b) r) → ⊥
+    half-alone e =
+        let k : kind b r ≡ otherHalf (kind b r) = sym (row-kind b v r h) ∙ ap kindOf e ∙ kind-partner in
+        elim (ℕ-discrete (kind b r) 3) [
+          | yes z ↦ (let o = other-private (kind b r) z in omega arith)
+          | no z ↦ (let o = other-public (kind b r) z in omega arith)
+        ]
+
+    module _ {j : ℕ} (u : j < rows b) where
+      -- its partner is a half of the same row
+      pub partner-half-of : term (table b) j ≡ partner (term (table b) r) → HalfOf b p j
+      partner-half-of e =
+          let k : kind b j ≡ otherHalf (kind b r) = sym (row-kind b v j u) ∙ ap kindOf e ∙ kind-partner in
+          let l = other-low (kind b r) in
+          let low = part-low b v j u (omega arith) in
+          let is : half (kind b j) (term (table b) (entry b (rowFirst b j))) ≡ half (kind b j) (term (table b) p) =
+          sym (half-row j u (omega arith)) ∙ e ∙ partner-other r (kind b r) p h refl (f .half) (sym (f .part))
+          ∙ ap (λ i. half i (term (table b) p)) (sym k) in
+          record { half = omega arith; part = equal-terms b v _ p (omega arith) part-row (half-part (kind b j) _ _ is) }
+
+      -- and another half of the same row is its partner
+      pub halves-partners : HalfOf b p j → (j ≡ r → ⊥) → term (table b) j ≡ partner (term (table b) r)
+      halves-partners g n =
+          let own : term (table b) r ≡ half (kind b r) (term (table b) p) = half-row r h (f .half) ∙ rw (f .part) in
+          let other : term (table b) j ≡ half (kind b j) (term (table b) p) = half-row j u (g .half) ∙ rw (g .part) in
+          let low = f .half in
+          let high = v .rowsKeep r h .kinded in
+          let low′ = g .half in
+          let high′ = v .rowsKeep j u .kinded in
+          let turned : kind b j ≡ otherHalf (kind b r) =
+          elim (ℕ-discrete (kind b j) (kind b r)) [
+            | yes z ↦ absurd (n (equal-terms b v j r u h (other ∙ ap (λ k. half k (term (table b) p)) z ∙ sym own)))
+            | no z ↦
+                elim (ℕ-discrete (kind b r) 3) [
+                  | yes y ↦ (let o = other-private (kind b r) y in omega arith)
+                  | no y ↦ (let o = other-public (kind b r) y in omega arith)
+                ]
+          ] in
+          other ∙ ap (λ k. half k (term (table b) p)) turned ∙ sym (partner-other r (kind b r) p h refl (f .half) (sym (f .part)))
 
 -- ---- a half that is not held: buildable and its image by its part
 can-half : (δ : Dictionary) (k : ℕ) (t : Term) → δ (half k t) ≡ free → buildable δ (half k t) ≡ buildable δ t

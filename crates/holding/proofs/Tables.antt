@@ -74,8 +74,11 @@ module _ {b : List ℕ} (v : Valid b) {i : ℕ} {l s : List ℕ} (g : PartnersBe
             ];
         seen = λ p u o. (let (before, half) = g .seen p u o in (omega arith, half));
         unseen = λ p u o.
-            (let (end, none) = g .unseen p u o in
-            (end, λ j a f. elim (ℕ-discrete j i) [ yes t ↦ (let y = f .half in absurd (omega (arith, ap (kind b) t))) | no t ↦ none j (omega arith) f ]));
+            (let (end, none) = g .unseen p u o in (
+              end,
+              λ j a f.
+                  elim (ℕ-discrete j i) [ yes t ↦ (let y = f .half in absurd (omega (arith, ap (kind b) t))) | no t ↦ none j (omega arith) f ],
+            ));
       }
 
   -- ---- row i is a half of row p: o is the other half, or none was seen
@@ -113,7 +116,11 @@ module _ {b : List ℕ} (v : Valid b) {i : ℕ} {l s : List ℕ} (g : PartnersBe
               (let other = getD-set-other s p q i 0 t in
               let (end, none) = g .unseen q u (omega arith) in (
                 other ∙ end,
-                λ j a f. elim (ℕ-discrete j i) [ yes x ↦ t (sym (f .part) ∙ ap (λ y. entry b (rowFirst b y)) x ∙ sym dp) | no x ↦ none j (omega arith) f ],
+                λ j a f.
+                    elim (ℕ-discrete j i) [
+                      | yes x ↦ t (sym (f .part) ∙ ap (λ y. entry b (rowFirst b y)) x ∙ sym dp)
+                      | no x ↦ none j (omega arith) f
+                    ],
               ))
         ]
 

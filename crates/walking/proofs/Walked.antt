@@ -40,8 +40,8 @@ walked-skip {b} {p} w g l u =
 
 -- ---- at the start the party holds what it knows
 pub walked-start : {b : List ℕ} {p i k a : ℕ} {log out e : List ℕ} {d : Dictionary}
-    → length e ≡ 1024 → view b e ≡ start (map (term (table b)) (known b p)) → (d .entries ≡ e) × (d .next ≡ 0) × (d .kept ≡ k) → IdleUntil b p 0 i
-    → Walked b p i k log log a out out (record { dictionary = d; at = a })
+    → length e ≡ 1024 → view b e ≡ start (map (term (table b)) (known b p)) → (d .entries ≡ e) × (d .next ≡ 0) × (d .kept ≡ k)
+    → IdleUntil b p 0 i → Walked b p i k log log a out out (record { dictionary = d; at = a })
 walked-start {b} {p} {e = e} l h w idle =
     walked-skip idle (rw (w .0, w .1, w .2) (doing-as (rw (← h) (doing-none {b = b} {x = e})) (before-none b p))) (ap length (w .0) ∙ l)
     (λ k l. absurd (omega arith))

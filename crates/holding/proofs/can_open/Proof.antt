@@ -18,7 +18,8 @@ module _ (c : tie.After-wide) where
   abbrev start : tie.Start
   start = search
 
-  found : getD (start .args .partners .now) (c .wide .result) 0 ≡ rowOf (start .args .book .now) (partner (term (table (start .args .book .now)) (start .args .key)))
+  found : getD (start .args .partners .now) (c .wide .result) 0
+      ≡ rowOf (start .args .book .now) (partner (term (table (start .args .book .now)) (start .args .key)))
   found = let (valid, table, inside) = start .pre in looked-up table inside (c .wide .ensures .0)
 
 -- the partner is a row

@@ -21,7 +21,8 @@ module _ (c : tie.After-wide) where
   abbrev start : tie.Start
   start = search
 
-  found : getD (start .args .partners .now) (c .wide .result) 0 ≡ rowOf (start .args .book .now) (partner (term (table (start .args .book .now)) (start .args .key)))
+  found : getD (start .args .partners .now) (c .wide .result) 0
+      ≡ rowOf (start .args .book .now) (partner (term (table (start .args .book .now)) (start .args .key)))
   found = let (valid, table, inside) = start .pre in looked-up table inside (c .wide .ensures .0)
 
 -- the partner is a row
@@ -63,7 +64,8 @@ returns-2 c =
     wrote-as (wrote-cons (after-put .put .ensures) (after-write-image2 .write-image2 .ensures))
     (shows-part _ _ valid inside (found after-wide) (omega arith) (after-first-part .first-part .ensures .0)
     (after-of .of .ensures .code
-    ∙ ap (λ k. ofKind k .code) (after-other-half .other-half .ensures ∙ ap otherHalf (after-row-kind .row-kind .ensures))))
+    ∙ ap (λ k. ofKind k .code)
+    (after-other-half .other-half .ensures ∙ ap otherHalf (after-row-kind .row-kind .ensures))))
 
 pub write-partner-spec : {M : Type 1} → statement M
 write-partner-spec =

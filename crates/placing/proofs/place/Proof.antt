@@ -9,7 +9,8 @@ use Rattle.placing.proofs.place.Statement.{statement}
 use Rattle.placing.proofs.place.Tie as tie
 
 abbrev Inv-loop : tie.InvT-loop
-Inv-loop book sends₀ receives₀ ends₀ partners n party₀ sends receives ends party = Noting book n party sends receives ends
+Inv-loop book sends₀ receives₀ ends₀ partners n party₀ sends receives ends party =
+    Noting book n party sends receives ends
 
 abbrev μ-loop : tie.MeasureT-loop
 μ-loop book sends₀ receives₀ ends₀ partners n party₀ sends receives ends party = n - party

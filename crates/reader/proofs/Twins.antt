@@ -1,5 +1,5 @@
 -- Refusal 6: rows that agree in kind, tag and parts, and a row that repeats an earlier one. Assumes nothing.
-use Prim.Native.Nat.{ℕ, _+_, _≤_, _<_}
+use Prim.Native.Nat.{ℕ, _+_, _%_, _≤_, _<_}
 use mathlib.Core.Bool.{true, false}
 use mathlib.Core.List.{List}
 use mathlib.Core.Path.{_≡_, sym, ap, _∙_}
@@ -7,6 +7,7 @@ use lib.ListN.{length, getD}
 use lib.Seq.{ext-getD}
 use lib.Dec.{ltb}
 use native.Mathlib.Omega.{arith}
+use native.Mathlib.Decide.{decLt}
 use borrow.Author.Count.{below-none, below-more}
 use borrow.Author.Tests.{eq-eqb, ne-eqb}
 use Rattle.words.specs.Choice.Laws.{pick-true, pick-false}
@@ -15,7 +16,9 @@ use Rattle.words.specs.Run.Laws.{run-length, run-getD}
 use Rattle.book.specs.Layout.{begins, rows, kind, tag, rowFirst, rowCount, pooled, parts}
 use Rattle.book.specs.Rules.{Alike, alike, repeats}
 use Rattle.book.specs.Rules.Laws.{alike-exact, not-alike}
-use Rattle.reader.specs.Scanned.{RowsKeep}
+use Rattle.reader.specs.Keys.{keyOf, chains, chainOf, NextIn, ChainedFrom}
+use Rattle.reader.specs.Keys.Laws.{next-within, next-passed, next-chained}
+use Rattle.reader.proofs.Scans.{Scanning, passed-more}
 
 -- ---- the parts of a row, as numbers: how many there are, and which
 parts-length : (b : List ℕ) (r : ℕ) → length (parts b r) ≡ rowCount b r
@@ -66,16 +69,33 @@ pub record SameTo (b : List ℕ) (r k f g n j : ℕ) : Type 0 where
   pub within : j ≤ n
   pub equal : (i : ℕ) → i < j → pooled b g i ≡ pooled b f i
 
--- c and c', t and t', n and n', f and g are what was read of the two rows
-pub same-begins : (b : List ℕ) (r k c c' t t' f g n n' : ℕ)
-    → c ≡ kind b r → c' ≡ kind b k → c' ≡ c → t ≡ tag b r → t' ≡ tag b k → t' ≡ t
-    → n ≡ rowCount b r → n' ≡ rowCount b k → n' ≡ n → f ≡ rowFirst b r → g ≡ rowFirst b k → SameTo b r k f g n 0
-same-begins b r k c c' t t' f g n n' ec ec' hc et et' ht en en' hn ef eg = record {
-  heads =
-      record { kinds = omega arith; tags = omega arith; own-first = ef; own-count = en; other-first = eg; other-count = omega arith };
-  within = omega arith;
-  equal = below-none _;
-}
+-- y, c, t, f and n are what was read of row r: its key, kind and tag, where its parts begin and how many they are
+pub record Own (b : List ℕ) (r y c t f n : ℕ) : Type 0 where
+  pub key : y ≡ keyOf b r
+  pub kind : c ≡ kind b r
+  pub tag : t ≡ tag b r
+  pub first : f ≡ rowFirst b r
+  pub count : n ≡ rowCount b r
+
+-- c', t', n' and g are what was read of row k
+pub same-begins : {b : List ℕ} {r y c t f n : ℕ} → Own b r y c t f n → (k c' t' g n' : ℕ) → c' ≡ kind b k → c' ≡ c → t' ≡ tag b k
+    → t' ≡ t → n' ≡ rowCount b k → n' ≡ n → g ≡ rowFirst b k → SameTo b r k f g n 0
+same-begins own k c' t' g n' ec hc et ht en hn eg =
+    let c = own .kind in
+    let t = own .tag in
+    let n = own .count in
+    record {
+      heads = record {
+        kinds = omega arith;
+        tags = omega arith;
+        own-first = own .first;
+        own-count = n;
+        other-first = eg;
+        other-count = omega arith;
+      };
+      within = omega arith;
+      equal = below-none _;
+    }
 
 module _ (b : List ℕ) (r k f g n j : ℕ) (a : SameTo b r k f g n j) where
   -- the parts, where the two lists were read
@@ -110,19 +130,52 @@ module _ (b : List ℕ) (r k f g n j : ℕ) (a : SameTo b r k f g n j) where
         partss = same-parts b r k (omega arith) (λ i l. sym (other-part i) ∙ a .equal i (omega arith) ∙ own-part i);
       })
 
--- a row up to one of the parts of row r has its own parts before it, so that it can't agree with row r
-pub up-to-part : (b : List ℕ) → RowsKeep b → (r : ℕ) → r < rows b → (f n j p : ℕ) → f ≡ rowFirst b r → n ≡ rowCount b r
-    → j < n → p ≡ pooled b f j → (k : ℕ) → k ≤ p → alike b r k ≡ false
-up-to-part b keep r l f n j p d e z h k m = not-alike b r k (λ x. go x)
-  where
-    go : Alike b r k → ⊥
-    go x =
-        let c = alike-counts b r k x in
-        let w = alike-parts b r k x j (omega arith) in
-        let y : pooled b f j ≡ pooled b (rowFirst b r) j = ap (λ i. pooled b i j) d in
-        let i = keep r l .listed .each j (omega arith) in
-        let o = keep k (omega arith) .listed .each j (omega arith) in
-        absurd (omega arith)
+-- ---- Hunting: along the chain of row r the hunt has come to row k, and no row before it is alike
+pub record Hunting (b : List ℕ) (r k : ℕ) : Type 0 where
+  pub scan : Scanning (alike b r) r k
+  pub chained : chainOf b k ≡ chainOf b r
+  pub inside : r < rows b
+
+module _ {b keys heads nexts : List ℕ} {r : ℕ} (g : ChainedFrom b 0 keys heads nexts) (h : r < rows b) where
+  -- the key that was read at w
+  pub key-read : {w : ℕ} → w ≡ r → getD keys w 0 ≡ keyOf b r
+  key-read d = ap (λ i. getD keys i 0) d ∙ g .key r (omega arith) h
+
+  -- the chain's first row, read at c
+  pub hunting-starts : {c : ℕ} → c ≡ keyOf b r % chains → Hunting b r (getD heads c 0)
+  unfolding chainOf
+  hunting-starts {c} d =
+      let first = rw d at (g .first c (omega arith)) in
+      record {
+        scan = rw d (record { passed = λ j l. next-passed h (omega arith) first j (omega arith) l; within = next-within h (omega arith) first });
+        chained = rw d (next-chained h (omega arith) first);
+        inside = h;
+      }
+
+  -- row k isn't alike, and the next of its chain was read at w
+  pub hunting-goes : {k w : ℕ} → Hunting b r k → (k ≡ r → ⊥) → alike b r k ≡ false → w ≡ k → Hunting b r (getD nexts w 0)
+  hunting-goes {k} {w} f n e d =
+      let within = f .scan .within in
+      let next : NextIn b (chainOf b r) (k + 1) (getD nexts w 0) = rw (d, ← f .chained) (g .next k (omega arith) (omega arith)) in
+      record {
+        scan = record {
+          passed = λ j l.
+              elim (decLt j (k + 1)) [
+                | yes u ↦ passed-more (alike b r) k (f .scan .passed) e j u
+                | no u ↦ next-passed h (omega arith) next j (omega arith) l
+              ];
+          within = next-within h (omega arith) next;
+        };
+        chained = next-chained h (omega arith) next;
+        inside = h;
+      }
+
+  -- it is a later row
+  pub hunting-on : {k w : ℕ} → Hunting b r k → (k ≡ r → ⊥) → w ≡ k → k < getD nexts w 0
+  hunting-on {k} {w} f n d =
+      let within = f .scan .within in
+      let after = g .next k (omega arith) (omega arith) .after in
+      rw d (omega arith)
 
 -- ---- repeats: an atom repeats nothing; another row, if its twin t is an earlier row
 module _ (b : List ℕ) (r k : ℕ) (d : k ≡ kind b r) where

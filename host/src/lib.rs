@@ -10,6 +10,7 @@ pub mod corpus;
 pub mod edits;
 pub mod files;
 pub mod frames;
+pub mod lean;
 pub mod library;
 pub mod machine;
 pub mod mutants;

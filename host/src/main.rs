@@ -31,6 +31,7 @@ host compare PROGRAM --random SEED COUNT   compare a program over random books
 host frames OBJECT [NAME..]             print the stack frames of an object's functions, in bytes (x86-64)
 host bench LIB BOOKS [PLOT]             time proved code, a library made by host/library, against this on books
 host routes LIB SEED COUNT [DIR..]      compare proved bytes, proved words and this on books and schedules
+host routes --lean SEED COUNT [DIR..]   compare the bench's anchor and this on books and schedules
 host help                               print this
 ";
 
@@ -163,6 +164,11 @@ fn run(arguments: &[String]) -> Result<bool, String> {
             let (library, books) = (Path::new(library), Path::new(books));
             let plot = plot.first().map(Path::new);
             bench::run(library, books, plot, &mut io::stdout())?;
+        }
+        ["routes", "--lean", seed, count, folders @ ..] => {
+            let (seed, count) = (number(seed)?, number(count)? as usize);
+            let folders: Vec<PathBuf> = folders.iter().map(PathBuf::from).collect();
+            return routes::run_lean(seed, count, &folders, &mut io::stdout());
         }
         ["routes", library, seed, count, folders @ ..] => {
             let (seed, count) = (number(seed)?, number(count)? as usize);

@@ -1,6 +1,6 @@
 //! The routes: the proved functions on bytes, the proved functions on words, and this implementation, in one process,
-//! on the same books and schedules. Buffers are full of marks before a call; answers, and every byte and every word
-//! afterwards, have to be the same on all three.
+//! on the same books and schedules; or the bench's anchor in the place of the proved ones. Buffers are full of marks
+//! before a call; answers, and every byte and every word afterwards, have to be the same on all three.
 
 mod tally;
 mod trial;
@@ -8,6 +8,7 @@ mod trial;
 use crate::book::Refusal;
 use crate::bytes;
 use crate::files;
+use crate::lean;
 use crate::library::{packed, Library};
 use crate::random::Random;
 use crate::words;
@@ -29,15 +30,16 @@ const TOLD: usize = 10;
 
 type Answer = Result<usize, Refusal>;
 
-/// The proved functions, on words and on bytes; those on bytes answer with one packed number.
-pub trait Proved: Sync {
+/// What is compared with this implementation: functions on words and on bytes; those on bytes answer with one packed
+/// number.
+pub trait Side: Sync {
     fn translate(&self, book: &[u32], out: &mut [u32]) -> Answer;
     fn rehearse(&self, book: &[u32], schedule: &[u32], out: &mut [u32]) -> Answer;
     fn translate_bytes(&self, book: &[u8], out: &mut [u8]) -> u64;
     fn rehearse_bytes(&self, book: &[u8], schedule: &[u8], out: &mut [u8]) -> u64;
 }
 
-impl Proved for Library {
+impl Side for Library {
     fn translate(&self, book: &[u32], out: &mut [u32]) -> Answer {
         self.translate(book, out)
     }
@@ -68,11 +70,51 @@ pub fn run(library: &Path, seed: u64, count: usize, folders: &[PathBuf], out: &m
     over(&proved, &trials, &std::env::temp_dir(), out)
 }
 
+/// The anchor of the bench. Its way from bytes and back goes through words.
+pub struct Lean;
+
+impl Lean {
+    /// An answer into lent bytes; the spare ones make no word.
+    fn lend(out: &mut [u8], answer: impl FnOnce(&mut [u32]) -> Answer) -> u64 {
+        let whole = out.len() / 4 * 4;
+        let mut lent = words::of_bytes(&out[..whole]).expect("whole words");
+        let answer = answer(&mut lent);
+        out[..whole].copy_from_slice(&words::to_bytes(&lent));
+        packed(&answer)
+    }
+}
+
+impl Side for Lean {
+    fn translate(&self, book: &[u32], out: &mut [u32]) -> Answer {
+        lean::translate(book, out)
+    }
+
+    fn rehearse(&self, book: &[u32], schedule: &[u32], out: &mut [u32]) -> Answer {
+        lean::rehearse(book, schedule, out)
+    }
+
+    fn translate_bytes(&self, book: &[u8], out: &mut [u8]) -> u64 {
+        Lean::lend(out, |out| lean::translate(&words::of_bytes(book)?, out))
+    }
+
+    fn rehearse_bytes(&self, book: &[u8], schedule: &[u8], out: &mut [u8]) -> u64 {
+        Lean::lend(out, |out| {
+            lean::rehearse(&words::of_bytes(book)?, &words::of_bytes(schedule)?, out)
+        })
+    }
+}
+
+/// Compares the anchor over the books of some folders and over random ones; whether nothing differs.
+pub fn run_lean(seed: u64, count: usize, folders: &[PathBuf], out: &mut dyn Write) -> Result<bool, String> {
+    let trials = Trials::new(folders, seed, count)?.with_long();
+    over(&Lean, &trials, &std::env::temp_dir(), out)
+}
+
 /// Compares over trials, and tells each difference and at last what was met. What differs is kept in a folder.
-pub fn over(proved: &impl Proved, trials: &Trials, keep: &Path, out: &mut dyn Write) -> Result<bool, String> {
+pub fn over(side: &impl Side, trials: &Trials, keep: &Path, out: &mut dyn Write) -> Result<bool, String> {
     let mut say = |line: &str| writeln!(out, "{line}").map_err(|error| format!("standard output: {error}"));
     say(&trials.told())?;
-    let (tally, mut differences) = work(proved, trials)?;
+    let (tally, mut differences) = work(side, trials)?;
     differences.sort_by_key(|(number, _)| *number);
     for (number, difference) in differences.iter().take(TOLD) {
         say(&format!(
@@ -100,7 +142,7 @@ fn kept(trial: &Trial, seed: u64, folder: &Path) -> Result<String, String> {
 type Differences = Vec<(usize, String)>;
 
 /// All trials, by as many workers as the machine has processors.
-fn work(proved: &impl Proved, trials: &Trials) -> Result<(Tally, Differences), String> {
+fn work(side: &impl Side, trials: &Trials) -> Result<(Tally, Differences), String> {
     let next = AtomicUsize::new(0);
     let worker = || {
         let (mut tally, mut differences, mut marks) = (Tally::default(), Vec::new(), Marks::default());
@@ -109,7 +151,7 @@ fn work(proved: &impl Proved, trials: &Trials) -> Result<(Tally, Differences), S
             if number >= trials.all() {
                 return (tally, differences);
             }
-            let told = compare(proved, trials.at(number), &mut marks, &mut tally);
+            let told = compare(side, trials.at(number), &mut marks, &mut tally);
             differences.extend(told.err().map(|told| (number, told)));
         }
     };
@@ -129,14 +171,14 @@ fn work(proved: &impl Proved, trials: &Trials) -> Result<(Tally, Differences), S
 }
 
 /// Both functions on one trial, in each of its rooms; the first difference.
-fn compare(proved: &impl Proved, mut trial: Trial, marks: &mut Marks, tally: &mut Tally) -> Result<(), String> {
+fn compare(side: &impl Side, mut trial: Trial, marks: &mut Marks, tally: &mut Tally) -> Result<(), String> {
     tally.trial(&trial);
     let (book, schedule) = (words::of_bytes(&trial.book).ok(), words::of_bytes(&trial.schedule).ok());
 
     let listing = bytes::listing(&trial.book);
     for room in trial.rooms(listing.as_ref().ok().map(Vec::len)) {
-        let on_bytes = |out: &mut [u8]| proved.translate_bytes(&trial.book, out);
-        let on_words = (book.as_ref()).map(|book| |out: &mut [u32]| proved.translate(book, out));
+        let on_bytes = |out: &mut [u8]| side.translate_bytes(&trial.book, out);
+        let on_words = (book.as_ref()).map(|book| |out: &mut [u32]| side.translate(book, out));
         let answer = call(&listing, room, marks, on_bytes, on_words);
         let answer = answer.map_err(|told| format!("{}, translate, {room}: {told}", trial.name))?;
         tally.call("translate", answer, room);
@@ -144,9 +186,9 @@ fn compare(proved: &impl Proved, mut trial: Trial, marks: &mut Marks, tally: &mu
 
     let done = bytes::done(&trial.book, &trial.schedule);
     for room in trial.rooms(done.as_ref().ok().map(Vec::len)) {
-        let on_bytes = |out: &mut [u8]| proved.rehearse_bytes(&trial.book, &trial.schedule, out);
+        let on_bytes = |out: &mut [u8]| side.rehearse_bytes(&trial.book, &trial.schedule, out);
         let both = book.as_ref().zip(schedule.as_ref());
-        let on_words = both.map(|(book, schedule)| |out: &mut [u32]| proved.rehearse(book, schedule, out));
+        let on_words = both.map(|(book, schedule)| |out: &mut [u32]| side.rehearse(book, schedule, out));
         let answer = call(&done, room, marks, on_bytes, on_words);
         let answer = answer.map_err(|told| format!("{}, rehearse, {room}: {told}", trial.name))?;
         tally.call("rehearse", answer, room);

@@ -5,7 +5,7 @@ mod common;
 use common::{complains, top, Folder};
 use host::book::Refusal;
 use host::library::packed;
-use host::routes::{self, Proved, Trials};
+use host::routes::{self, Side, Trials};
 use host::{bytes, rehearse, translate};
 
 type Answer = Result<usize, Refusal>;
@@ -66,7 +66,7 @@ impl Fake {
     }
 }
 
-impl Proved for Fake {
+impl Side for Fake {
     fn translate(&self, book: &[u32], out: &mut [u32]) -> Answer {
         let answer = translate::translate(book, out);
         match (self, &answer) {

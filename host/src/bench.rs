@@ -1,12 +1,15 @@
-//! The bench: the proved code against this implementation, in one process, on the same books. Answers are compared
-//! first, and only equal ones are timed; the outcome is told in tables.
+//! The bench: the proved code against this implementation and against the anchor, in one process, on the same books.
+//! Answers are compared first, and only equal ones are timed; the outcome is told in tables.
 
 mod cases;
+mod keys;
 mod plot;
+mod tables;
 mod timing;
 
 use crate::book::{Refusal, MOST_PARTIES};
 use crate::files;
+use crate::lean;
 use crate::library::Library;
 use crate::rehearse::{self, MOST_MOVES};
 use crate::translate::{self, LENT};
@@ -15,14 +18,18 @@ use plot::Point;
 use std::hint::black_box;
 use std::io::Write;
 use std::path::Path;
-use timing::Outcome;
+use tables::Line;
 
-/// How often both sides are timed on each book.
+/// How often all sides are timed on each book.
 const ROUNDS: usize = 41;
 /// What stands in a lent buffer before an answer, so that every word that is written shows.
 const MARK: u32 = 0xdead_beef;
+/// The groups of which bytes are told.
+const FULL: [&str; 2] = ["corpus, full size", "random, full size"];
 
 type Answer = Result<usize, Refusal>;
+/// One side's answer to a case, into lent words.
+type Side<'a> = &'a dyn Fn(&Case, &mut [u32]) -> Answer;
 
 /// Times the functions that a library has on the books of a folder, on random ones and on the worst ones, and
 /// draws the growth where a file for the picture is given.
@@ -38,39 +45,60 @@ pub fn run(library: &Path, books: &Path, picture: Option<&Path>, out: &mut dyn W
         std::env::consts::ARCH
     ))?;
     if library.has_translate() {
-        let side = |case: &Case, out: &mut [u32]| library.translate(&case.words, out);
-        let host = |case: &Case, out: &mut [u32]| translate::translate(&case.words, out);
-        say(&table("translate", &lines(&groups, LENT, side, host)?))?;
-        say(&table(
-            "translate, worst cases",
-            &lines(&cases::worst(), LENT, side, host)?,
-        ))?;
-        let (sizes, grown): (Vec<usize>, Vec<Group>) = cases::growth().into_iter().unzip();
-        let grown = lines(&grown, LENT, side, host)?;
-        say(&table("translate, growth", &grown))?;
-        let point = |(rows, line): (&usize, &Line)| Point {
-            rows: *rows,
-            proved: line.outcome.proved,
-            host: line.outcome.host,
-        };
-        let points: Vec<Point> = sizes.iter().zip(&grown).map(point).collect();
-        if let Some(file) = picture {
-            files::write(file, plot::svg(&points).as_bytes())?;
-        }
+        translations(&library, &groups, picture, &mut say)?;
     } else {
         say("The library has no `translate`.\n")?;
     }
     if library.has_rehearse() {
-        let schedules: Vec<Vec<u32>> = (1..=MOST_PARTIES).map(round_robin).collect();
-        let schedule = |case: &Case| &schedules[parties(&case.words) as usize - 1];
-        let side = |case: &Case, out: &mut [u32]| library.rehearse(&case.words, schedule(case), out);
-        let host = |case: &Case, out: &mut [u32]| rehearse::rehearse(&case.words, schedule(case), out);
-        let lines = lines(&groups, MOST_PARTIES as usize, side, host)?;
-        say(&table("rehearse, 4,096 moves in turn", &lines))?;
+        rehearsals(&library, &groups, &mut say)?;
     } else {
         say("The library has no `rehearse`.")?;
     }
     Ok(())
+}
+
+type Say<'a> = &'a mut dyn FnMut(&str) -> Result<(), String>;
+
+fn translations(library: &Library, groups: &[Group], picture: Option<&Path>, say: Say) -> Result<(), String> {
+    let sides: [Side; 3] = [
+        &|case, out| library.translate(&case.words, out),
+        &|case, out| translate::translate(&case.words, out),
+        &|case, out| lean::translate(&case.words, out),
+    ];
+    let timed = lines(groups, LENT, sides)?;
+    say(&tables::times("translate", &timed))?;
+    let full: Vec<&Line> = timed.iter().filter(|line| FULL.contains(&line.name.as_str())).collect();
+    say(&tables::bytes("translate, megabytes a second", &full))?;
+    let worst = lines(&cases::worst(), LENT, sides)?;
+    say(&tables::times("translate, worst cases", &worst))?;
+
+    let (sizes, grown): (Vec<usize>, Vec<Group>) = cases::growth().into_iter().unzip();
+    let grown = lines(&grown, LENT, sides)?;
+    say(&tables::times("translate, growth", &grown))?;
+    let point = |(rows, line): (&usize, &Line)| Point {
+        rows: *rows,
+        times: line.outcome.times,
+    };
+    let points: Vec<Point> = sizes.iter().zip(&grown).map(point).collect();
+    if let Some(file) = picture {
+        files::write(file, plot::svg(&points).as_bytes())?;
+    }
+
+    let (sizes, hunted): (Vec<usize>, Vec<Group>) = keys::growth().into_iter().unzip();
+    let hunted: Vec<(usize, Line)> = sizes.into_iter().zip(lines(&hunted, LENT, sides)?).collect();
+    say(&tables::rows("the hunt of refusal 6, growth", &hunted))
+}
+
+fn rehearsals(library: &Library, groups: &[Group], say: Say) -> Result<(), String> {
+    let schedules: Vec<Vec<u32>> = (1..=MOST_PARTIES).map(round_robin).collect();
+    let schedule = |case: &Case| &schedules[parties(&case.words) as usize - 1];
+    let sides: [Side; 3] = [
+        &|case, out| library.rehearse(&case.words, schedule(case), out),
+        &|case, out| rehearse::rehearse(&case.words, schedule(case), out),
+        &|case, out| lean::rehearse(&case.words, schedule(case), out),
+    ];
+    let timed = lines(groups, MOST_PARTIES as usize, sides)?;
+    say(&tables::times("rehearse, 4,096 moves in turn", &timed))
 }
 
 /// The parties of a book, within their bounds whatever its words are.
@@ -83,33 +111,26 @@ fn round_robin(parties: u32) -> Vec<u32> {
     (0..MOST_MOVES as u32).map(|number| number % parties).collect()
 }
 
-/// A line of a table.
-struct Line {
-    name: String,
-    books: usize,
-    outcome: Outcome,
-    /// The book whose own ratio is the worst.
-    worst: String,
-}
-
 /// Compares the sides' answers on every book of the groups, and then times them.
-fn lines(
-    groups: &[Group],
-    lent: usize,
-    proved: impl Fn(&Case, &mut [u32]) -> Answer,
-    host: impl Fn(&Case, &mut [u32]) -> Answer,
-) -> Result<Vec<Line>, String> {
+fn lines(groups: &[Group], lent: usize, sides: [Side; 3]) -> Result<Vec<Line>, String> {
     let mut lines = Vec::with_capacity(groups.len());
     for Group { name, cases } in groups {
+        let (mut read, mut written) = (0, 0);
         for case in cases {
-            same(case, lent, &proved, &host)?;
+            read += 4 * case.words.len();
+            written += 4 * same(case, lent, sides)?;
         }
-        let (mut one, mut other) = (vec![0; lent], vec![0; lent]);
+        let [mut one, mut two, mut three] = [0, 1, 2].map(|_| vec![0; lent]);
+        let run =
+            |side: usize, book: usize, out: &mut [u32]| drop(black_box(sides[side](black_box(&cases[book]), out)));
         let times = timing::measure(
             cases.len(),
             ROUNDS,
-            |book| drop(black_box(proved(black_box(&cases[book]), &mut one))),
-            |book| drop(black_box(host(black_box(&cases[book]), &mut other))),
+            [
+                &mut |book| run(0, book, &mut one),
+                &mut |book| run(1, book, &mut two),
+                &mut |book| run(2, book, &mut three),
+            ],
         );
         let outcome = timing::outcome(&times);
         lines.push(Line {
@@ -117,115 +138,40 @@ fn lines(
             books: cases.len(),
             worst: cases[outcome.worst.1].name.clone(),
             outcome,
+            read,
+            written,
         });
     }
     Ok(lines)
 }
 
-/// A library that answers anything else than the host isn't timed.
-fn same(
-    case: &Case,
-    lent: usize,
-    proved: impl Fn(&Case, &mut [u32]) -> Answer,
-    host: impl Fn(&Case, &mut [u32]) -> Answer,
-) -> Result<(), String> {
-    let (mut one, mut other) = (vec![MARK; lent], vec![MARK; lent]);
-    let (answer, expected) = (proved(case, &mut one), host(case, &mut other));
-    if answer != expected {
-        return Err(format!(
-            "{}: the library answers {answer:?}, the host {expected:?}",
-            case.name
-        ));
-    }
-    match one.iter().zip(&other).position(|(word, own)| word != own) {
-        Some(place) => Err(format!(
-            "{}: word {place} of the library's output differs from the host's",
-            case.name
-        )),
-        None => Ok(()),
-    }
-}
-
-/// The lines as a table in Markdown.
-fn table(name: &str, lines: &[Line]) -> String {
-    let mut text = format!(
-        "| {name} | books | proved | host | proved / host (quartiles) | single books, worst |\n\
-         |---|---:|---:|---:|---:|---|\n"
-    );
-    for line in lines {
-        let Outcome {
-            proved,
-            host,
-            ratio: [lower, middle, upper],
-            best,
-            worst: (worst, _),
-        } = line.outcome;
-        let single = match line.books {
-            1 => String::new(),
-            _ => format!("{best:.2} to {worst:.2}, {}", line.worst),
-        };
-        text += &format!(
-            "| {} | {} | {} | {} | {middle:.2} ({lower:.2} to {upper:.2}) | {single} |\n",
-            line.name,
-            line.books,
-            microseconds(proved),
-            microseconds(host),
-        );
-    }
-    text
-}
-
-/// Nanoseconds as microseconds, to three places or more.
-fn microseconds(time: f64) -> String {
-    let time = time / 1e3;
-    match time {
-        _ if time < 10.0 => format!("{time:.2}"),
-        _ if time < 100.0 => format!("{time:.1}"),
-        _ if time < 1_000.0 => format!("{time:.0}"),
-        _ => {
-            let whole = time.round() as u64;
-            format!("{},{:03}", whole / 1_000, whole % 1_000)
+/// A side that answers anything else than the host isn't timed. How many words the answer has.
+fn same(case: &Case, lent: usize, sides: [Side; 3]) -> Result<usize, String> {
+    let [library, own, lean] = sides.map(|side| {
+        let mut out = vec![MARK; lent];
+        (side(case, &mut out), out)
+    });
+    for (name, (answer, out)) in [("library", library), ("anchor", lean)] {
+        if answer != own.0 {
+            return Err(format!(
+                "{}: the {name} answers {answer:?}, the host {:?}",
+                case.name, own.0
+            ));
+        }
+        if let Some(place) = out.iter().zip(&own.1).position(|(word, own)| word != own) {
+            return Err(format!(
+                "{}: word {place} of the {name}'s output differs from the host's",
+                case.name
+            ));
         }
     }
+    Ok(own.0.unwrap_or(0))
 }
 
 #[cfg(test)]
 mod tests {
     use super::*;
     use std::path::PathBuf;
-
-    #[test]
-    fn times_are_told() {
-        let told = [1_234.0, 12_345.0, 123_456.0, 1_234_567.0].map(microseconds);
-        assert_eq!(told, ["1.23", "12.3", "123", "1,235"]);
-    }
-
-    #[test]
-    fn tables() {
-        let line = |books: usize| Line {
-            name: "some".to_string(),
-            books,
-            outcome: Outcome {
-                proved: 2_000.0,
-                host: 1_000.0,
-                ratio: [1.5, 2.0, 2.5],
-                best: 1.0,
-                worst: (3.0, 1),
-            },
-            worst: "that".to_string(),
-        };
-        let text = table("all", &[line(2), line(1)]);
-        let lines: Vec<&str> = text.lines().collect();
-        let bars = |line: &&str| line.matches('|').count();
-        assert!(lines.iter().map(bars).all(|bars| bars == 7));
-        assert_eq!(
-            lines[2..],
-            [
-                "| some | 2 | 2.00 | 1.00 | 2.00 (1.50 to 2.50) | 1.00 to 3.00, that |",
-                "| some | 1 | 2.00 | 1.00 | 2.00 (1.50 to 2.50) |  |",
-            ]
-        );
-    }
 
     #[test]
     fn only_equal_answers_are_timed() {
@@ -242,9 +188,13 @@ mod tests {
             Ok(1)
         };
         let refuses = |_: &Case, _: &mut [u32]| Err(Refusal::new(1, &[0]));
-        assert_eq!(same(&case, 2, right, right), Ok(()));
-        assert!(same(&case, 2, past, right).is_err_and(|why| why.contains("word 1")));
-        assert!(same(&case, 2, refuses, right).is_err());
+        assert_eq!(same(&case, 2, [&right, &right, &right]), Ok(1));
+        assert_eq!(same(&case, 2, [&refuses, &refuses, &refuses]), Ok(0));
+        let differs = |proved: Side, lean: Side| same(&case, 2, [proved, &right, lean]).expect_err("they differ");
+        assert!(differs(&past, &right).contains("word 1 of the library's"));
+        assert!(differs(&right, &past).contains("word 1 of the anchor's"));
+        assert!(differs(&refuses, &right).contains("the library answers"));
+        assert!(differs(&right, &refuses).contains("the anchor answers"));
     }
 
     #[test]

@@ -1,6 +1,7 @@
 //! The books that are timed: those of a folder, random ones, random ones that grow, and the worst that were thought
 //! of, each made to ask most of one thing.
 
+use super::keys;
 use crate::book::{
     Book, Party, Row, Step, ATOM, CIPHER, MOST_KNOWN, MOST_MESSAGES, MOST_PARTIES, MOST_ROWS, MOST_STEPS, OPERATION,
     PRIVATE, PUBLIC,
@@ -106,6 +107,7 @@ pub fn worst() -> Vec<Group> {
         ("empty steps", empty()),
         ("messages that are stored", stored()),
         ("alike rows", alike()),
+        ("equal keys", keys::equal()),
         ("halves in a chain", chain()),
         ("partner in the last row", far_partner(1)),
         ("the same, 204 deep", far_partner(204)),
@@ -132,12 +134,12 @@ fn row(kind: u32, parts: &[u32]) -> Row {
     }
 }
 
-fn atoms(count: u32) -> Vec<Row> {
+pub fn atoms(count: u32) -> Vec<Row> {
     (0..count).map(|_| row(ATOM, &[])).collect()
 }
 
 /// Parties named by the first atoms, who all know the same rows.
-fn parties(count: u32, known: &[u32]) -> Vec<Party> {
+pub fn parties(count: u32, known: &[u32]) -> Vec<Party> {
     let party = |name: u32| Party {
         name,
         known: known.to_vec(),
@@ -299,6 +301,7 @@ fn early() -> Book {
 mod tests {
     use super::*;
     use crate::book::Refusal;
+    use crate::lean;
 
     /// The refusal of a book, if there is one.
     fn refused(case: &Case) -> Option<Refusal> {
@@ -319,6 +322,21 @@ mod tests {
             for case in &group.cases {
                 assert_eq!(refused(case), refusal, "{}", case.name);
             }
+        }
+    }
+
+    /// What is timed is compared first; here for the anchor, which needs no library.
+    #[test]
+    fn the_anchor_answers_the_same() {
+        let grown = growth().into_iter().chain(keys::growth()).map(|(_, group)| group);
+        for case in worst().into_iter().chain(grown).flat_map(|group| group.cases) {
+            let (mut own, mut other) = (vec![7; LENT], vec![7; LENT]);
+            let answers = (
+                translate::translate(&case.words, &mut own),
+                lean::translate(&case.words, &mut other),
+            );
+            assert_eq!(answers.0, answers.1, "{}", case.name);
+            assert!(own == other, "{}", case.name);
         }
     }
 

@@ -1,13 +1,13 @@
-//! The plot of the growth, a picture in SVG: time per book against rows, both sides, on logarithmic scales.
+//! The plot of the growth, a picture in SVG: time per book against rows, all sides, on logarithmic scales.
 //! It is written by hand, as there is no package to draw with.
 
+use super::timing::SIDES;
 use std::fmt::Write;
 
-/// The times at one size, in nanoseconds.
+/// The sides' times at one size, in nanoseconds.
 pub struct Point {
     pub rows: usize,
-    pub proved: f64,
-    pub host: f64,
+    pub times: [f64; 3],
 }
 
 const WIDTH: f64 = 720.0;
@@ -18,8 +18,10 @@ const RIGHT: f64 = 620.0;
 const TOP: f64 = 50.0;
 const BOTTOM: f64 = 370.0;
 
-const PROVED: &str = "#0b5cad";
-const HOST: &str = "#c2571a";
+/// The sides' colours.
+const COLOURS: [&str; 3] = ["#0b5cad", "#c2571a", "#3d7a35"];
+/// Names stand apart by so much, where lines end close together.
+const APART: f64 = 20.0;
 const GRID: &str = "#dddddd";
 const INK: &str = "#333333";
 
@@ -39,7 +41,7 @@ impl Scale {
 
 /// The picture of at least two points of different sizes, in the order of their sizes.
 pub fn svg(points: &[Point]) -> String {
-    let times = || points.iter().flat_map(|point| [point.proved, point.host]);
+    let times = || points.iter().flat_map(|point| point.times);
     let low = times().fold(f64::INFINITY, f64::min).log10().floor();
     let high = times().fold(0.0, f64::max).log10().ceil();
     let rows = points.iter().map(|point| point.rows as f64);
@@ -76,16 +78,13 @@ pub fn svg(points: &[Point]) -> String {
     let middle = (LEFT + RIGHT) / 2.0;
     let below = "rows (parties and steps grow along, to 16 and 64)";
     put(text(middle, BOTTOM + 46.0, "middle", below));
-    // The names stand apart where the lines end close together.
-    let end = |point: &Point| (up.place(point.proved), up.place(point.host));
-    let (proved, host) = points.last().map_or((0.0, 0.0), end);
-    let shift = (20.0 - (proved - host).abs()).max(0.0) / 2.0;
-    let shift = if proved < host { -shift } else { shift };
-    for (name, colour, shift, time) in [
-        ("proved", PROVED, shift, (|point| point.proved) as fn(&Point) -> f64),
-        ("host", HOST, -shift, |point| point.host),
-    ] {
-        let place = |point: &Point| (across.place(point.rows as f64), up.place(time(point)));
+    let ends = points
+        .last()
+        .map_or([0.0; 3], |point| point.times.map(|time| up.place(time)));
+    let names = apart(ends);
+    for (side, name) in SIDES.iter().enumerate() {
+        let colour = COLOURS[side];
+        let place = |point: &Point| (across.place(point.rows as f64), up.place(point.times[side]));
         let places: Vec<(f64, f64)> = points.iter().map(place).collect();
         let pairs = places.iter().map(|(x, y)| format!("{x:.1},{y:.1}"));
         let pairs: Vec<String> = pairs.collect();
@@ -96,16 +95,26 @@ pub fn svg(points: &[Point]) -> String {
         for (x, y) in &places {
             put(format!(r#"<circle cx="{x:.1}" cy="{y:.1}" r="3.5" fill="{colour}"/>"#));
         }
-        if let Some((x, y)) = places.last() {
-            put(format!(
-                r#"<text x="{:.1}" y="{:.1}" fill="{colour}" font-weight="bold">{name}</text>"#,
-                x + 10.0,
-                y + 4.0 + shift
-            ));
-        }
+        put(format!(
+            r#"<text x="{:.1}" y="{:.1}" fill="{colour}" font-weight="bold">{name}</text>"#,
+            RIGHT + 10.0,
+            names[side] + 4.0
+        ));
     }
     put("</svg>".to_string());
     out
+}
+
+/// Where the names of lines stand that end at these places: in the same order, and none on another.
+fn apart(ends: [f64; 3]) -> [f64; 3] {
+    let mut order = [0, 1, 2];
+    order.sort_by(|one, other| ends[*one].total_cmp(&ends[*other]));
+    let mut places = ends;
+    for (above, below) in [(0, 1), (1, 2)] {
+        let lacking = (APART - (places[order[below]] - places[order[above]])).max(0.0);
+        places[order[below]] += lacking;
+    }
+    places
 }
 
 fn line(x1: f64, y1: f64, x2: f64, y2: f64) -> String {
@@ -150,20 +159,27 @@ mod tests {
 
     #[test]
     fn the_picture_is_well_formed() {
-        let point = |rows: usize, proved: f64, host: f64| Point { rows, proved, host };
+        let point = |rows: usize, times: [f64; 3]| Point { rows, times };
         let svg = svg(&[
-            point(16, 12_000.0, 5_000.0),
-            point(64, 90_000.0, 40_000.0),
-            point(1_024, 2.4e6, 1.1e6),
+            point(16, [12_000.0, 5_000.0, 1_100.0]),
+            point(64, [90_000.0, 40_000.0, 4_000.0]),
+            point(1_024, [2.4e6, 1.1e6, 30_000.0]),
         ]);
         assert!(closes(&svg), "{svg}");
         assert!(!closes("<a><b></a></b>") && !closes("<a>"));
-        assert_eq!(svg.matches("<circle").count(), 6);
-        assert_eq!(svg.matches("<polyline").count(), 2);
-        for label in ["1 µs", "10 ms", ">16<", ">1024<", ">proved<", ">host<"] {
+        assert_eq!(svg.matches("<circle").count(), 9);
+        assert_eq!(svg.matches("<polyline").count(), 3);
+        for label in ["1 µs", "10 ms", ">16<", ">1024<", ">proved<", ">host<", ">lean<"] {
             assert!(svg.contains(label), "{label}");
         }
         assert!(!svg.contains("NaN") && !svg.contains("inf"));
+    }
+
+    #[test]
+    fn names_stand_apart() {
+        assert_eq!(apart([10.0, 100.0, 50.0]), [10.0, 100.0, 50.0]);
+        assert_eq!(apart([100.0, 95.0, 300.0]), [115.0, 95.0, 300.0]);
+        assert_eq!(apart([30.0, 25.0, 20.0]), [60.0, 40.0, 20.0]);
     }
 
     #[test]

@@ -1,4 +1,4 @@
-//! Times of two sides over the same books, taken in turn, and what they come to: medians over the rounds, and ratios
+//! Times of three sides over the same books, taken in turn, and what they come to: medians over the rounds, and ratios
 //! within a round, so that what else the machine does counts little.
 
 use std::ffi::{c_int, c_long};
@@ -31,56 +31,60 @@ fn now() -> f64 {
     reading.seconds as f64 * 1e9 + reading.nanoseconds as f64
 }
 
-/// The times of one book in nanoseconds, a round each.
-pub struct Times {
-    pub proved: Vec<f64>,
-    pub host: Vec<f64>,
-}
+/// The sides, in the order of their times everywhere: the proved code, the host, the anchor.
+pub const SIDES: [&str; 3] = ["proved", "host", "lean"];
+pub const PROVED: usize = 0;
+pub const HOST: usize = 1;
+pub const LEAN: usize = 2;
+
+/// The times of one book in nanoseconds, for each side a round each.
+pub type Times = [Vec<f64>; 3];
 
 /// What the times of some books come to.
 #[derive(Debug, PartialEq)]
 pub struct Outcome {
-    /// Medians over the rounds of the mean time of a book, in nanoseconds.
-    pub proved: f64,
-    pub host: f64,
-    /// The ratio of the sums, proved to host: lower quartile, median and upper quartile over the rounds.
-    pub ratio: [f64; 3],
-    /// The books' own ratios of medians: the best, the worst, and which book that is.
+    /// Of each side, the median over the rounds of the mean time of a book, in nanoseconds.
+    pub times: [f64; 3],
+    /// The ratio of the sums, proved to host and proved to lean: lower quartile, median and upper quartile over the
+    /// rounds.
+    pub to_host: [f64; 3],
+    pub to_lean: [f64; 3],
+    /// The books' own ratios of medians, proved to host: the best, the worst, and which book that is.
     pub best: f64,
     pub worst: (f64, usize),
 }
 
-/// Runs both sides over each of so many books in every round. Which side goes first changes from round to round,
-/// so that neither always finds what the other has left.
-pub fn measure(books: usize, rounds: usize, mut proved: impl FnMut(usize), mut host: impl FnMut(usize)) -> Vec<Times> {
-    let mut all = Vec::with_capacity(books);
+/// Runs all sides over each of so many books in every round. Which side goes first changes from round to round, and
+/// which one it follows, so that none always finds what the same other has left.
+pub fn measure(books: usize, rounds: usize, mut sides: [&mut dyn FnMut(usize); 3]) -> Vec<Times> {
+    let mut all: Vec<Times> = Vec::with_capacity(books);
     let mut runs = Vec::with_capacity(books);
     for book in 0..books {
         // Once to warm up, once to learn how long it takes.
-        let one = |side: &mut dyn FnMut(usize)| {
-            stretch(1, || side(book));
-            let time = stretch(1, || side(book));
+        runs.push([0, 1, 2].map(|side| {
+            stretch(1, || sides[side](book));
+            let time = stretch(1, || sides[side](book));
             (STRETCH / time.max(1.0)).ceil().max(1.0) as usize
-        };
-        runs.push((one(&mut proved), one(&mut host)));
-        all.push(Times {
-            proved: Vec::with_capacity(rounds),
-            host: Vec::with_capacity(rounds),
-        });
+        }));
+        all.push([0, 1, 2].map(|_| Vec::with_capacity(rounds)));
     }
     for round in 0..rounds {
         for (book, times) in all.iter_mut().enumerate() {
-            let (first, second) = runs[book];
-            if round % 2 == 0 {
-                times.proved.push(stretch(first, || proved(book)));
-                times.host.push(stretch(second, || host(book)));
-            } else {
-                times.host.push(stretch(second, || host(book)));
-                times.proved.push(stretch(first, || proved(book)));
+            for side in order(round) {
+                times[side].push(stretch(runs[book][side], || sides[side](book)));
             }
         }
     }
     all
+}
+
+/// The order of the sides in a round: every order comes up in six.
+fn order(round: usize) -> [usize; 3] {
+    let turned = [0, 1, 2].map(|place| (place + round) % 3);
+    match round / 3 % 2 {
+        0 => turned,
+        _ => [turned[0], turned[2], turned[1]],
+    }
 }
 
 /// The mean time of a run, in nanoseconds.
@@ -94,22 +98,23 @@ fn stretch(runs: usize, mut run: impl FnMut()) -> f64 {
 
 /// What the times of at least one book come to.
 pub fn outcome(books: &[Times]) -> Outcome {
-    let rounds = books[0].proved.len();
-    let sums = |side: fn(&Times) -> &Vec<f64>| -> Vec<f64> {
-        let sum = |round: usize| books.iter().map(|times| side(times)[round]).sum::<f64>();
+    let rounds = books[0][PROVED].len();
+    let sums = [PROVED, HOST, LEAN].map(|side| -> Vec<f64> {
+        let sum = |round: usize| books.iter().map(|times| times[side][round]).sum::<f64>();
         (0..rounds).map(sum).collect()
+    });
+    let proved_to = |side: usize| -> [f64; 3] {
+        let ratios: Vec<f64> = sums[PROVED].iter().zip(&sums[side]).map(|(p, s)| p / s).collect();
+        [0.25, 0.5, 0.75].map(|share| quantile(&ratios, share))
     };
-    let proved = sums(|times| &times.proved);
-    let host = sums(|times| &times.host);
-    let ratios: Vec<f64> = proved.iter().zip(&host).map(|(p, h)| p / h).collect();
-    let own = |times: &Times| median(&times.proved) / median(&times.host);
+    let own = |times: &Times| median(&times[PROVED]) / median(&times[HOST]);
     let own: Vec<f64> = books.iter().map(own).collect();
     let worst = (0..own.len()).max_by(|one, other| own[*one].total_cmp(&own[*other]));
     let worst = worst.expect("at least one book");
     Outcome {
-        proved: median(&proved) / books.len() as f64,
-        host: median(&host) / books.len() as f64,
-        ratio: [0.25, 0.5, 0.75].map(|share| quantile(&ratios, share)),
+        times: [PROVED, HOST, LEAN].map(|side| median(&sums[side]) / books.len() as f64),
+        to_host: proved_to(HOST),
+        to_lean: proved_to(LEAN),
         best: own.iter().copied().fold(f64::INFINITY, f64::min),
         worst: (own[worst], worst),
     }
@@ -131,6 +136,7 @@ fn quantile(values: &[f64], share: f64) -> f64 {
 #[cfg(test)]
 mod tests {
     use super::*;
+    use std::collections::HashSet;
 
     #[test]
     fn medians_and_quartiles() {
@@ -144,18 +150,14 @@ mod tests {
 
     #[test]
     fn outcomes() {
-        let times = |proved: [f64; 3], host: [f64; 3]| Times {
-            proved: proved.to_vec(),
-            host: host.to_vec(),
-        };
         let books = [
-            times([1.0, 2.0, 3.0], [2.0, 2.0, 2.0]),
-            times([5.0, 6.0, 7.0], [2.0, 2.0, 2.0]),
+            [vec![1.0, 2.0, 3.0], vec![2.0, 2.0, 2.0], vec![0.5, 0.5, 0.5]],
+            [vec![5.0, 6.0, 7.0], vec![2.0, 2.0, 2.0], vec![0.5, 0.5, 0.5]],
         ];
         let expected = Outcome {
-            proved: 4.0,
-            host: 2.0,
-            ratio: [1.75, 2.0, 2.25],
+            times: [4.0, 2.0, 0.5],
+            to_host: [1.75, 2.0, 2.25],
+            to_lean: [7.0, 8.0, 9.0],
             best: 1.0,
             worst: (3.0, 1),
         };
@@ -163,13 +165,25 @@ mod tests {
     }
 
     #[test]
-    fn every_round_runs_both_sides() {
-        let (mut proved, mut host) = ([0; 2], [0; 2]);
-        let times = measure(2, 3, |book| proved[book] += 1, |book| host[book] += 1);
-        assert!(proved.iter().chain(&host).all(|runs| *runs >= 5));
+    fn every_round_runs_all_sides() {
+        let (mut proved, mut host, mut lean) = ([0; 2], [0; 2], [0; 2]);
+        let sides: [&mut dyn FnMut(usize); 3] = [
+            &mut |book| proved[book] += 1,
+            &mut |book| host[book] += 1,
+            &mut |book| lean[book] += 1,
+        ];
+        let times = measure(2, 3, sides);
+        assert!([proved, host, lean].as_flattened().iter().all(|runs| *runs >= 5));
         assert_eq!(times.len(), 2);
-        for times in times {
-            assert_eq!((times.proved.len(), times.host.len()), (3, 3));
+        assert!(times.iter().flatten().all(|times| times.len() == 3));
+    }
+
+    #[test]
+    fn every_order_comes_up() {
+        let orders: HashSet<[usize; 3]> = (0..6).map(order).collect();
+        assert_eq!(orders.len(), 6);
+        for order in orders {
+            assert_eq!(HashSet::from(order), HashSet::from([0, 1, 2]));
         }
     }
 }

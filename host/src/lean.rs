@@ -9,7 +9,7 @@ mod walk;
 use crate::book::{Refusal, MOST_PARTIES, MOST_STEPS};
 use crate::rehearse::MOST_MOVES;
 use read::{Book, Facts};
-use walk::{Sink, Walk};
+use walk::Walk;
 
 type Answer = Result<usize, Refusal>;
 
@@ -36,36 +36,17 @@ pub fn rehearse(words: &[u32], schedule: &[u32], out: &mut [u32]) -> Answer {
     fitting!(rehearse_in, &book, schedule, out)
 }
 
-/// The words of a listing, as long as there is room for them; they are needed even where there is none.
-struct Room {
-    needed: usize,
-    room: usize,
-}
-
-impl Sink for Room {
-    #[inline(always)]
-    fn event(&mut self, words: u32) -> bool {
-        self.needed += words as usize;
-        self.needed <= self.room
-    }
-}
-
 /// The words are copied once all is known: a refusal may come up to the last of them, and changes none that was lent.
 fn translate_in<const N: usize>(book: &Book, out: &mut [u32]) -> Answer {
     let mut facts = Facts::<N>::new();
     facts.read(book)?;
     let parties = book.parties.len();
     let heads = 1 + 2 * parties;
-    let room = Room {
-        needed: heads,
-        room: out.len(),
-    };
-    let mut walk = Walk::new(book, &facts, room);
-    walk.words.resize(heads, 0);
-    walk.words[0] = parties as u32;
+    let mut walk = Walk::new(book, &facts, heads, Some(out.len()));
     let mut ends = [0; MOST_PARTIES as usize];
-    all(&mut walk, &facts, parties, |party, room| ends[party] = room.needed)?;
+    all(&mut walk, &facts, |party, length| ends[party] = length)?;
 
+    walk.words[0] = parties as u32;
     let mut start = heads;
     for (head, end) in walk.words[1..heads].as_chunks_mut().0.iter_mut().zip(ends) {
         *head = [start as u32, (end - start) as u32];
@@ -78,22 +59,21 @@ fn translate_in<const N: usize>(book: &Book, out: &mut [u32]) -> Answer {
     Ok(start)
 }
 
-/// All parties go through their steps, and after each it is told; or refusal 10. A party that comes after one which is
-/// refused is asked about the steps before alone, as the smallest step is the place.
-fn all<const N: usize, S: Sink>(
-    walk: &mut Walk<N, S>,
+/// All parties go through their steps, and after each it is told how many words there are; or refusal 10. A party that
+/// comes after one which is refused is asked about the steps before alone, as the smallest step is the place.
+fn all<const N: usize>(
+    walk: &mut Walk<N>,
     facts: &Facts<N>,
-    parties: usize,
-    mut after: impl FnMut(usize, &S),
+    mut after: impl FnMut(usize, usize),
 ) -> Result<(), Refusal> {
     let mut refused = None;
     let mut before = u64::MAX;
-    for party in 0..parties {
+    for party in 0..walk.book.parties.len() {
         if let Err((step, row)) = walk.party(party, facts.own[party] & before) {
             refused = Some([step, row]);
             before = (1 << step) - 1;
         }
-        after(party, &walk.sink);
+        after(party, walk.length());
     }
     match refused {
         Some(place) => Err(Refusal::new(10, &place)),
@@ -101,47 +81,17 @@ fn all<const N: usize, S: Sink>(
     }
 }
 
-/// How many events the two parties of each step have in it.
-struct Events {
-    so_far: u32,
-    sent: [u32; MOST_STEPS as usize],
-    received: [u32; MOST_STEPS as usize],
-}
-
-impl Sink for Events {
-    #[inline(always)]
-    fn event(&mut self, _words: u32) -> bool {
-        self.so_far += 1;
-        false
-    }
-
-    fn end(&mut self, _words: u32) -> bool {
-        false
-    }
-
-    fn step(&mut self, step: u32, sends: bool) {
-        let side = if sends { &mut self.sent } else { &mut self.received };
-        side[step as usize] = self.so_far;
-        self.so_far = 0;
-    }
-}
-
 fn rehearse_in<const N: usize>(book: &Book, schedule: &[u32], out: &mut [u32]) -> Answer {
     let mut facts = Facts::<N>::new();
     facts.read(book)?;
     let parties = book.parties.len();
-    let events = Events {
-        so_far: 0,
-        sent: [0; MOST_STEPS as usize],
-        received: [0; MOST_STEPS as usize],
-    };
-    let mut walk = Walk::new(book, &facts, events);
-    all(&mut walk, &facts, parties, |_, _| ())?;
+    let mut walk = Walk::new(book, &facts, 0, None);
+    all(&mut walk, &facts, |_, _| ())?;
     test(schedule, parties as u32)?;
     let Some(lent) = out.get_mut(..parties) else {
         return Err(Refusal::new(12, &[parties as u32]));
     };
-    lent.copy_from_slice(&play(book, &facts.own, &walk.sink, schedule)[..parties]);
+    lent.copy_from_slice(&play(&facts.own, book.steps, &walk.events, schedule)[..parties]);
     Ok(parties)
 }
 
@@ -172,9 +122,9 @@ struct Player {
 /// The events that each party has done. None fails, so it is enough to count them: a step is sent with the last of its
 /// sender's events, and its receiver waits before the first of its own.
 fn play(
-    book: &Book,
     own: &[u64; MOST_PARTIES as usize],
-    events: &Events,
+    steps: &[[u32; 4]],
+    events: &[[u32; 2]; MOST_STEPS as usize],
     schedule: &[u32],
 ) -> [u32; MOST_PARTIES as usize] {
     let mut players = own.map(|steps| Player {
@@ -182,6 +132,7 @@ fn play(
         ..Player::default()
     });
     let mut sent = 0_u64;
+    let mut unfinished = own.iter().filter(|steps| **steps != 0).count();
     for &party in schedule {
         let player = &mut players[party as usize % MOST_PARTIES as usize];
         if player.left == 0 {
@@ -190,10 +141,10 @@ fn play(
             }
             let step = player.steps.trailing_zeros();
             let bit = 1 << step;
-            if book.steps[step as usize][0] == party {
-                (player.left, player.sends) = (events.sent[step as usize], bit);
+            if steps[step as usize][0] == party {
+                (player.left, player.sends) = (events[step as usize][0], bit);
             } else if sent & bit != 0 {
-                (player.left, player.sends) = (events.received[step as usize], 0);
+                (player.left, player.sends) = (events[step as usize][1], 0);
             } else {
                 continue;
             }
@@ -203,6 +154,10 @@ fn play(
         player.done += 1;
         if player.left == 0 {
             sent |= player.sends;
+            unfinished -= usize::from(player.steps == 0);
+            if unfinished == 0 {
+                break;
+            }
         }
     }
     players.map(|player| player.done)

@@ -106,6 +106,8 @@ const NEVER: u8 = u8::MAX;
 pub struct Facts<const N: usize> {
     /// By a row: the row of its public half and that of its private one; 0 where there is none, as row 0 is no half.
     pub halves: [[u16; 2]; N],
+    /// By a place of the pool: the row whose part is there.
+    owners: [[u16; MOST_PARTS as usize]; N],
     /// By an atom: the first step at which it is taken.
     pub since: [u8; N],
     /// By a party: a bit for each of its steps.
@@ -116,6 +118,7 @@ impl<const N: usize> Facts<N> {
     pub fn new() -> Facts<N> {
         Facts {
             halves: [[0; 2]; N],
+            owners: [[0; MOST_PARTS as usize]; N],
             since: [NEVER; N],
             own: [0; MOST_PARTIES as usize],
         }
@@ -123,14 +126,14 @@ impl<const N: usize> Facts<N> {
 
     /// Refusals 4 to 9.
     pub fn read(&mut self, book: &Book) -> Result<(), Refusal> {
-        let read = self.rows(book)?;
-        let read = self.parties(book, read)?;
+        let parts = self.rows(book)?;
+        let read = self.parties(book, parts)?;
         let read = self.steps(book, read)?;
         if read != book.pool.len() {
             return Err(refused(9, 0));
         }
         if !book.steps.is_empty() {
-            self.spread(book);
+            self.spread(&book.pool[..parts]);
         }
         Ok(())
     }
@@ -140,7 +143,8 @@ impl<const N: usize> Facts<N> {
     fn rows(&mut self, book: &Book) -> Result<usize, Refusal> {
         let mut sizes = [0_u16; N];
         let mut seen = Seen::<N>::new();
-        let (mut large, mut repeated) = (None, None);
+        // The first of these, if there are any.
+        let (mut large, mut repeated) = (usize::MAX, usize::MAX);
         let mut read = 0;
         for (number, &[kind, tag, first, count]) in book.rows.iter().enumerate() {
             let Some(rule) = KINDS.get(kind as usize) else {
@@ -148,38 +152,54 @@ impl<const N: usize> Facts<N> {
             };
             let fits = first as usize == read && tag <= rule.tag && count >= rule.least && count <= rule.most;
             let end = read + count as usize;
-            let (true, Some(parts)) = (fits, book.pool.get(read..end)) else {
+            if !fits || end > book.pool.len() {
                 return Err(refused(4, number));
-            };
+            }
+
+            // Few rows have more than four parts. These are looked at whether they are there or not, and what isn't
+            // there is masked: where the way depends on how many there are, the processor guesses wrong too often.
+            let four = four(&book.pool[read..]);
+            let mut late = 0;
+            let mut size = rule.size;
+            let mut packed = u64::from(tag) << 47 | u64::from(kind) << 44 | u64::from(count) << 40;
+            for (place, part) in four.into_iter().enumerate() {
+                let there = 0_u32.wrapping_sub(u32::from(place < count as usize));
+                late |= u32::from(part as usize >= number) & there;
+                size = size.wrapping_add(u32::from(sizes[part as usize % N]) & there);
+                packed |= u64::from(part & there) << (10 * place);
+            }
+            let mut hash = hash(0, packed);
+            if count > 4 {
+                for &part in &book.pool[read + 4..end] {
+                    late |= u32::from(part as usize >= number);
+                    size += u32::from(sizes[part as usize % N]);
+                    hash = self::hash(hash, u64::from(part));
+                }
+            }
+            if late != 0 {
+                return Err(refused(4, number));
+            }
+            self.owners.as_flattened_mut()[read..read + MOST_PARTS as usize].fill(number as u16);
             read = end;
 
-            let mut earlier = true;
-            let mut size = rule.size;
-            let mut hash = hash(u64::from(kind), u64::from(tag << 4 | count));
-            for &part in parts {
-                earlier &= (part as usize) < number;
-                size += u32::from(sizes[part as usize % N]);
-                hash = self::hash(hash, u64::from(part));
-            }
-            if !earlier {
-                return Err(refused(4, number));
-            }
             // What is past the bound stays past it, and sums stay small.
             sizes[number % N] = size.min(MOST_SIZE + 1) as u16;
-            if size > MOST_SIZE && large.is_none() {
-                large = Some(number);
-            }
+            large = large.min(if size > MOST_SIZE { number } else { usize::MAX });
             if kind != ATOM && seen.add(hash, number as u32, |other| book.agree(other, number as u32)) {
-                repeated = repeated.or(Some(number));
+                repeated = repeated.min(number);
             }
-            if kind >= PUBLIC {
-                self.halves[parts[0] as usize % N][(kind - PUBLIC) as usize % 2] = number as u16;
-            }
+            // A row that is no half has none of its own yet, so that what is written changes nothing.
+            let (whole, half) = if kind >= PUBLIC {
+                (four[0] as usize, number)
+            } else {
+                (number, 0)
+            };
+            self.halves[whole % N][(kind as usize + 1) % 2] = half as u16;
         }
         match (large, repeated) {
-            (Some(row), _) => Err(refused(5, row)),
-            (None, Some(row)) => Err(refused(6, row)),
-            (None, None) => Ok(read),
+            (usize::MAX, usize::MAX) => Ok(read),
+            (usize::MAX, row) => Err(refused(6, row)),
+            (row, _) => Err(refused(5, row)),
         }
     }
 
@@ -232,18 +252,24 @@ impl<const N: usize> Facts<N> {
         Ok(read)
     }
 
-    /// What is taken is so at any depth. Parts stand before their row, so from the last row to the first one pass does.
-    fn spread(&mut self, book: &Book) {
-        for (number, &[_, _, first, count]) in book.rows.iter().enumerate().rev() {
-            let own = self.since[number % N];
-            if own == NEVER {
-                continue;
-            }
-            for &part in book.list(first, count) {
-                let since = &mut self.since[part as usize % N];
-                *since = (*since).min(own);
-            }
+    /// What is taken is so at any depth. Parts stand before their row, so one pass through the parts of the rows, from
+    /// the last to the first, does.
+    fn spread(&mut self, parts: &[u32]) {
+        let owners = &self.owners.as_flattened()[..parts.len()];
+        for (&part, &owner) in parts.iter().zip(owners).rev() {
+            let own = self.since[owner as usize % N];
+            let since = &mut self.since[part as usize % N];
+            *since = (*since).min(own);
         }
+    }
+}
+
+/// The first four words, 0 where there are no more.
+#[inline(always)]
+fn four(words: &[u32]) -> [u32; 4] {
+    match words.first_chunk() {
+        Some(four) => *four,
+        None => [0, 1, 2, 3].map(|place| words.get(place).copied().unwrap_or(0)),
     }
 }
 

@@ -1,22 +1,8 @@
 //! One party's way through its steps: what it holds, what it makes, sends, opens, compares and stores, and the words
-//! of its events.
+//! of its events, or only how many there are.
 
 use super::read::{Book, Facts};
-use crate::book::{ATOM, CIPHER, OPERATION, PUBLIC};
-
-/// What becomes of the events.
-pub trait Sink {
-    /// There is an event of so many words; whether they are to be written.
-    fn event(&mut self, words: u32) -> bool;
-
-    /// The same of END.
-    fn end(&mut self, words: u32) -> bool {
-        self.event(words)
-    }
-
-    /// The party's events of a step are all there.
-    fn step(&mut self, _step: u32, _sends: bool) {}
-}
+use crate::book::{ATOM, CIPHER, MOST_STEPS, OPERATION, PUBLIC};
 
 /// Bits of a row's state that say how the row is held; the others are the party's stamp.
 const HOW: u32 = 1 << 20;
@@ -26,39 +12,62 @@ const LENGTH: u32 = 0x7ff;
 /// The row is in the dictionary as itself; its image has two words.
 const ITSELF: u32 = LENGTHS | 1 << 18 | 2;
 
-/// The walk of one party after another.
-pub struct Walk<'w, const N: usize, S> {
-    book: &'w Book<'w>,
+/// The walks of the parties, one after another. Where `WRITE` is asked for below, words are written; else they are
+/// counted.
+pub struct Walk<'w, const N: usize> {
+    pub book: &'w Book<'w>,
     facts: &'w Facts<N>,
     /// By a row: the stamp of a party that can build it, and how: by a placeholder, as itself, or from its parts, and
     /// then the length of the image. A row enters a dictionary only while it can't be built, and nothing leaves one:
     /// once it can be built it always can, with the same image.
     states: [u32; N],
     stamp: u32,
-    /// By a row: where its image stands among the words. Whatever is before the party's own words is another's.
-    images: [u32; N],
-    own_words: u32,
+    /// Images of the party, and by a row that is built from its parts where its own begins. What is behind the last one
+    /// that was finished is of no use.
+    images: Vec<u32>,
+    begins: [u32; N],
+    finished: usize,
     /// The next placeholder.
     next: u32,
     stored: Vec<[u32; 2]>,
+    /// The party's events of the step so far.
+    so_far: u32,
+    /// The words, as long as no more are there than there is room for, and how many were only counted after that.
     pub words: Vec<u32>,
-    pub sink: S,
+    counted: usize,
+    room: Option<usize>,
+    /// By a step: the events of its sender, and of its receiver.
+    pub events: [[u32; 2]; MOST_STEPS as usize],
 }
 
-impl<'w, const N: usize, S: Sink> Walk<'w, N, S> {
-    pub fn new(book: &'w Book<'w>, facts: &'w Facts<N>, sink: S) -> Walk<'w, N, S> {
+impl<'w, const N: usize> Walk<'w, N> {
+    /// A walk whose words are written, behind some heads, while there is room; or none of them.
+    pub fn new(book: &'w Book<'w>, facts: &'w Facts<N>, heads: usize, room: Option<usize>) -> Walk<'w, N> {
+        // So that most books' vectors needn't grow.
+        let some = room.map_or(0, |_| N);
+        let mut words = Vec::with_capacity(4 * some);
+        words.resize(heads, 0);
         Walk {
             book,
             facts,
             states: [0; N],
             stamp: 0,
-            images: [0; N],
-            own_words: 0,
+            images: Vec::with_capacity(4 * some),
+            begins: [0; N],
+            finished: 0,
             next: 0,
-            stored: Vec::new(),
-            words: Vec::new(),
-            sink,
+            stored: Vec::with_capacity(N),
+            so_far: 0,
+            words,
+            counted: 0,
+            room,
+            events: [[0; 2]; MOST_STEPS as usize],
         }
+    }
+
+    /// How many words there are, written or not.
+    pub fn length(&self) -> usize {
+        self.words.len() + self.counted
     }
 
     /// A party goes through those of its steps that have a bit, from its start to its end; or it comes to a step at
@@ -71,22 +80,36 @@ impl<'w, const N: usize, S: Sink> Walk<'w, N, S> {
         while steps != 0 {
             let step = steps.trailing_zeros();
             steps &= steps - 1;
-            let sends = self.book.steps[step as usize][0] as usize == party;
-            match sends {
-                true => self.send(step).map_err(|row| (step, row))?,
-                false => self.receive(step),
+            let receives = self.book.steps[step as usize][0] as usize != party;
+            match (receives, self.writes()) {
+                (false, true) => self.send::<true>(step),
+                (false, false) => self.send::<false>(step),
+                (true, true) => self.receive::<true>(step),
+                (true, false) => self.receive::<false>(step),
             }
-            self.sink.step(step, sends);
+            .map_err(|row| (step, row))?;
+            self.events[step as usize][usize::from(receives)] = self.so_far;
+            self.so_far = 0;
         }
-        self.end();
+        match self.writes() {
+            true => self.end::<true>(),
+            false => self.end::<false>(),
+        }
         Ok(())
+    }
+
+    /// Whether all words so far are there, with room for more or just enough.
+    fn writes(&self) -> bool {
+        self.counted == 0 && self.room.is_some_and(|room| self.words.len() <= room)
     }
 
     fn start(&mut self) {
         self.stamp += HOW;
-        self.own_words = self.words.len() as u32;
+        self.images.clear();
+        self.finished = 0;
         self.next = 0;
         self.stored.clear();
+        self.so_far = 0;
     }
 
     fn know(&mut self, party: usize) {
@@ -96,37 +119,44 @@ impl<'w, const N: usize, S: Sink> Walk<'w, N, S> {
         }
     }
 
+    /// An event of its own words and an image's or several, which begin at a place and have so many.
+    #[inline]
+    fn event<const WRITE: bool>(&mut self, own: &[u32], begins: usize, length: u32) {
+        self.so_far += 1;
+        if WRITE {
+            self.words.extend_from_slice(own);
+            self.words.extend_from_slice(&self.images[begins..]);
+            self.images.truncate(self.finished);
+        } else {
+            self.counted += own.len() + length as usize;
+        }
+    }
+
     /// What the party sends as a step; or the taken atom that it would have to make.
-    fn send(&mut self, step: u32) -> Result<(), u32> {
+    fn send<const WRITE: bool>(&mut self, step: u32) -> Result<(), u32> {
         let [_, _, first, count] = self.book.steps[step as usize];
-        let messages = self.book.list(first, count);
-        let mut words = 3;
-        for &row in messages {
-            words += self.build(row, step)?;
+        let begins = self.images.len();
+        let mut length = 0;
+        for &row in self.book.list(first, count) {
+            length += self.build::<WRITE>(row, step)?;
         }
-        if self.sink.event(words) {
-            self.words.extend_from_slice(&[2, step, count]);
-            for &row in messages {
-                self.image(row);
-            }
-        }
+        self.event::<WRITE>(&[2, step, count], begins, length);
         Ok(())
     }
 
-    /// What the party does with the messages of a step.
-    fn receive(&mut self, step: u32) {
+    /// What the party does with the messages of a step; nothing is ever refused.
+    fn receive<const WRITE: bool>(&mut self, step: u32) -> Result<(), u32> {
         let [_, _, first, count] = self.book.steps[step as usize];
         let placeholder = self.placeholders(count);
-        if self.sink.event(4) {
-            self.words.extend_from_slice(&[3, step, placeholder, count]);
-        }
-        self.receive_all(self.book.list(first, count), placeholder);
+        self.event::<WRITE>(&[3, step, placeholder, count], self.images.len(), 0);
+        self.receive_all::<WRITE>(self.book.list(first, count), placeholder);
+        Ok(())
     }
 
-    fn end(&mut self) {
+    fn end<const WRITE: bool>(&mut self) {
         let stored = self.stored.len() as u32;
-        if self.sink.end(2 + 2 * stored) {
-            self.words.extend_from_slice(&[6, stored]);
+        self.event::<WRITE>(&[6, stored], self.images.len(), 2 * stored);
+        if WRITE {
             self.words.extend_from_slice(self.stored.as_flattened());
         }
     }
@@ -137,157 +167,177 @@ impl<'w, const N: usize, S: Sink> Walk<'w, N, S> {
         first
     }
 
-    fn receive_all(&mut self, rows: &'w [u32], first: u32) {
-        for (&row, placeholder) in rows.iter().zip(first..) {
-            let [kind, _, first, count] = self.book.rows[row as usize];
-            if kind == CIPHER {
-                let parts = self.book.list(first, count);
-                if self.open(parts, placeholder) {
-                    continue;
-                }
+    /// Receives rows that have the placeholders from one on. The contents of the last are received in its place, so
+    /// that ciphers in ciphers aren't gone into deeper and deeper.
+    fn receive_all<const WRITE: bool>(&mut self, mut rows: &'w [u32], mut first: u32) {
+        while let Some((&row, rest)) = rows.split_first() {
+            let placeholder = first;
+            (rows, first) = (rest, first + 1);
+            match self.open::<WRITE>(row, placeholder) {
+                Some((contents, begin)) if rest.is_empty() => (rows, first) = (contents, begin),
+                Some((contents, begin)) => self.receive_all::<WRITE>(contents, begin),
+                None => self.compare::<WRITE>(row, placeholder),
             }
-            let words = self.length(row);
-            if words == 0 {
+        }
+    }
+
+    /// Opens a row if it is a cipher and the party can: its contents, and the first of their placeholders.
+    #[inline(always)]
+    fn open<const WRITE: bool>(&mut self, row: u32, placeholder: u32) -> Option<(&'w [u32], u32)> {
+        let [kind, _, first, count] = self.book.rows[row as usize];
+        if kind != CIPHER {
+            return None;
+        }
+        let (&key, contents) = self.book.list(first, count).split_first()?;
+        let begins = self.images.len();
+        let length = self.opener::<WRITE>(key);
+        if length == 0 {
+            self.images.truncate(self.finished);
+            return None;
+        }
+        let first = self.placeholders(count - 1);
+        self.event::<WRITE>(&[5, placeholder, first, count - 1], begins, length);
+        Some((contents, first))
+    }
+
+    /// Compares a row if it can be built, and else stores it.
+    #[inline(always)]
+    fn compare<const WRITE: bool>(&mut self, row: u32, placeholder: u32) {
+        let begins = self.images.len();
+        match self.image::<WRITE>(row) {
+            0 => {
+                self.images.truncate(self.finished);
                 self.states[row as usize % N] = self.stamp | placeholder;
                 self.stored.push([row, placeholder]);
-            } else if self.sink.event(2 + words) {
-                self.words.extend_from_slice(&[4, placeholder]);
-                self.image(row);
             }
+            length => self.event::<WRITE>(&[4, placeholder], begins, length),
         }
     }
 
-    /// Opens a cipher, key and contents, if the party can.
-    fn open(&mut self, parts: &'w [u32], placeholder: u32) -> bool {
-        let Some((&key, contents)) = parts.split_first() else {
-            return false;
-        };
-        let (half, opener) = self.opener(key);
-        let words = self.length(opener);
-        if words == 0 {
-            return false;
-        }
-        let count = contents.len() as u32;
-        let first = self.placeholders(count);
-        if self.sink.event(4 + u32::from(half != 0) + words) {
-            self.words.extend_from_slice(&[5, placeholder, first, count]);
-            if half != 0 {
-                self.words.push(half);
-            }
-            self.image(opener);
-        }
-        self.receive_all(contents, first);
-        true
-    }
-
-    /// The partner of a key: 0 and its row; or, if it is no row, the number of its form in images and the row of its
-    /// part.
-    fn opener(&self, key: u32) -> (u32, u32) {
+    /// The image of a key's partner, and how long it is; 0 if that can't be built.
+    fn opener<const WRITE: bool>(&mut self, key: u32) -> u32 {
         let [kind, _, first, _] = self.book.rows[key as usize];
         if kind < PUBLIC {
-            return (0, key);
+            return self.image::<WRITE>(key);
         }
-        let part = self.book.pool[first as usize];
         // The public half is kind 3 and image 4, the private one kind 4 and image 5.
         let partner = PUBLIC + PUBLIC + 1 - kind;
+        let part = self.book.pool[first as usize];
         match self.facts.halves[part as usize % N][(partner - PUBLIC) as usize % 2] {
-            0 => (partner + 1, part),
-            row => (0, u32::from(row)),
+            0 => {
+                if WRITE {
+                    self.images.push(partner + 1);
+                }
+                match self.image::<WRITE>(part) {
+                    0 => 0,
+                    length => 1 + length,
+                }
+            }
+            row => self.image::<WRITE>(u32::from(row)),
         }
     }
 
-    /// How long the image of a row is; 0 if the row can't be built.
-    #[inline]
-    fn length(&mut self, row: u32) -> u32 {
-        match self.states[row as usize % N] ^ self.stamp {
-            0..LENGTHS => 2,
-            state @ LENGTHS..HOW => state & LENGTH,
-            _ => self.length_of_parts(row),
+    /// The image of a row, behind the other images, and how long it is; 0 if the row can't be built, and then what was
+    /// written is of no use.
+    fn image<const WRITE: bool>(&mut self, row: u32) -> u32 {
+        if let Some(length) = self.held::<WRITE>(row) {
+            return length;
         }
-    }
-
-    fn length_of_parts(&mut self, row: u32) -> u32 {
-        let [kind, _, first, count] = self.book.rows[row as usize];
+        let [kind, tag, first, count] = self.book.rows[row as usize];
         if kind == ATOM {
             return 0;
         }
-        let mut words = own_words(kind);
+        let begins = self.images.len();
+        let mut length = self.form::<WRITE>(kind, tag, count);
         for &part in self.book.list(first, count) {
-            match self.length(part) {
+            match self.image::<WRITE>(part) {
                 0 => return 0,
-                length => words += length,
+                own => length += own,
             }
         }
-        self.states[row as usize % N] = self.stamp | LENGTHS | words;
-        words
+        self.finish(row, begins, length)
     }
 
-    /// Makes what is missing for a row to be built, at a step: how long its image is then, or the taken atom.
-    #[inline]
-    fn build(&mut self, row: u32, step: u32) -> Result<u32, u32> {
-        match self.states[row as usize % N] ^ self.stamp {
-            0..LENGTHS => Ok(2),
-            state @ LENGTHS..HOW => Ok(state & LENGTH),
-            _ => self.build_parts(row, step),
+    /// The same in sending at a step: an atom that is missing is made. Or the atom that is taken.
+    fn build<const WRITE: bool>(&mut self, row: u32, step: u32) -> Result<u32, u32> {
+        if let Some(length) = self.held::<WRITE>(row) {
+            return Ok(length);
         }
-    }
-
-    fn build_parts(&mut self, row: u32, step: u32) -> Result<u32, u32> {
-        let [kind, _, first, count] = self.book.rows[row as usize];
+        let [kind, tag, first, count] = self.book.rows[row as usize];
         if kind == ATOM {
             if u32::from(self.facts.since[row as usize % N]) <= step {
                 return Err(row);
             }
-            self.states[row as usize % N] = self.stamp | ITSELF;
-            if self.sink.event(2) {
-                self.words.extend_from_slice(&[1, row]);
+            return Ok(self.make::<WRITE>(row));
+        }
+        let begins = self.images.len();
+        let mut length = self.form::<WRITE>(kind, tag, count);
+        for &part in self.book.list(first, count) {
+            length += self.build::<WRITE>(part, step)?;
+        }
+        Ok(self.finish(row, begins, length))
+    }
+
+    /// The image of a row that is held, or was built before. Whether it is held as itself or by a placeholder is often
+    /// guessed wrong, so the way doesn't depend on it.
+    #[inline(always)]
+    fn held<const WRITE: bool>(&mut self, row: u32) -> Option<u32> {
+        let state = self.states[row as usize % N] ^ self.stamp;
+        if state >= HOW {
+            return None;
+        }
+        if (LENGTHS..=LENGTHS | LENGTH).contains(&state) {
+            let length = state & LENGTH;
+            if WRITE {
+                let begins = self.begins[row as usize % N] as usize;
+                self.images.extend_from_within(begins..begins + length as usize);
             }
-            return Ok(2);
+            return Some(length);
         }
-        let mut words = own_words(kind);
-        for &part in self.book.list(first, count) {
-            words += self.build(part, step)?;
+        if WRITE {
+            let bound = state < LENGTHS;
+            let word = if bound { state } else { row };
+            self.images.extend_from_slice(&[u32::from(bound), word]);
         }
-        self.states[row as usize % N] = self.stamp | LENGTHS | words;
-        Ok(words)
+        Some(2)
     }
 
-    /// Writes the image of a row that can be built.
-    #[inline]
-    fn image(&mut self, row: u32) {
-        match self.states[row as usize % N] ^ self.stamp {
-            placeholder @ 0..LENGTHS => self.words.extend_from_slice(&[1, placeholder]),
-            ITSELF => self.words.extend_from_slice(&[0, row]),
-            state => self.image_of_parts(row, (state & LENGTH) as usize),
+    fn make<const WRITE: bool>(&mut self, atom: u32) -> u32 {
+        self.states[atom as usize % N] = self.stamp | ITSELF;
+        self.so_far += 1;
+        if WRITE {
+            self.words.extend_from_slice(&[1, atom]);
+            self.images.extend_from_slice(&[0, atom]);
+        } else {
+            self.counted += 2;
         }
+        2
     }
 
-    fn image_of_parts(&mut self, row: u32, length: usize) {
-        let before = self.images[row as usize % N];
-        if before >= self.own_words {
-            let before = before as usize;
-            self.words.extend_from_within(before..before + length);
-            return;
+    /// What an image has before those of the parts, and how long that is: its number is one more than the kind's. As
+    /// many words as the longest has are written, and those that are too many are taken back.
+    #[inline(always)]
+    fn form<const WRITE: bool>(&mut self, kind: u32, tag: u32, count: u32) -> u32 {
+        let length = match kind {
+            OPERATION => 3,
+            CIPHER => 2,
+            _ => 1,
+        };
+        if WRITE {
+            let begins = self.images.len();
+            let second = if kind == OPERATION { tag } else { count - 1 };
+            self.images.extend_from_slice(&[kind + 1, second, count]);
+            self.images.truncate(begins + length as usize);
         }
-        self.images[row as usize % N] = self.words.len() as u32;
-        let [kind, tag, first, count] = self.book.rows[row as usize];
-        match kind {
-            OPERATION => self.words.extend_from_slice(&[2, tag, count]),
-            CIPHER => self.words.extend_from_slice(&[3, count - 1]),
-            _ => self.words.push(kind + 1),
-        }
-        for &part in self.book.list(first, count) {
-            self.image(part);
-        }
+        length
     }
-}
 
-/// The words of an image that aren't its parts'.
-#[inline(always)]
-fn own_words(kind: u32) -> u32 {
-    match kind {
-        OPERATION => 3,
-        CIPHER => 2,
-        _ => 1,
+    /// A row can be built from its parts from now on.
+    #[inline(always)]
+    fn finish(&mut self, row: u32, begins: usize, length: u32) -> u32 {
+        self.states[row as usize % N] = self.stamp | LENGTHS | length;
+        self.begins[row as usize % N] = begins as u32;
+        self.finished = self.images.len();
+        length
     }
 }

@@ -146,53 +146,29 @@ impl<const N: usize> Facts<N> {
         // The first of these, if there are any.
         let (mut large, mut repeated) = (usize::MAX, usize::MAX);
         let mut read = 0;
-        for (number, &[kind, tag, first, count]) in book.rows.iter().enumerate() {
-            let Some(rule) = KINDS.get(kind as usize) else {
+        for (number, row) in book.rows.iter().enumerate() {
+            let checked = parts(row, &book.pool[read..], read).and_then(|parts| {
+                let (size, hash) = sum(row, parts, number, &sizes)?;
+                Some((parts, size, hash))
+            });
+            let Some((parts, size, hash)) = checked else {
                 return Err(refused(4, number));
             };
-            let fits = first as usize == read && tag <= rule.tag && count >= rule.least && count <= rule.most;
-            let end = read + count as usize;
-            if !fits || end > book.pool.len() {
-                return Err(refused(4, number));
-            }
-
-            // Few rows have more than four parts. These are looked at whether they are there or not, and what isn't
-            // there is masked: where the way depends on how many there are, the processor guesses wrong too often.
-            let four = four(&book.pool[read..]);
-            let mut late = 0;
-            let mut size = rule.size;
-            let mut packed = u64::from(tag) << 47 | u64::from(kind) << 44 | u64::from(count) << 40;
-            for (place, part) in four.into_iter().enumerate() {
-                let there = 0_u32.wrapping_sub(u32::from(place < count as usize));
-                late |= u32::from(part as usize >= number) & there;
-                size = size.wrapping_add(u32::from(sizes[part as usize % N]) & there);
-                packed |= u64::from(part & there) << (10 * place);
-            }
-            let mut hash = hash(0, packed);
-            if count > 4 {
-                for &part in &book.pool[read + 4..end] {
-                    late |= u32::from(part as usize >= number);
-                    size += u32::from(sizes[part as usize % N]);
-                    hash = self::hash(hash, u64::from(part));
-                }
-            }
-            if late != 0 {
-                return Err(refused(4, number));
-            }
+            // As many as a row may have; the next row writes over what is too many.
             self.owners.as_flattened_mut()[read..read + MOST_PARTS as usize].fill(number as u16);
-            read = end;
+            read += parts.len();
 
             // What is past the bound stays past it, and sums stay small.
             sizes[number % N] = size.min(MOST_SIZE + 1) as u16;
             large = large.min(if size > MOST_SIZE { number } else { usize::MAX });
+            let kind = row[0];
             if kind != ATOM && seen.add(hash, number as u32, |other| book.agree(other, number as u32)) {
                 repeated = repeated.min(number);
             }
             // A row that is no half has none of its own yet, so that what is written changes nothing.
-            let (whole, half) = if kind >= PUBLIC {
-                (four[0] as usize, number)
-            } else {
-                (number, 0)
+            let (whole, half) = match kind {
+                PUBLIC.. => (parts[0] as usize, number),
+                _ => (number, 0),
             };
             self.halves[whole % N][(kind as usize + 1) % 2] = half as u16;
         }
@@ -264,13 +240,31 @@ impl<const N: usize> Facts<N> {
     }
 }
 
-/// The first four words, 0 where there are no more.
+/// A row's parts, if all but they keep its rule; the pool is what is left of it from a place on.
 #[inline(always)]
-fn four(words: &[u32]) -> [u32; 4] {
-    match words.first_chunk() {
-        Some(four) => *four,
-        None => [0, 1, 2, 3].map(|place| words.get(place).copied().unwrap_or(0)),
+fn parts<'w>(&[kind, tag, first, count]: &[u32; 4], pool: &'w [u32], place: usize) -> Option<&'w [u32]> {
+    let rule = KINDS.get(kind as usize)?;
+    let fits = first as usize == place && tag <= rule.tag && count >= rule.least && count <= rule.most;
+    pool.get(..count as usize).filter(|_| fits)
+}
+
+/// A row's size and its hash, if all parts are before it. There is no way out of the loop but its end.
+#[inline(always)]
+fn sum<const N: usize>(
+    &[kind, tag, _, count]: &[u32; 4],
+    parts: &[u32],
+    number: usize,
+    sizes: &[u16; N],
+) -> Option<(u32, u64)> {
+    let mut late = false;
+    let mut size = KINDS[kind as usize].size;
+    let mut hash = hash(u64::from(kind), u64::from(tag << 4 | count));
+    for &part in parts {
+        late |= part as usize >= number;
+        size = size.wrapping_add(u32::from(sizes[part as usize % N]));
+        hash = self::hash(hash, u64::from(part));
     }
+    (!late).then_some((size, hash))
 }
 
 /// A step of the rows' hash; the upper bits are the ones to use.

@@ -71,7 +71,12 @@ pub fn measure(books: usize, rounds: usize, mut sides: [&mut dyn FnMut(usize); 3
     for round in 0..rounds {
         for (book, times) in all.iter_mut().enumerate() {
             for side in order(round) {
-                times[side].push(stretch(runs[book][side], || sides[side](book)));
+                let runs = runs[book][side];
+                // What the others have left in the caches, and freed for the next to tidy up, is no cost of a short run.
+                if runs > 1 {
+                    sides[side](book);
+                }
+                times[side].push(stretch(runs, || sides[side](book)));
             }
         }
     }

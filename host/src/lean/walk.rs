@@ -29,7 +29,9 @@ pub struct Walk<'w, const N: usize> {
     finished: usize,
     /// The next placeholder.
     next: u32,
-    stored: Vec<[u32; 2]>,
+    /// What the party has stored so far, row and placeholder; a row is stored once at most.
+    stored: [[u32; 2]; N],
+    stored_rows: usize,
     /// The party's events of the step so far.
     so_far: u32,
     /// The words, as long as no more are there than there is room for, and how many were only counted after that.
@@ -56,7 +58,8 @@ impl<'w, const N: usize> Walk<'w, N> {
             begins: [0; N],
             finished: 0,
             next: 0,
-            stored: Vec::with_capacity(N),
+            stored: [[0; 2]; N],
+            stored_rows: 0,
             so_far: 0,
             words,
             counted: 0,
@@ -108,7 +111,7 @@ impl<'w, const N: usize> Walk<'w, N> {
         self.images.clear();
         self.finished = 0;
         self.next = 0;
-        self.stored.clear();
+        self.stored_rows = 0;
         self.so_far = 0;
     }
 
@@ -154,10 +157,12 @@ impl<'w, const N: usize> Walk<'w, N> {
     }
 
     fn end<const WRITE: bool>(&mut self) {
-        let stored = self.stored.len() as u32;
-        self.event::<WRITE>(&[6, stored], self.images.len(), 2 * stored);
+        let stored = &self.stored.as_flattened()[..2 * self.stored_rows];
         if WRITE {
-            self.words.extend_from_slice(self.stored.as_flattened());
+            self.words.extend_from_slice(&[6, self.stored_rows as u32]);
+            self.words.extend_from_slice(stored);
+        } else {
+            self.counted += 2 + stored.len();
         }
     }
 
@@ -208,7 +213,8 @@ impl<'w, const N: usize> Walk<'w, N> {
             0 => {
                 self.images.truncate(self.finished);
                 self.states[row as usize % N] = self.stamp | placeholder;
-                self.stored.push([row, placeholder]);
+                self.stored[self.stored_rows % N] = [row, placeholder];
+                self.stored_rows += 1;
             }
             length => self.event::<WRITE>(&[4, placeholder], begins, length),
         }

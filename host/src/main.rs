@@ -29,7 +29,7 @@ host random SEED COUNT DIR              write random books
 host compare PROGRAM PATH..             compare a program over books and folders of books
 host compare PROGRAM --random SEED COUNT   compare a program over random books
 host frames OBJECT [NAME..]             print the stack frames of an object's functions, in bytes (x86-64)
-host bench LIB BOOKS [PLOT]             time proved code, a library made by host/library, against this on books
+host bench LIB BOOKS [PLOT]             time proved code, a library made by host/library, against this and its anchor
 host routes LIB SEED COUNT [DIR..]      compare proved bytes, proved words and this on books and schedules
 host routes --lean SEED COUNT [DIR..]   compare the bench's anchor and this on books and schedules
 host help                               print this

@@ -20,7 +20,7 @@ use Rattle.holding.specs.View.{rowOf, view}
 use Rattle.receiving.specs.declared.Received.{Received}
 use Rattle.receiving.specs.Turn.{inTurn}
 use Rattle.holding.specs.Partners.{Partners}
-use Rattle.receiving.specs.Receiving.{listDid, ListReady, Led}
+use Rattle.receiving.specs.Receiving.{listDid, ListReady, Led, Brought}
 use Rattle.placing.specs.declared.Counted.{Counted}
 use Rattle.placing.specs.Placed.Laws.{few-events}
 use Rattle.placing.specs.Through.{Through, StepReady}
@@ -37,17 +37,18 @@ received b x f n =
     let k = x .dictionary .next in
     receiveAll ts k (view b (x .dictionary .entries)) (k + count ts)
 
--- what a received step took: two words of the log a stored term, and a placeholder each; all of which is few
-pub record Took (b : List ℕ) (x : Counted) (f n : ℕ) (y : Received) : Type 0 where
-  pub kept : y .dictionary .kept ≡ x .dictionary .kept + 2 * length (received b x f n .stored)
-  pub next : y .dictionary .next ≡ x .dictionary .next + (length (received b x f n .events) + length (received b x f n .stored))
+-- what a received step took, to the placeholder `next` and the place `kept`: two words of the log a stored term, and a placeholder each; all of which is few
+pub record Took (b : List ℕ) (x : Counted) (f n next kept : ℕ) : Type 0 where
+  pub to-kept : kept ≡ x .dictionary .kept + 2 * length (received b x f n .stored)
+  pub to-next : next ≡ x .dictionary .next + (length (received b x f n .events) + length (received b x f n .stored))
   pub events : x .events + 1 + length (received b x f n .events) ≤ mostEvents
   pub stored : length (received b x f n .stored) ≤ stepSize
 
 module _ {b : List ℕ} {s f n : ℕ} {x : Counted} (ready : StepReady b (receiver b s) s x) (df : f ≡ stepFirst b s) (dn : n ≡ stepCount b s) where
-  pub took-ready : {ps : List ℕ} {d : ℕ} → Partners b ps → d ≡ rows b → ListReady b ps d f n (at-first x)
+  pub took-ready : {ps : List ℕ} {d : ℕ} → Partners b ps → length (x .dictionary .entries) ≡ 1024 → d ≡ rows b
+      → ListReady b ps d f n (at-first x)
   unfolding inTurn
-  took-ready {d = d} partners dd =
+  took-ready {d = d} partners size dd =
       let ts = terms (table b) (listAt b f n) in
       let k = x .dictionary .next in
       let g = receiveAll-given ts k (view b (x .dictionary .entries)) (k + count ts) in
@@ -60,11 +61,16 @@ module _ {b : List ℕ} {s f n : ℕ} {x : Counted} (ready : StepReady b (receiv
         valid = ready .valid;
         partners = partners;
         bounded = omega arith;
+        size = size;
         span = step-span b (ready .valid) d s f n dd (ready .step) df dn;
         fits = omega arith;
       }
 
-  module _ {log logAfter out outAfter : List ℕ} {y : Received} (w : Led b (listDid b f n (at-first x)) (at-first x) log logAfter out outAfter y) where
+  module _ {log logAfter out outAfter : List ℕ} {y : Received}
+      (brought : Brought b (listDid b f n (at-first x)) (at-first x) log logAfter out outAfter y) where
+    w : Led b (listDid b f n (at-first x)) (at-first x) log logAfter out outAfter y
+    w = brought .led
+
     -- a stored term took two words of the log
     took-kept : y .dictionary .kept ≡ x .dictionary .kept + 2 * length (received b x f n .stored)
     unfolding inTurn
@@ -116,7 +122,7 @@ module _ {b : List ℕ} {s f n : ℕ} {x : Counted} (ready : StepReady b (receiv
         let u = w .goes in
         counts-as (record { holds = w .holds; given = omega arith; stored = omega arith; events = omega arith }) took-did
 
-    pub took : Took b x f n y
+    pub took : Took b x f n (y .dictionary .next) (y .dictionary .kept)
     took =
         let ts = terms (table b) (listAt b f n) in
         let k = x .dictionary .next in
@@ -127,4 +133,4 @@ module _ {b : List ℕ} {s f n : ℕ} {x : Counted} (ready : StepReady b (receiv
         let e = few-events b (ready .valid) (receiver b s) (s + 1) (omega arith) in
         let z = few-said b (ready .valid) s f n (ready .step) df dn in
         let r = receiveAll-stored ts k (view b (x .dictionary .entries)) (k + count ts) in
-        record { kept = took-kept; next = took-next; events = omega arith; stored = omega arith }
+        record { to-kept = took-kept; to-next = took-next; events = omega arith; stored = omega arith }

@@ -11,7 +11,6 @@ use book::steps;
 use holding::partners;
 use holding::start;
 use receiving::Dictionary;
-use receiving::Received;
 use receiving::receive_messages;
 use sending::Made;
 use sending::make_list;
@@ -62,27 +61,28 @@ fn take_step(book: &[u32], partners: &ByRow, from: Counted, step: u32) -> Counte
 {
     let mut log = [0u32; 1];
     let mut out = [0u32; 1];
-    let held = from.dictionary;
+    let mut here = from;
+    let next = here.dictionary.next;
+    let kept = here.dictionary.kept;
     let there = receive_messages(
         book,
         partners,
-        Received {
-            dictionary: held,
-            at: 0,
-        },
+        &mut here.dictionary.entries,
+        next,
+        kept,
         rows(book),
         step_first(book, step),
         step_count(book, step),
         &mut log[0..0],
         &mut out[0..0],
+        0,
     );
-    let dictionary = there.dictionary;
-    let given = dictionary.next - from.dictionary.next;
-    let stored = narrow((dictionary.kept - from.dictionary.kept) / 2);
-    Counted {
-        dictionary,
-        events: from.events + 1 + given - stored,
-    }
+    let given = there.next - next;
+    let stored = narrow((there.kept - kept) / 2);
+    here.dictionary.next = there.next;
+    here.dictionary.kept = there.kept;
+    here.events = from.events + 1 + given - stored;
+    here
 }
 
 // A party's part in one step. The SEND is the last event of its step, the RECEIVE the first.

@@ -1,54 +1,52 @@
--- Receiving the rows of a list one after another: `Going` says how far it got, and its laws are the loop's. Assumes nothing.
+-- Receiving the rows of a list one after another: `Going` says how far it got, and its laws are the loops'. Assumes nothing.
 use Prim.Native.Nat.{ℕ, _+_, _-_, _≤_, _<_}
 use native.Mathlib.Omega.{arith}
-use mathlib.Core.List.{List}
+use mathlib.Core.List.{List, append-nil}
 use mathlib.Core.Path.{_≡_, refl, sym, ap, ap₂, _∙_}
 use lib.ListN.{length, length-append}
 use Rattle.words.specs.Overlay.Laws.{wrote-length}
 use Rattle.terms.specs.Term.{count, listed}
 use Rattle.terms.specs.Term.Laws.{count-listed}
 use Rattle.terms.specs.Table.{terms}
-use Rattle.book.specs.Layout.{table, listAt}
+use Rattle.book.specs.Layout.{table, rows, listAt}
 use Rattle.book.specs.Span.{entry, Span}
-use Rattle.book.specs.Span.Laws.{span-tail}
-use Rattle.translation.specs.Receive.{Did, followed, receiveAll}
+use Rattle.book.specs.Span.Laws.{list-none, span-tail}
+use Rattle.book.specs.Valid.{Valid}
+use Rattle.translation.specs.Receive.{Did, nothing, followed, receiveAll}
+use Rattle.holding.specs.Partners.{Partners}
 use Rattle.holding.specs.View.{view}
 use Rattle.holding.specs.Doing.Laws.{doing-as, doing-none, doing-then}
 use Rattle.receiving.specs.declared.Received.{Received}
 use Rattle.receiving.specs.Turn.{inTurn}
 use Rattle.receiving.specs.Turn.Laws.{terms-count, all-none, all-more}
-use Rattle.receiving.specs.Receiving.{rowDid, listDid, Fits, ListReady, Led}
+use Rattle.receiving.specs.Receiving.{standing, rowDid, restDid, listDid, Fits, RestReady, ListReady, Led, Brought, Going}
 
--- x, with n for its next placeholder
-abbrev pub withNext : ℕ → Received → Received
-withNext n x = record { dictionary = record { entries = x .dictionary .entries; next = n; kept = x .dictionary .kept }; at = x .at }
+-- ---- at the start
+-- nothing is received yet
+pub going-all : {b ps : List ℕ} {bound i k p : ℕ} {x : Received} {l o : List ℕ} → RestReady b ps bound i k p x
+    → Going b bound (restDid b i k p x) x l o i k p x l o
+going-all ready =
+    record {
+      span = ready .span;
+      low = ready .low;
+      size = ready .size;
+      fits = ready .fits;
+      rest = λ m s y w. w;
+      logs = refl;
+      outs = refl;
+    }
 
--- k rows from i on are received at the placeholders from p on, which were handed out before
-abbrev restDid : List ℕ → ℕ → ℕ → ℕ → Received → Did
-restDid b i k p x = receiveAll (terms (table b) (listAt b i k)) p (view b (x .dictionary .entries)) (x .dictionary .next)
-
--- of a list, received from `whole` on with the lent words log₀ and out₀, k rows from i on are left: whatever ends the rest, from x
--- on, ends the whole
-pub record Going (b : List ℕ) (bound first left : ℕ) (whole : Received) (log₀ out₀ : List ℕ) (i k p : ℕ) (x : Received) (log out : List ℕ)
-    : Type 0 where
-  pub span : Span b bound i k
-  pub low : p + k ≤ x .dictionary .next
-  pub fits : Fits x (restDid b i k p x)
-  pub rest : (m s : List ℕ) (y : Received) → Led b (restDid b i k p x) x log m out s y → Led b (listDid b first left whole) whole log₀ m out₀ s y
-  pub logs : length log ≡ length log₀
-  pub outs : length out ≡ length out₀
-
--- ---- at the start, the list's placeholders are handed out
-pub going-start : {b ps : List ℕ} {bound f c q n : ℕ} {x : Received} {l o : List ℕ}
-    → ListReady b ps bound f c (withNext n x) → q ≡ c → x .dictionary .next ≡ n + q
-    → Going b bound f c (withNext n x) l o f c n x l o
+-- the list's placeholders are handed out
+pub going-start : {b ps : List ℕ} {bound f c q : ℕ} {e : List ℕ} {n k a j : ℕ} {l o : List ℕ}
+    → ListReady b ps bound f c (standing e n k a) → q ≡ c → j ≡ n + q
+    → Going b bound (listDid b f c (standing e n k a)) (standing e n k a) l o f c n (standing e j k a) l o
 unfolding inTurn
-going-start {b} {ps} {bound} {f} {c} {q} {n} {x} ready d g =
+going-start {b} {ps} {bound} {f} {c} {q} {e} {n} {k} {a} {j} ready d g =
     let ts = terms (table b) (listAt b f c) in
-    let δ = view b (x .dictionary .entries) in
+    let δ = view b e in
     let many : count ts ≡ c = terms-count b f c in
-    let next : x .dictionary .next ≡ n + count ts = omega arith in
-    let same : receiveAll ts n δ (x .dictionary .next) ≡ receiveAll ts n δ (n + count ts) = ap (receiveAll ts n δ) next in
+    let next : j ≡ n + count ts = omega arith in
+    let same : receiveAll ts n δ j ≡ receiveAll ts n δ (n + count ts) = ap (receiveAll ts n δ) next in
     let z = ap (λ (d : Did). length (d .given)) same in
     let u = length-append (listed ts) (receiveAll ts n δ (n + count ts) .given) in
     let w = count-listed ts in
@@ -56,6 +54,7 @@ going-start {b} {ps} {bound} {f} {c} {q} {n} {x} ready d g =
     record {
       span = ready .span;
       low = omega arith;
+      size = ready .size;
       fits = omega arith;
       rest = λ m t y v. (let v′ = doing-as v (sym same) in
           record { holds = v′ .holds; goes = (let a = v′ .goes in omega arith); wrote = v′ .wrote; keeps = v′ .keeps });
@@ -92,23 +91,74 @@ module _ (b : List ℕ) (i k p r : ℕ) (x : Received) (h : 0 < k) (d : r ≡ en
         → Led b (restDid b i k p x) x l m′ o s′ z
     tail-led u = doing-as (doing-then b _ _ w u) after
 
-module _ {b : List ℕ} {bound f c : ℕ} {whole : Received} {log₀ out₀ : List ℕ} {i k p : ℕ} {x : Received} {l o : List ℕ}
-    (g : Going b bound f c whole log₀ out₀ i k p x l o) where
+module _ {b : List ℕ} {bound : ℕ} {d : Did} {whole : Received} {log₀ out₀ : List ℕ} {i k p : ℕ} {x : Received} {l o : List ℕ}
+    (g : Going b bound d whole log₀ out₀ i k p x l o) where
   pub going-fits : (r : ℕ) → 0 < k → r ≡ entry b i → Fits x (rowDid b r p x)
-  going-fits r h d = head-fits b i k p r x h d (g .fits)
+  going-fits r h e = head-fits b i k p r x h e (g .fits)
 
-  pub going-on : {r : ℕ} {y : Received} {m s : List ℕ} → 0 < k → r ≡ entry b i → Led b (rowDid b r p x) x l m o s y
-      → Going b bound f c whole log₀ out₀ (i + 1) (k - 1) (p + 1) y m s
-  going-on {r} h d w =
+  pub going-on : {r : ℕ} {y : Received} {m s : List ℕ} → 0 < k → r ≡ entry b i → Brought b (rowDid b r p x) x l m o s y
+      → Going b bound d whole log₀ out₀ (i + 1) (k - 1) (p + 1) y m s
+  going-on {r} h e brought =
+      let w = brought .led in
       record {
         span = span-tail b bound i k (g .span) h;
         low = let u = w .goes in let v = g .low in omega arith;
-        fits = tail-fits b i k p r x h d w (g .fits);
-        rest = λ m′ s′ z u. g .rest m′ s′ z (tail-led b i k p r x h d w u);
+        size = brought .size;
+        fits = tail-fits b i k p r x h e w (g .fits);
+        rest = λ m′ s′ z u. g .rest m′ s′ z (tail-led b i k p r x h e w u);
         logs = wrote-length (w .keeps) ∙ g .logs;
         outs = wrote-length (w .wrote) ∙ g .outs;
       }
 
+  -- ---- the rest is received at once
+  pub going-ready : {ps : List ℕ} → Valid b → Partners b ps → bound ≤ rows b → RestReady b ps bound i k p x
+  going-ready v ps h =
+      record { valid = v; partners = ps; bounded = h; span = g .span; low = g .low; size = g .size; fits = g .fits }
+
+  pub going-rest : {m s : List ℕ} {y : Received} → Brought b (restDid b i k p x) x l m o s y → Brought b d whole log₀ m out₀ s y
+  going-rest w = record { led = g .rest _ _ _ (w .led); size = w .size }
+
   -- ---- at the end nothing is left
-  pub going-end : k ≤ 0 → Led b (listDid b f c whole) whole log₀ l out₀ o x
-  going-end z = g .rest l o x (doing-as doing-none (all-none b i k p (view b (x .dictionary .entries)) (x .dictionary .next) z))
+  pub going-end : k ≤ 0 → Brought b d whole log₀ l out₀ o x
+  going-end z =
+      record {
+        led = g .rest l o x (doing-as doing-none (all-none b i k p (view b (x .dictionary .entries)) (x .dictionary .next) z));
+        size = g .size;
+      }
+
+  -- ---- and as a part of another doing
+  pub going-within : {e : Did} {from : Received} {log out : List ℕ} → length log₀ ≡ length log → length out₀ ≡ length out
+      → ((m s : List ℕ) (y : Received) → Led b d whole log₀ m out₀ s y → Led b e from log m out s y)
+      → Going b bound e from log out i k p x l o
+  going-within a c f =
+      record {
+        span = g .span;
+        low = g .low;
+        size = g .size;
+        fits = g .fits;
+        rest = λ m s y w. f m s y (g .rest m s y w);
+        logs = g .logs ∙ a;
+        outs = g .outs ∙ c;
+      }
+
+-- ---- a doing that is done, with nothing left
+followed-nothing : (d : Did) → followed d (nothing (d .dictionary)) ≡ d
+followed-nothing d = rw (append-nil (d .given), append-nil (d .events), append-nil (d .stored))
+
+pub going-none : {b : List ℕ} {bound p : ℕ} {d : Did} {x y : Received} {l m o s : List ℕ} → Brought b d x l m o s y
+    → x .dictionary .next + length (d .given) ≤ 2147483648 → p ≤ y .dictionary .next → Going b bound d x l o 0 0 p y m s
+going-none {b} {bound} {p} {d} {x} {y} {l} {m} {o} {s} w h q =
+    let u = w .led in
+    let none = all-none b 0 0 p (view b (y .dictionary .entries)) (y .dictionary .next) (omega arith) in
+    let g = u .goes in
+    record {
+      span = record { inside = omega arith; below = rw (list-none b 0 0 (omega arith)) tt; few = omega arith };
+      low = omega arith;
+      size = w .size;
+      fits = (let z = ap (λ (e : Did). length (e .given)) none in omega arith);
+      rest = λ m′ s′ z v.
+          doing-as (doing-then b d (nothing (view b (y .dictionary .entries))) u (doing-as v (sym none)))
+          (sym (followed-nothing d) ∙ ap (λ δ. followed d (nothing δ)) (sym (u .holds)));
+      logs = wrote-length (u .keeps);
+      outs = wrote-length (u .wrote);
+    }

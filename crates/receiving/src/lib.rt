@@ -1,4 +1,4 @@
-// Figure 3's R: what a party does with the terms that arrive at its placeholders. `receive` and `receive_messages` write the
+// Figure 3's R, opening first: what a party does with the terms that arrive at its placeholders. `receive_messages` and `receive` write the
 // CHECKs and OPENs, put each stored pair behind the last in the log, and give back the dictionary afterwards. All of it is the
 // meaning's own (translation/specs/Receive.antt), for a valid book and the table of its partners.
 use book::ByRow;
@@ -27,7 +27,7 @@ ghost use Rattle.translation.specs.Listing.{programWords};
 ghost use Rattle.holding.specs.Partners.{Partners};
 ghost use Rattle.holding.specs.View.{rowOf, view};
 ghost use Rattle.receiving.specs.Turn.{unlocked};
-ghost use Rattle.receiving.specs.Receiving.{rowDid, listDid, SettleReady, RowReady, ListReady, Led, Settling};
+ghost use Rattle.receiving.specs.Receiving.{standing, rowDid, listDid, restDid, SettleReady, RowReady, RestReady, ListReady, Brought, Going};
 
 // What a party holds, an entry for each row; its next placeholder; the place of its next stored pair in the log.
 pub struct Dictionary {
@@ -42,10 +42,25 @@ pub struct Received {
     pub at: usize,
 }
 
-// A settled row's contents that are still to be received, and the places behind what was stored and written.
-struct Settled {
+// How far it got, beside the entries: the next placeholder, and the places of the next stored pair and of the next word.
+pub struct Reached {
+    pub next: u32,
+    pub kept: usize,
+    pub at: usize,
+}
+
+// What is left of a list, and how far it got: where its rows stand in the pool and how many they are, and the placeholder of the first.
+struct Begun {
+    next: u32,
     first: usize,
     left: usize,
+    place: u32,
+    kept: usize,
+    at: usize,
+}
+
+// The places behind what was stored and written.
+struct Settled {
     kept: usize,
     at: usize,
 }
@@ -109,8 +124,84 @@ fn put_open(
     write_partner(book, partners, entries, first_part(book, row), out, last)
 }
 
-// The first rule that fits: open, compare or store.
+// A row that can't be opened: it is compared if it is buildable, and else stored. In the entries, with nothing handed on.
 fn settle(
+    book: &[u32],
+    entries: &mut ByRow,
+    next: u32,
+    kept: usize,
+    row: u32,
+    place: u32,
+    log: &mut [u32],
+    out: &mut [u32],
+    at: usize,
+) -> Settled
+    requires { ⌜ SettleReady (now book) row place (standing (now entries) next kept at) ⌝ }
+    ensures { λ r. ⌜ Brought (now (book .entry)) (rowDid (now (book .entry)) row place (standing (now (entries .entry)) next kept at)) (standing (now (entries .entry)) next kept at) (now (log .entry)) (now (log .exit)) (now (out .entry)) (now (out .exit)) (standing (now (entries .exit)) next (r .kept) (r .at)) ⌝ }
+{
+    if buildable(book, entries, row) {
+        let last = put_check(book, entries, row, place, out, at);
+        return Settled { kept, at: last };
+    }
+    entries[wide(row)] = place + 2;
+    let last = put2(log, kept, row, place);
+    Settled { kept: last, at }
+}
+
+// The rows of a list, below a bound, up to the first that opens: settled one after another, in the entries.
+fn settle_run(
+    book: &[u32],
+    partners: &ByRow,
+    entries: &mut ByRow,
+    next: u32,
+    kept: usize,
+    bound: u32,
+    first: usize,
+    left: usize,
+    from: u32,
+    log: &mut [u32],
+    out: &mut [u32],
+    at: usize,
+) -> Begun
+    requires { ⌜ RestReady (now book) (now partners) bound first left from (standing (now entries) next kept at) ⌝ }
+    ensures { λ r. ⌜ Going (now (book .entry)) bound (restDid (now (book .entry)) first left from (standing (now (entries .entry)) next kept at)) (standing (now (entries .entry)) next kept at) (now (log .entry)) (now (out .entry)) (r .first) (r .left) (r .place) (standing (now (entries .exit)) (r .next) (r .kept) (r .at)) (now (log .exit)) (now (out .exit)) ⌝ }
+{
+    let mut stored = kept;
+    let mut last = at;
+    let mut place = from;
+    let mut i = first;
+    let mut k = left;
+    while 0 < k {
+        let row = entry(book, i, k, bound);
+        if opens(book, partners, entries, row) {
+            return Begun {
+                next,
+                first: i,
+                left: k,
+                place,
+                kept: stored,
+                at: last,
+            };
+        }
+        let settled = settle(book, entries, next, stored, row, place, log, out, last);
+        stored = settled.kept;
+        last = settled.at;
+        place += 1;
+        i += 1;
+        k -= 1;
+    }
+    Begun {
+        next,
+        first: i,
+        left: k,
+        place,
+        kept: stored,
+        at: last,
+    }
+}
+
+// A row is begun, in the entries: opened, with its contents up to the first that opens; or settled, and nothing is left.
+fn begin(
     book: &[u32],
     partners: &ByRow,
     entries: &mut ByRow,
@@ -121,37 +212,37 @@ fn settle(
     log: &mut [u32],
     out: &mut [u32],
     at: usize,
-) -> Settled
-    requires { ⌜ SettleReady (now book) (now partners) row place (now entries) ⌝ }
-    ensures { λ r. ⌜ Settling (now (book .entry)) row place next kept (now (entries .entry)) (now (entries .exit)) (now (log .entry)) (now (log .exit)) at (now (out .entry)) (now (out .exit)) r ⌝ }
+) -> Begun
+    requires { ⌜ RowReady (now book) (now partners) row place (standing (now entries) next kept at) ⌝ }
+    ensures { λ r. ⌜ Going (now (book .entry)) row (rowDid (now (book .entry)) row place (standing (now (entries .entry)) next kept at)) (standing (now (entries .entry)) next kept at) (now (log .entry)) (now (out .entry)) (r .first) (r .left) (r .place) (standing (now (entries .exit)) (r .next) (r .kept) (r .at)) (now (log .exit)) (now (out .exit)) ⌝ }
 {
     if opens(book, partners, entries, row) {
         let last = put_open(book, partners, entries, row, place, next, out, at);
         let first = row_first(book, row) + 1;
         let left = row_count(book, row) - 1;
-        return Settled {
+        return settle_run(
+            book,
+            partners,
+            entries,
+            next + narrow(left),
+            kept,
+            row,
             first,
             left,
-            kept,
-            at: last,
-        };
+            next,
+            log,
+            out,
+            last,
+        );
     }
-    if buildable(book, entries, row) {
-        let last = put_check(book, entries, row, place, out, at);
-        return Settled {
-            first: 0,
-            left: 0,
-            kept,
-            at: last,
-        };
-    }
-    entries[wide(row)] = place + 2;
-    let last = put2(log, kept, row, place);
-    Settled {
+    let settled = settle(book, entries, next, kept, row, place, log, out, at);
+    Begun {
+        next,
         first: 0,
         left: 0,
-        kept: last,
-        at,
+        place: next,
+        kept: settled.kept,
+        at: settled.at,
     }
 }
 
@@ -167,13 +258,13 @@ pub fn receive(
     out: &mut [u32],
 ) -> Received
     requires { ⌜ RowReady (now book) (now partners) row place before ⌝ }
-    ensures { λ r. ⌜ Led (now (book .entry)) (rowDid (now (book .entry)) row place before) before (now (log .entry)) (now (log .exit)) (now (out .entry)) (now (out .exit)) r ⌝ }
+    ensures { λ r. ⌜ Brought (now (book .entry)) (rowDid (now (book .entry)) row place before) before (now (log .entry)) (now (log .exit)) (now (out .entry)) (now (out .exit)) r ⌝ }
 {
     let mut here = before;
     let next = here.dictionary.next;
     let kept = here.dictionary.kept;
     let at = here.at;
-    let s = settle(
+    let begun = begin(
         book,
         partners,
         &mut here.dictionary.entries,
@@ -185,12 +276,24 @@ pub fn receive(
         out,
         at,
     );
-    here.dictionary.kept = s.kept;
-    here.at = s.at;
-    receive_list(book, partners, here, row, s.first, s.left, log, out)
+    here.dictionary.next = begun.next;
+    here.dictionary.kept = begun.kept;
+    here.at = begun.at;
+    receive_list(
+        book,
+        partners,
+        here,
+        row,
+        begun.first,
+        begun.left,
+        begun.place,
+        log,
+        out,
+    )
 }
 
-// The rows of a list, below a bound, get the next placeholders and are received in turn.
+// The rows of a list, below a bound, are received in turn, at the placeholders from `from` on. The dictionary is not lent here, so that
+// one is enough for a level.
 fn receive_list(
     book: &[u32],
     partners: &ByRow,
@@ -198,15 +301,14 @@ fn receive_list(
     bound: u32,
     first: usize,
     left: usize,
+    from: u32,
     log: &mut [u32],
     out: &mut [u32],
 ) -> Received
-    requires { ⌜ ListReady (now book) (now partners) bound first left here ⌝ }
-    ensures { λ r. ⌜ Led (now (book .entry)) (listDid (now (book .entry)) first left here) here (now (log .entry)) (now (log .exit)) (now (out .entry)) (now (out .exit)) r ⌝ }
+    requires { ⌜ RestReady (now book) (now partners) bound first left from here ⌝ }
+    ensures { λ r. ⌜ Brought (now (book .entry)) (restDid (now (book .entry)) first left from here) here (now (log .entry)) (now (log .exit)) (now (out .entry)) (now (out .exit)) r ⌝ }
 {
-    let mut place = here.dictionary.next;
-    let next = place + narrow(left);
-    here.dictionary.next = next;
+    let mut place = from;
     let mut i = first;
     let mut k = left;
     while 0 < k {
@@ -226,39 +328,72 @@ fn receive_list(
     here
 }
 
-// The same for a step's messages. A loop of its own, so that `receive_list` has one caller and becomes one with it: a level of opened
-// ciphers then takes one frame with one dictionary.
+// The same for a step's messages, in the party's entries: the dictionary is handed on only to open. A loop of its own, so that
+// `receive_list` has one caller and becomes one with it: a level of opened ciphers then takes one frame with one dictionary.
 pub fn receive_messages(
     book: &[u32],
     partners: &ByRow,
-    mut here: Received,
+    entries: &mut ByRow,
+    next: u32,
+    kept: usize,
     bound: u32,
     first: usize,
     left: usize,
     log: &mut [u32],
     out: &mut [u32],
-) -> Received
-    requires { ⌜ ListReady (now book) (now partners) bound first left here ⌝ }
-    ensures { λ r. ⌜ Led (now (book .entry)) (listDid (now (book .entry)) first left here) here (now (log .entry)) (now (log .exit)) (now (out .entry)) (now (out .exit)) r ⌝ }
+    at: usize,
+) -> Reached
+    requires { ⌜ ListReady (now book) (now partners) bound first left (standing (now entries) next kept at) ⌝ }
+    ensures { λ r. ⌜ Brought (now (book .entry)) (listDid (now (book .entry)) first left (standing (now (entries .entry)) next kept at)) (standing (now (entries .entry)) next kept at) (now (log .entry)) (now (log .exit)) (now (out .entry)) (now (out .exit)) (standing (now (entries .exit)) (r .next) (r .kept) (r .at)) ⌝ }
 {
-    let mut place = here.dictionary.next;
-    let next = place + narrow(left);
-    here.dictionary.next = next;
+    let mut place = next;
+    let mut reached = Reached {
+        next: next + narrow(left),
+        kept,
+        at,
+    };
     let mut i = first;
     let mut k = left;
     while 0 < k {
-        here = receive(
-            book,
-            partners,
-            here,
-            entry(book, i, k, bound),
-            place,
-            log,
-            out,
-        );
+        let row = entry(book, i, k, bound);
+        if opens(book, partners, entries, row) {
+            let held = *entries;
+            let dictionary = Dictionary {
+                entries: held,
+                next: reached.next,
+                kept: reached.kept,
+            };
+            let here = Received {
+                dictionary,
+                at: reached.at,
+            };
+            let there = receive(book, partners, here, row, place, log, out);
+            let after = there.dictionary;
+            let holds = after.entries;
+            *entries = holds;
+            reached = Reached {
+                next: after.next,
+                kept: after.kept,
+                at: there.at,
+            };
+        } else {
+            let settled = settle(
+                book,
+                entries,
+                reached.next,
+                reached.kept,
+                row,
+                place,
+                log,
+                out,
+                reached.at,
+            );
+            reached.kept = settled.kept;
+            reached.at = settled.at;
+        }
         place += 1;
         i += 1;
         k -= 1;
     }
-    here
+    reached
 }

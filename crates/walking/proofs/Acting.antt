@@ -28,9 +28,9 @@ use Rattle.sending.specs.Sending.{Sends}
 use Rattle.sending.specs.declared.Made.{Made}
 use Rattle.receiving.specs.declared.Received.{Received}
 use Rattle.receiving.specs.Turn.{inTurn}
-use Rattle.receiving.specs.Receiving.{listDid, ListReady, Led}
+use Rattle.receiving.specs.Receiving.{standing, listDid, ListReady, Led, Brought}
 use Rattle.walking.specs.Found.{foundAt}
-use Rattle.walking.specs.Walking.{standing, actDid, ActReady, Acting}
+use Rattle.walking.specs.Walking.{actDid, ActReady, Acting}
 
 -- ---- the party sends the step
 pub acts-send : {b l : List ℕ} {p s : ℕ} {x : Received} {f n z : ℕ} {e out outAfter log : List ℕ} {m : Made}
@@ -73,10 +73,6 @@ module _ (b : List ℕ) (p s : ℕ) {f n z y : ℕ} (df : f ≡ stepFirst b s) (
       step-receives b p s (view b (x .dictionary .entries)) (x .dictionary .next) (λ q. e (dz ∙ q)) (sym dy ∙ h)
       ∙ rw (messages-at b s f n df dn, many)
 
-  turns-none : (x : Received) → n ≡ 0 → listDid b f n x ≡ nothing (view b (x .dictionary .entries))
-  unfolding inTurn terms run gathered listed receiveAll count
-  turns-none x o = ap (λ m. listDid b f m x) o
-
 module _ {b : List ℕ} {p s : ℕ} {x : Received} {f n z y : ℕ} where
   -- the messages hand out what the step does, and that fits
   pub step-ready : {ps : List ℕ} {d a : ℕ} → ActReady b ps p s x → d ≡ rows b → f ≡ stepFirst b s → n ≡ stepCount b s
@@ -86,32 +82,25 @@ module _ {b : List ℕ} {p s : ℕ} {x : Received} {f n z y : ℕ} where
         valid = ready .valid;
         partners = ready .partners;
         bounded = omega arith;
+        size = ready .size;
         span = rw dd (span-step b (ready .valid) f n s (ready .step) df dn);
         fits = let fits = ready .fits in let same = ap (λ (g : Did). length (g .given)) (step-turns b p s df dn dz e dy h x) in omega arith;
       }
 
   pub acts-receive : {l log logAfter out middle outAfter : List ℕ} {a c : ℕ} {r : Received}
-      → length (r .dictionary .entries) ≡ 1024
       → f ≡ stepFirst b s → n ≡ stepCount b s → z ≡ sender b s → (z ≡ p → ⊥) → y ≡ receiver b s → y ≡ p → c ≡ n
       → Wrote (3 ∷ s ∷ x .dictionary .next ∷ c ∷ []) out (x .at) middle a
-      → Led b (listDid b f n x) (record { dictionary = x .dictionary; at = a }) log logAfter middle outAfter r
+      → Brought b (listDid b f n x) (record { dictionary = x .dictionary; at = a }) log logAfter middle outAfter r
       → Acting b l p s x log logAfter out outAfter r 0
   unfolding pairWords programWords eventWords foundAt
-  acts-receive {log = log} {out = out} {middle = middle} {a = a} size df dn dz e dy h dc w t =
+  acts-receive {log = log} {out = out} {middle = middle} {a = a} df dn dz e dy h dc w t =
       let head : Led b (announced b s n x) x log log out middle (record { dictionary = x .dictionary; at = a }) =
       record { holds = refl; goes = sym (add-zero _); wrote = wrote-as w (rw dc); keeps = wrote-none } in
       record {
-        doing = doing-as (doing-then b _ _ head t) (step-turns b p s df dn dz e dy h x);
+        doing = doing-as (doing-then b _ _ head (t .led)) (step-turns b p s df dn dz e dy h x);
         found = sym (pick-false _ _ _ (ne-eqb (sender b s) p (λ q. e (dz ∙ q))));
-        size = size;
+        size = t .size;
       }
-
-  -- with no messages RECEIVE is all
-  pub acts-empty : {l log out middle : List ℕ} {a c : ℕ} → length (x .dictionary .entries) ≡ 1024
-      → f ≡ stepFirst b s → n ≡ stepCount b s → z ≡ sender b s → (z ≡ p → ⊥) → y ≡ receiver b s → y ≡ p → c ≡ n → n ≡ 0
-      → Wrote (3 ∷ s ∷ x .dictionary .next ∷ c ∷ []) out (x .at) middle a
-      → Acting b l p s x log log out middle (record { dictionary = x .dictionary; at = a }) 0
-  acts-empty size df dn dz e dy h dc o w = acts-receive size df dn dz e dy h dc w (doing-as doing-none (turns-none b p s df dn dz e dy h x o))
 
 -- ---- it has no part in the step
 pub acts-idle : {b l : List ℕ} {p s : ℕ} {x : Received} {z y : ℕ} {log out : List ℕ} → length (x .dictionary .entries) ≡ 1024

@@ -13,10 +13,11 @@ use Rattle.translation.specs.Steps.{before}
 use Rattle.translation.specs.Long.Laws.{pairs-length, part-length}
 use Rattle.holding.specs.View.{rowOf}
 use Rattle.receiving.specs.declared.Received.{Received}
+use Rattle.receiving.specs.Receiving.{standing}
 use Rattle.walking.specs.declared.Passed.{Passed}
 use Rattle.walking.specs.Walk.{Unrefused}
 use Rattle.walking.specs.Found.Laws.{found-unrefused}
-use Rattle.walking.specs.Walking.{standing, Along, Walking}
+use Rattle.walking.specs.Walking.{Along, Walking}
 use Rattle.walking.specs.Walking.Laws.{part-words}
 use Rattle.walking.proofs.Lengths.{ends-at, ends-kept, few-pairs}
 

@@ -12,14 +12,10 @@ use Rattle.holding.specs.Partners.{Partners}
 use Rattle.holding.specs.Doing.{Doing}
 use Rattle.claims.specs.Claims.{Claims}
 use Rattle.receiving.specs.declared.Received.{Received}
-use Rattle.receiving.specs.Receiving.{Fits, Led}
+use Rattle.receiving.specs.Receiving.{standing, Fits, Led}
 use Rattle.walking.specs.declared.Passed.{Passed}
 use Rattle.walking.specs.Found.{foundAt, FoundBefore}
 pub mod Laws
-
--- a party that holds the entries e: n is its next placeholder, k and a are the places of its next stored pair and its next word
-abbrev pub standing : List ℕ → ℕ → ℕ → ℕ → Received
-standing e n k a = record { dictionary = record { entries = e; next = n; kept = k }; at = a }
 
 -- ---- one step
 -- what party p does in step s, from x on

@@ -11,7 +11,6 @@ use book::step_sender;
 use book::steps;
 use holding::start;
 use receiving::Dictionary;
-use receiving::Received;
 use receiving::receive_messages;
 use sending::send;
 use words::narrow;
@@ -30,7 +29,8 @@ ghost use Rattle.claims.specs.Claims.{Claims};
 ghost use Rattle.walking.specs.Walk.{Unrefused, IdleUntil};
 ghost use Rattle.walking.specs.Found.{FoundBefore};
 ghost use Rattle.translation.specs.Long.{mostPart};
-ghost use Rattle.walking.specs.Walking.{standing, ActReady, Acting, WalkReady, Walking};
+ghost use Rattle.receiving.specs.Receiving.{standing};
+ghost use Rattle.walking.specs.Walking.{ActReady, Acting, WalkReady, Walking};
 
 // What a step left: the next placeholder, the places of the next stored pair and of the next word, and one more than the first taken
 // atom that the party would make there (0 if there is none).
@@ -50,7 +50,7 @@ pub struct Passed {
     pub taken: u32,
 }
 
-// A party's part in one step, in its entries. Only where messages are received is the dictionary handed on.
+// A party's part in one step, in its entries.
 pub fn act(
     book: &[u32],
     since: &ByRow,
@@ -80,39 +80,22 @@ pub fn act(
     }
     if step_receiver(book, step) == party {
         let last = put4(out, at, Code::RECEIVE, step, next, narrow(n));
-        if n == 0 {
-            return Acted {
-                next,
-                kept,
-                at: last,
-                taken: 0,
-            };
-        }
-        let held = *entries;
-        let dictionary = Dictionary {
-            entries: held,
-            next,
-            kept,
-        };
         let there = receive_messages(
             book,
             partners,
-            Received {
-                dictionary,
-                at: last,
-            },
+            entries,
+            next,
+            kept,
             rows(book),
             first,
             n,
             log,
             out,
+            last,
         );
-        let after = there.dictionary;
-        let holds = after.entries;
-        *entries = holds;
         return Acted {
-            next: after.next,
-            kept: after.kept,
+            next: there.next,
+            kept: there.kept,
             at: there.at,
             taken: 0,
         };

@@ -1,11 +1,17 @@
 -- `placing::take_step` meets its contract: each placeholder handed out is compared, opened or stored, so that the
 -- events are RECEIVE and the placeholders less what is stored. Assumes nothing.
+use mathlib.Core.Path.{_≡_}
 use native.Mathlib.Omega.{arith}
+use lib.ListN.{length}
 use borrow.Author.Needs.{needs}
 use Rattle.book.specs.Headed.Laws.{valid-headed}
 use Rattle.placing.proofs.Took.{Took, took-ready, took, took-counts}
 use Rattle.placing.proofs.take_step.Statement.{statement}
 use Rattle.placing.proofs.take_step.Tie as tie
+
+-- what a party holds has an entry for each row
+long : (c : tie.Start) → length (c .args .from .dictionary .entries) ≡ 1024
+long c = search needs
 
 receive-messages-requires : tie.Need-receive-messages-requires
 receive-messages-requires c κs =
@@ -15,7 +21,7 @@ receive-messages-requires c κs =
     let start : tie.Start = search in
     let (ready, partners) = start .pre in
     took-ready ready (after-step-first .step-first .ensures .0) (after-step-count .step-count .ensures .0) partners
-    (after-rows .rows .ensures)
+    (long start) (after-rows .rows .ensures)
 
 -- what the messages took, wherever they have been received
 module _ (c : tie.After-receive-messages) where
@@ -29,7 +35,7 @@ module _ (c : tie.After-receive-messages) where
   count = search
 
   taken : Took (start .args .book .now) (start .args .from) (first .step-first .result) (count .step-count .result)
-      (c .receive-messages .result)
+      (c .receive-messages .result .next) (c .receive-messages .result .kept)
   taken =
       took (start .pre .0) (first .step-first .ensures .0) (count .step-count .ensures .0) (c .receive-messages .ensures)
 
@@ -61,7 +67,7 @@ take-step-spec =
     (λ c. omega (arith, taken (search)))  -- sub-given
     (λ c. omega (arith, taken (search)))  -- sub-narrow
     (λ c κs. omega (arith, taken (search)))  -- narrow-requires
-    (λ c. omega (arith, taken (search)))  -- add-t12
-    (λ c. omega (arith, taken (search)))  -- add-t25
-    (λ c. omega (arith, taken (search)))  -- sub-t26
+    (λ c. omega (arith, taken (search)))  -- add-here
+    (λ c. omega (arith, taken (search)))  -- add-here-2
+    (λ c. omega (arith, taken (search)))  -- sub-here
     returns)

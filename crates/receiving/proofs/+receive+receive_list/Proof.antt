@@ -1,16 +1,15 @@
--- `receiving::receive` and `receiving::receive_list` meet their contracts: a row is settled and its contents follow; in
--- the loop, whatever ends the rest ends the whole. Assumes nothing.
+-- `receiving::receive` and `receiving::receive_list` meet their contracts: a row is begun and what it leaves follows;
+-- in the loop, whatever ends the rest ends the whole. Assumes nothing.
 use Prim.Native.Nat.{ℕ, _*_, _+_, _<_}
 use native.Mathlib.Omega.{arith}
 use borrow.Author.Needs.{needs}
 use borrow.Fn.Kinds.{In, Out}
 use borrow.Fn.PlainCycle.{Measures, is, falls, and}
-use Rattle.words.proofs.narrow.Reads as narrow-reads
 use Rattle.book.proofs.entry.Reads as entry-reads
 use Rattle.book.specs.Headed.Laws.{small-pool}
-use Rattle.receiving.proofs.Settling.{turn-fits, turn-led}
-use Rattle.receiving.proofs.Going.{withNext, Going, going-start, going-fits, going-on, going-end}
-use Rattle.receiving.proofs.settle.Reads as settle-reads
+use Rattle.receiving.specs.Receiving.{restDid, Going}
+use Rattle.receiving.proofs.Going.{going-all, going-fits, going-on, going-ready, going-rest, going-end}
+use Rattle.receiving.proofs.begin.Reads as begin-reads
 use Rattle.receiving.proofs.receive.Reads as receive
 use Rattle.receiving.proofs.receive.Kinds as receive-kinds
 use Rattle.receiving.proofs.+receive+receive_list.Lts-receive as receive-lts
@@ -47,24 +46,27 @@ receive-list-below t =
 -- ---- `receive`
 abbrev receive-calls : ℕ → receive-lts.Claims
 receive-calls t = (
-  settle-reads.Asked,
-  settle-reads.Learnt,
+  begin-reads.Asked,
+  begin-reads.Learnt,
   receive-list-below t,
   receive-list.Post,
 )
 
+-- a place or a need of `receive`, by its name
+abbrev in-receive : (receive-lts.Claims → In 4 receive-kinds.ps → Out 4 receive-kinds.ps receive-kinds.r → Type 0) → ℕ
+    → Type 0
+in-receive P t = P (receive-calls t) (receive-at t) receive.Post
+
 -- ---- `receive_list`
 abbrev receive-list-Inv-loop : receive-list-lts.InvT-loop
-receive-list-Inv-loop book partners here₀ bound first left log₀ out₀ place₀ next i₀ k₀ here log out place i k =
-    Going book bound first left (withNext place₀ here₀) log₀ out₀ i k place here log out
+receive-list-Inv-loop book partners here₀ bound first left from log₀ out₀ place₀ i₀ k₀ here log out place i k =
+    Going book bound (restDid book first left from here₀) here₀ log₀ out₀ i k place here log out
 
 abbrev receive-list-μ-loop : receive-list-lts.MeasureT-loop
-receive-list-μ-loop book partners here₀ bound first left log₀ out₀ place₀ next i₀ k₀ here log out place i k = k
+receive-list-μ-loop book partners here₀ bound first left from log₀ out₀ place₀ i₀ k₀ here log out place i k = k
 
 abbrev receive-list-calls : ℕ → receive-list-lts.Claims
 receive-list-calls t = (
-  narrow-reads.Asked,
-  narrow-reads.Learnt,
   entry-reads.Asked,
   entry-reads.Learnt,
   receive-below t,
@@ -78,13 +80,35 @@ abbrev in-receive-list : (receive-list-lts.Claims → In 4 receive-list-kinds.ps
 in-receive-list P t =
     P (receive-list-calls t) (receive-list-at t) receive-list.Post receive-list-Inv-loop receive-list-μ-loop
 
--- the list's placeholders are handed out, and no row is received yet
+-- no row is received yet
 receive-list-loop-holds : (t : ℕ) → in-receive-list receive-list-lts.Need-loop-holds t
 receive-list-loop-holds t c =
-    let after-narrow : in-receive-list receive-list-lts.After-narrow t = search in
     let start : in-receive-list receive-list-lts.Start t = search in
     let (measured, ready) = start .pre in
-    going-start ready (after-narrow .narrow .ensures) (search needs)
+    going-all ready
+
+-- the next row, at its placeholder
+receive-list-receive-requires : (t : ℕ) → in-receive-list receive-list-lts.Need-receive-requires t
+receive-list-receive-requires t c κs =
+    let after-entry : in-receive-list receive-list-lts.After-entry t = search in
+    let in-loop : in-receive-list receive-list-lts.In-loop t = search in
+    let at-loop : in-receive-list receive-list-lts.At-loop t = search in
+    let start : in-receive-list receive-list-lts.Start t = search in
+    let (measured, ready) = start .pre in
+    let bounded = ready .bounded in
+    let below = after-entry .entry .ensures .1 in
+    let low = at-loop .loop .inv .low in
+    let fits = at-loop .loop .inv .fits in (
+      omega arith,
+      record {
+        valid = ready .valid;
+        partners = ready .partners;
+        row = omega arith;
+        low = omega arith;
+        size = at-loop .loop .inv .size;
+        fits = going-fits (at-loop .loop .inv) _ (in-loop .loop-test .taken) (after-entry .entry .ensures .0);
+      },
+    )
 
 -- one row more is received at its placeholder
 receive-list-loop-again : (t : ℕ) → in-receive-list receive-list-lts.Need-loop-again t
@@ -103,27 +127,42 @@ receive-list-returns t c =
     let after-loop : in-receive-list receive-list-lts.After-loop t = search in
     going-end (at-loop .loop .inv) (after-loop .loop-test .left)
 
+-- ---- `receive`: what is begun is gone on with
+receive-receive-list-requires : (t : ℕ) → in-receive receive-lts.Need-receive-list-requires t
+receive-receive-list-requires t c κs =
+    let after-begin : in-receive receive-lts.After-begin t = search in
+    let start : in-receive receive-lts.Start t = search in
+    let (measured, ready) = start .pre in
+    let row = ready .row in
+    let going = after-begin .begin .ensures in
+    let few = going .span .few in
+    (omega arith, going-ready going (ready .valid) (ready .partners) (omega arith))
+
+receive-returns : (t : ℕ) → in-receive receive-lts.Need-returns t
+receive-returns t c =
+    let after-receive-list : in-receive receive-lts.After-receive-list t = search in
+    let after-begin : in-receive receive-lts.After-begin t = search in
+    going-rest (after-begin .begin .ensures) (after-receive-list .receive-list .ensures)
+
 pub +receive+receive-list-spec : {M : Type 1} → statement M
 +receive+receive-list-spec = close μ-receive μ-receive-list (λ t. receive-lts.spec
     (receive-calls t)
     (receive-at t)
     receive.Post
-    (λ c κs. search needs)  -- receive-settle-requires
-    (λ c κs. (omega arith, search (turn-fits, needs)))  -- receive-receive-list-requires
+    (λ c κs. search needs)  -- receive-begin-requires
+    (receive-receive-list-requires t)
     (λ c. search needs)  -- receive-same-length
     (λ c. search needs)  -- receive-same-length-2
-    (λ c. search turn-led))  -- receive-returns
+    (receive-returns t))
     λ t. receive-list-lts.spec
     (receive-list-calls t)
     (receive-list-at t)
     receive-list.Post
     receive-list-Inv-loop
     receive-list-μ-loop
-    (λ c κs. omega arith)  -- receive-list-narrow-requires
-    (λ c. search needs)  -- receive-list-add-next
     (receive-list-loop-holds t)
     (λ c κs. search needs)  -- receive-list-entry-requires
-    (λ c κs. (omega arith, search (going-fits, needs)))  -- receive-list-receive-requires
+    (receive-list-receive-requires t)
     (λ c. search needs)  -- receive-list-add-place
     (λ c. omega (arith, small-pool))  -- receive-list-add-i
     (λ c. search needs)  -- receive-list-sub-k

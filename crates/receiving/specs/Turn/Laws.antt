@@ -2,7 +2,7 @@
 use Prim.Native.Nat.{ℕ, suc, _+_, _-_, _≤_, _<_}
 use mathlib.Core.Bool.{true, false, false≢true}
 use mathlib.Core.List.{List, [], map}
-use mathlib.Core.Path.{_≡_, refl, sym, _∙_}
+use mathlib.Core.Path.{_≡_, refl, sym, ap, _∙_}
 use native.Mathlib.Omega.{arith}
 use lib.ListN.{length, length-map}
 use Rattle.words.specs.Run.Laws.{run-length}
@@ -18,51 +18,32 @@ use Rattle.translation.specs.Receive.{nothing, followed, Rule, canOpen, rule, b
 use Rattle.translation.specs.Receive.Laws.{rule-compare, rule-unlock, rule-store, opening, receive-rule}
 use Rattle.book.specs.Span.{entry}
 use Rattle.book.specs.Span.Laws.{list-none, list-more, some-part}
-use Rattle.receiving.specs.Turn.{inTurn, unlocked, settled, contentsOf, freed, nextTerms}
+use Rattle.receiving.specs.Turn.{inTurn, unlocked, contentsOf}
 
--- ---- receive: settled, then the contents in turn
-by-turn : (r : Rule) (t : Term) (p : ℕ) (δ : Dictionary) (n : ℕ)
-    → byRule r (compared t p δ) (opening t p δ n) (kept t p δ)
-    ≡ (let d = byRule r (compared t p δ) (unlocked t p δ n) (kept t p δ) in followed d (inTurn (freed r t) (d .dictionary) n))
-unfolding byRule opening unlocked inTurn freed contentsOf receive listed
-by-turn Rule.compare t p δ n = refl
-by-turn Rule.store t p δ n = refl
-by-turn Rule.unlock (Term.atom r) p δ n = refl
-by-turn Rule.unlock (Term.operation g ts) p δ n = refl
-by-turn Rule.unlock (Term.cipher k ts) p δ n = refl
-by-turn Rule.unlock (Term.public t) p δ n = refl
-by-turn Rule.unlock (Term.private t) p δ n = refl
+-- ---- receive, by the rule: opened, and then the contents in turn; compared; kept
+by-turn : (t : Term) (p : ℕ) (δ : Dictionary) (n : ℕ) → opening t p δ n ≡ followed (unlocked t p δ n) (inTurn (contentsOf t) δ n)
+unfolding opening unlocked inTurn contentsOf receive listed
+by-turn (Term.atom r) p δ n = refl
+by-turn (Term.operation g ts) p δ n = refl
+by-turn (Term.cipher k ts) p δ n = refl
+by-turn (Term.public t) p δ n = refl
+by-turn (Term.private t) p δ n = refl
 
-pub receive-turn : (t : Term) (p : ℕ) (δ : Dictionary) (n : ℕ)
-    → receive t p δ n ≡ followed (settled t p δ n) (inTurn (nextTerms δ t) (settled t p δ n .dictionary) n)
-unfolding settled nextTerms
-receive-turn t p δ n = receive-rule t p δ n ∙ by-turn (rule δ t) t p δ n
-
--- ---- settled and contents, by the rule
 module _ (t : Term) (p : ℕ) (δ : Dictionary) (n : ℕ) where
-  pub settled-unlock : canOpen δ t ≡ true → settled t p δ n ≡ unlocked t p δ n
-  unfolding settled byRule
-  settled-unlock e = rw (rule-unlock δ t e)
+  by : (r : Rule) → rule δ t ≡ r → receive t p δ n ≡ byRule r (compared t p δ) (opening t p δ n) (kept t p δ)
+  by r e = receive-rule t p δ n ∙ ap (λ r. byRule r (compared t p δ) (opening t p δ n) (kept t p δ)) e
 
-  pub settled-compare : canOpen δ t ≡ false → buildable δ t ≡ true → settled t p δ n ≡ compared t p δ
-  unfolding settled byRule
-  settled-compare e f = rw (rule-compare δ t e f)
+  pub receive-opened : canOpen δ t ≡ true → receive t p δ n ≡ followed (unlocked t p δ n) (inTurn (contentsOf t) δ n)
+  unfolding byRule
+  receive-opened e = by Rule.unlock (rule-unlock δ t e) ∙ by-turn t p δ n
 
-  pub settled-store : canOpen δ t ≡ false → buildable δ t ≡ false → settled t p δ n ≡ kept t p δ
-  unfolding settled byRule
-  settled-store e f = rw (rule-store δ t e f)
+  pub receive-compared : canOpen δ t ≡ false → buildable δ t ≡ true → receive t p δ n ≡ compared t p δ
+  unfolding byRule
+  receive-compared e f = by Rule.compare (rule-compare δ t e f)
 
-pub contents-unlock : (δ : Dictionary) (t : Term) → canOpen δ t ≡ true → nextTerms δ t ≡ contentsOf t
-unfolding nextTerms freed
-contents-unlock δ t e = rw (rule-unlock δ t e)
-
-pub contents-compare : (δ : Dictionary) (t : Term) → canOpen δ t ≡ false → buildable δ t ≡ true → nextTerms δ t ≡ Terms.nil
-unfolding nextTerms freed
-contents-compare δ t e f = rw (rule-compare δ t e f)
-
-pub contents-store : (δ : Dictionary) (t : Term) → canOpen δ t ≡ false → buildable δ t ≡ false → nextTerms δ t ≡ Terms.nil
-unfolding nextTerms freed
-contents-store δ t e f = rw (rule-store δ t e f)
+  pub receive-kept : canOpen δ t ≡ false → buildable δ t ≡ false → receive t p δ n ≡ kept t p δ
+  unfolding byRule
+  receive-kept e f = by Rule.store (rule-store δ t e f)
 
 -- ---- a cipher's row
 not-opened : (δ : Dictionary) (t : Term) → (kindOf t ≡ 2 → ⊥) → canOpen δ t ≡ false
@@ -107,7 +88,7 @@ unlocked-rest (Term.public t) p δ n = (refl, refl, refl)
 unlocked-rest (Term.private t) p δ n = (refl, refl, refl)
 
 -- ---- the rows of a list, one after another
-pub terms-none : (b : List ℕ) (f n : ℕ) → n ≤ 0 → terms (table b) (listAt b f n) ≡ Terms.nil
+terms-none : (b : List ℕ) (f n : ℕ) → n ≤ 0 → terms (table b) (listAt b f n) ≡ Terms.nil
 unfolding terms gathered
 terms-none b f n h = rw (list-none b f n h)
 

@@ -1,12 +1,10 @@
 -- `walking::act` meets its contract: by who the party is in the step, its sender, its receiver or neither. Assumes
 -- nothing.
-use mathlib.Core.Path.{_≡_}
 use native.Mathlib.Omega.{arith}
-use lib.ListN.{length}
 use borrow.Author.Needs.{needs}
 use Rattle.book.specs.Headed.Laws.{valid-headed}
 use Rattle.book.specs.Span.Laws.{span-step}
-use Rattle.walking.proofs.Acting.{step-ready, acts-send, acts-receive, acts-empty, acts-idle}
+use Rattle.walking.proofs.Acting.{step-ready, acts-send, acts-receive, acts-idle}
 use Rattle.walking.proofs.act.Statement.{statement}
 use Rattle.walking.proofs.act.Tie as tie
 
@@ -25,27 +23,6 @@ receive-messages-requires c κs =
     (after-step-count .step-count .ensures .0) (after-step-sender .step-sender .ensures) (else1 .if1 .left)
     (after-step-receiver .step-receiver .ensures) (then2 .if2 .taken)
 
--- what receiving hands back has an entry for each row
-long : (c : tie.After-receive-messages) → length (c .receive-messages .result .dictionary .entries) ≡ 1024
-long c = search needs
-
--- its messages are received behind the RECEIVE
-returns-3 : tie.Need-returns-3
-returns-3 c =
-    let after-receive-messages : tie.After-receive-messages = search in
-    let after-put4 : tie.After-put4 = search in
-    let after-narrow : tie.After-narrow = search in
-    let then2 : tie.Then2 = search in
-    let after-step-receiver : tie.After-step-receiver = search in
-    let else1 : tie.Else1 = search in
-    let after-step-sender : tie.After-step-sender = search in
-    let after-step-count : tie.After-step-count = search in
-    let after-step-first : tie.After-step-first = search in
-    acts-receive (long after-receive-messages) (after-step-first .step-first .ensures .0)
-    (after-step-count .step-count .ensures .0) (after-step-sender .step-sender .ensures) (else1 .if1 .left)
-    (after-step-receiver .step-receiver .ensures) (then2 .if2 .taken) (after-narrow .narrow .ensures)
-    (after-put4 .put4 .ensures) (after-receive-messages .receive-messages .ensures)
-
 pub act-spec : {M : Type 1} → statement M
 act-spec =
     tie.close
@@ -59,11 +36,9 @@ act-spec =
     (λ c κs. search (valid-headed, needs))  -- step-receiver-requires
     (λ c κs. omega arith)  -- narrow-requires
     (λ c κs. search needs)  -- put4-requires
-    (λ c. search needs)  -- same-length-2
-    (λ c. search acts-empty)  -- returns-2
     (λ c κs. search valid-headed)  -- rows-requires
     receive-messages-requires
+    (λ c. search needs)  -- same-length-2
     (λ c. search needs)  -- same-length-3
-    (λ c. search needs)  -- same-length-4
-    returns-3
-    (λ c. search acts-idle))  -- returns-4
+    (λ c. search acts-receive)  -- returns-2
+    (λ c. search acts-idle))  -- returns-3

@@ -5,3 +5,5 @@ pub mod Process
 pub mod Judgement
 pub mod Rule
 pub mod Check
+pub mod Reading
+pub mod Derivation

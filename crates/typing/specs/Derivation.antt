@@ -8,9 +8,10 @@
 -- lines, the places of its environment, its subject, its type and its effects, and how many effects. A word past the end is 0. Words that
 -- a rule has no use for are not looked at, but for the count of effects, which is a line's own in any case. Lines count from 0. What is
 -- asked is lent beside the derivation: an environment, and a process behind it, and nothing more.
-use Prim.Native.Nat.{ℕ, zero, suc, _+_, _*_, _-_}
+use Prim.Native.Nat.{ℕ, zero, suc, _+_, _*_, _-_, _≤_, _<_}
 use mathlib.Core.Bool.{Bool, true, false, not}
 use mathlib.Core.List.{List, [], _∷_}
+use mathlib.Core.Logic.{_⊎_}
 use mathlib.Core.Option.{Option, none, some}
 use mathlib.Core.Path.{_≡_}
 use lib.ListN.{getD, drop}
@@ -160,6 +161,12 @@ whole r = then r (λ p. elim (p .1) [ [] ↦ some (p .0) | x ∷ l ↦ none ])
 unfoldable pub asked : List ℕ → Option Judgement
 asked a = then (environmentAt a) (λ p. then (whole (processAt (p .1))) (λ P. some (Judgement.process (p .0) P [])))
 
+-- the words spell the environment E and behind it, to their end, the process P
+pub record Spells (a : List ℕ) (E : Environment) (P : Process) : Type 0 where
+  pub behind : List ℕ
+  pub environment : environmentAt a ≡ some (E, behind)
+  pub process : processAt behind ≡ some (P, [])
+
 -- both are judgements, and the same
 unfoldable pub agree : Option Judgement → Option Judgement → Bool
 agree none k = false
@@ -197,3 +204,52 @@ verdict a w =
     pick (ltb mostLines (lines w)) (Verdict.refused (lines w))
     (pick (any (crowded w) (lines w)) (Verdict.refused (effectCount w (first (crowded w) (lines w))))
     (pick (any (fails w) (lines w)) (Verdict.bad (first (fails w) (lines w))) (pick (answers a w) Verdict.safe Verdict.another)))
+
+-- ---- when each is given, in words of one's own
+-- no count is too large
+pub record Within (w : List ℕ) : Type 0 where
+  pub few : lines w ≤ mostLines
+  pub small : (i : ℕ) → i < lines w → effectCount w i ≤ mostEffects
+
+-- there is a last line, and it gives what is asked
+pub record Answers (a w : List ℕ) : Type 0 where
+  pub some-line : 0 < lines w
+  pub judgement : Judgement
+  pub last : given w (lines w - 1) ≡ some judgement
+  pub asks : asked a ≡ some judgement
+
+pub record IsSafe (a w : List ℕ) : Type 0 where
+  pub within : Within w
+  pub all : (i : ℕ) → i < lines w → IsInstance w i
+  pub answers : Answers a w
+
+pub record IsBad (w : List ℕ) (i : ℕ) : Type 0 where
+  pub within : Within w
+  pub line : i < lines w
+  pub no-instance : IsInstance w i → ⊥
+  pub before : (k : ℕ) → k < i → IsInstance w k
+
+pub record IsAnother (a w : List ℕ) : Type 0 where
+  pub within : Within w
+  pub all : (i : ℕ) → i < lines w → IsInstance w i
+  pub answers-not : Answers a w → ⊥
+
+-- the number of lines is too large, or else the count of the smallest line whose count is
+pub record ManyLines (w : List ℕ) (n : ℕ) : Type 0 where
+  pub many : mostLines < lines w
+  pub count : n ≡ lines w
+
+pub record ManyEffects (w : List ℕ) (n : ℕ) : Type 0 where
+  pub few : lines w ≤ mostLines
+  pub line : ℕ
+  pub inside : line < lines w
+  pub many : mostEffects < effectCount w line
+  pub count : n ≡ effectCount w line
+  pub before : (k : ℕ) → k < line → effectCount w k ≤ mostEffects
+
+-- the verdict is right
+abbrev pub Right : List ℕ → List ℕ → Verdict → Type 0
+Right a w Verdict.safe = IsSafe a w
+Right a w (Verdict.bad i) = IsBad w i
+Right a w Verdict.another = IsAnother a w
+Right a w (Verdict.refused n) = ManyLines w n ⊎ ManyEffects w n

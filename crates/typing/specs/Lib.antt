@@ -7,3 +7,4 @@ pub mod Rule
 pub mod Check
 pub mod Reading
 pub mod Derivation
+pub mod Apart

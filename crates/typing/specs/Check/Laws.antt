@@ -13,12 +13,12 @@ use Rattle.typing.specs.Rule.{Rule, Instance}
 use Rattle.typing.specs.Check.{left, right, nameOf, inner, second, promised, entryName, entryType, newest, older, partsOf, environmentOf, termOf, typeOf, effectsOf, processOf, first, rest, printed, asks, stands, follows}
 
 -- ---- tests
-both : (a b : Bool) → (a && b) ≡ true → (a ≡ true) × (b ≡ true)
+pub both : (a b : Bool) → (a && b) ≡ true → (a ≡ true) × (b ≡ true)
 both true true e = (refl, refl)
 both true false e = absurd (true≢false (sym e))
 both false b e = absurd (true≢false (sym e))
 
-and-both : (a b : Bool) → a ≡ true → b ≡ true → (a && b) ≡ true
+pub and-both : (a b : Bool) → a ≡ true → b ≡ true → (a && b) ≡ true
 and-both true true p q = refl
 and-both true false p q = absurd (true≢false (sym q))
 and-both false b p q = absurd (true≢false (sym p))

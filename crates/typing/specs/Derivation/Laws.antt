@@ -35,7 +35,7 @@ unfolding then
 then-goes o f a e = rw (e, then)
 
 -- ---- holds
-holds-came : (o : Option Bool) → holds o ≡ true → o ≡ some true
+pub holds-came : (o : Option Bool) → holds o ≡ true → o ≡ some true
 unfolding holds
 holds-came none e = absurd (true≢false (sym e))
 holds-came (some b) e = ap {B = Option Bool} some e
@@ -228,7 +228,7 @@ unfolding Before
 all-hold w all = lines-hold w (lines w) all
 
 -- ---- what is asked
-whole-came : {A : Type 0} (r : Read A) (a : A) → whole r ≡ some a → r ≡ some (a, [])
+pub whole-came : {A : Type 0} (r : Read A) (a : A) → whole r ≡ some a → r ≡ some (a, [])
 unfolding whole then
 whole-came none a e = absurd (let z : _≡_ {A = ℕ} 0 1 = cc in omega arith)
 whole-came {A} (some p) a e = go (p .0) (p .1) e

@@ -215,18 +215,20 @@ module _ (Js : List Judgement) (J : Judgement) where
       let L = termOf (first (rest Js)) in
       (Judgement.effect E es₁ ∷ Judgement.term E L Ty.Un ∷ [], Judgement.effect E (insert (Effect.check L) es₁))
   printed Rule.type-Un = (Judgement.environment E ∷ [], Judgement.type E Ty.Un)
-  printed Rule.type-pair =
-      (Judgement.type E T₁ ∷ Judgement.type (x₂ ⦂ T₁ ∷ E) T₂ ∷ [],
-      Judgement.type E (Ty.pair T₁ (binding x₂ T₂)))
+  printed Rule.type-pair = (
+    Judgement.type E T₁ ∷ Judgement.type (x₂ ⦂ T₁ ∷ E) T₂ ∷ [],
+    Judgement.type E (Ty.pair T₁ (binding x₂ T₂)),
+  )
   printed Rule.type-channel = (Judgement.type E T₁ ∷ [], Judgement.type E (Ty.channel T₁))
   printed Rule.type-symkey = (Judgement.type E T₁ ∷ [], Judgement.type E (Ty.symkey T₁))
   printed Rule.type-nonce = (Judgement.effect E es₁ ∷ [], Judgement.type E (Ty.nonce es₁))
   printed Rule.name = (Judgement.environment E ∷ [], Judgement.term E (Term.name (nameOf (termOf J))) (typeOf J))
   printed Rule.pair =
       let A = left (termOf J) in
-      let B = right (termOf J) in
-      (Judgement.term E A T₁ ∷ Judgement.term E B (putting A (second (typeOf J))) ∷ [],
-      Judgement.term E (Term.pair A B) (Ty.pair T₁ (second (typeOf J))))
+      let B = right (termOf J) in (
+        Judgement.term E A T₁ ∷ Judgement.term E B (putting A (second (typeOf J))) ∷ [],
+        Judgement.term E (Term.pair A B) (Ty.pair T₁ (second (typeOf J))),
+      )
   printed Rule.cipher =
       let A = left (termOf J) in
       let B = right (termOf J) in
@@ -240,62 +242,79 @@ module _ (Js : List Judgement) (J : Judgement) where
       let B = right (termOf J) in
       (Judgement.term E A Ty.Un ∷ Judgement.term E B Ty.Un ∷ [], Judgement.term E (Term.pair A B) Ty.Un)
   printed Rule.stop = (Judgement.environment E ∷ [], Judgement.process E Process.stop [])
-  printed Rule.begin =
-      (Judgement.process E P es₁ ∷ [],
-      Judgement.process E (Process.begin M P) (minus es₁ (Effect.end M ∷ [])))
-  printed Rule.end =
-      (Judgement.process E P es₁ ∷ [],
-      Judgement.process E (Process.end M P) (insert (Effect.end M) es₁))
-  printed Rule.parallel =
-      (Judgement.process E P es₁ ∷ Judgement.process E Q es₂ ∷ [],
-      Judgement.process E (Process.parallel P Q) (plus es₁ es₂))
-  printed Rule.new =
-      (Judgement.process (x ⦂ T ∷ E) P es₁ ∷ [],
-      Judgement.process E (Process.new x T P) (minus es₁ (Effect.check (Term.name x) ∷ [])))
-  printed Rule.out =
-      (Judgement.term E M (Ty.channel T₂) ∷ Judgement.term E N T₂
-      ∷ Judgement.process E P es₃ ∷ [], Judgement.process E (Process.out M N P) es₃)
-  printed Rule.inp =
-      (Judgement.term E M (Ty.channel T) ∷ Judgement.process (x ⦂ T ∷ E) P es₂ ∷ [],
-      Judgement.process E (Process.inp M x T P) es₂)
-  printed Rule.split =
-      (Judgement.term E M (Ty.pair T (binding x U))
-      ∷ Judgement.process (y ⦂ U ∷ x ⦂ T ∷ E) P es₂ ∷ [],
-      Judgement.process E (Process.split M x T y U P) es₂)
+  printed Rule.begin = (
+    Judgement.process E P es₁ ∷ [],
+    Judgement.process E (Process.begin M P) (minus es₁ (Effect.end M ∷ [])),
+  )
+  printed Rule.end = (
+    Judgement.process E P es₁ ∷ [],
+    Judgement.process E (Process.end M P) (insert (Effect.end M) es₁),
+  )
+  printed Rule.parallel = (
+    Judgement.process E P es₁ ∷ Judgement.process E Q es₂ ∷ [],
+    Judgement.process E (Process.parallel P Q) (plus es₁ es₂),
+  )
+  printed Rule.new = (
+    Judgement.process (x ⦂ T ∷ E) P es₁ ∷ [],
+    Judgement.process E (Process.new x T P) (minus es₁ (Effect.check (Term.name x) ∷ [])),
+  )
+  printed Rule.out = (
+    Judgement.term E M (Ty.channel T₂) ∷ Judgement.term E N T₂
+        ∷ Judgement.process E P es₃ ∷ [],
+    Judgement.process E (Process.out M N P) es₃,
+  )
+  printed Rule.inp = (
+    Judgement.term E M (Ty.channel T) ∷ Judgement.process (x ⦂ T ∷ E) P es₂ ∷ [],
+    Judgement.process E (Process.inp M x T P) es₂,
+  )
+  printed Rule.split = (
+    Judgement.term E M (Ty.pair T (binding x U))
+        ∷ Judgement.process (y ⦂ U ∷ x ⦂ T ∷ E) P es₂ ∷ [],
+    Judgement.process E (Process.split M x T y U P) es₂,
+  )
   printed Rule.match =
-      let S = second T₁ in
-      (Judgement.term E M (Ty.pair T₂ S) ∷ Judgement.term E N T₂
-      ∷ Judgement.process (y ⦂ putting N S ∷ E) P es₃ ∷ [],
-      Judgement.process E (Process.match M N y (putting N S) P) es₃)
-  printed Rule.cast =
-      (Judgement.term E M Ty.Un ∷ Judgement.process (x ⦂ Ty.nonce fs ∷ E) P es₂ ∷ [],
-      Judgement.process E (Process.cast M x fs P) (plus es₂ fs))
+      let S = second T₁ in (
+        Judgement.term E M (Ty.pair T₂ S) ∷ Judgement.term E N T₂
+            ∷ Judgement.process (y ⦂ putting N S ∷ E) P es₃ ∷ [],
+        Judgement.process E (Process.match M N y (putting N S) P) es₃,
+      )
+  printed Rule.cast = (
+    Judgement.term E M Ty.Un ∷ Judgement.process (x ⦂ Ty.nonce fs ∷ E) P es₂ ∷ [],
+    Judgement.process E (Process.cast M x fs P) (plus es₂ fs),
+  )
   printed Rule.check =
-      let gs = promised T₂ in
-      (Judgement.term E M Ty.Un ∷ Judgement.term E N (Ty.nonce gs)
-      ∷ Judgement.process E P es₃ ∷ [],
-      Judgement.process E (Process.check M N P) (insert (Effect.check M) (minus es₃ gs)))
-  printed Rule.decrypt =
-      (Judgement.term E M Ty.Un ∷ Judgement.term E N (Ty.symkey T)
-      ∷ Judgement.process (x ⦂ T ∷ E) P es₃ ∷ [],
-      Judgement.process E (Process.decrypt M N x T P) es₃)
-  printed Rule.out-Un =
-      (Judgement.term E M Ty.Un ∷ Judgement.term E N Ty.Un ∷ Judgement.process E P es₃ ∷ [],
-      Judgement.process E (Process.out M N P) es₃)
-  printed Rule.inp-Un =
-      (Judgement.term E M Ty.Un ∷ Judgement.process (x ⦂ Ty.Un ∷ E) P es₂ ∷ [],
-      Judgement.process E (Process.inp M x Ty.Un P) es₂)
-  printed Rule.split-Un =
-      (Judgement.term E M Ty.Un ∷ Judgement.process (y ⦂ Ty.Un ∷ x ⦂ Ty.Un ∷ E) P es₂ ∷ [],
-      Judgement.process E (Process.split M x Ty.Un y Ty.Un P) es₂)
-  printed Rule.match-Un =
-      (Judgement.term E M Ty.Un ∷ Judgement.term E N Ty.Un
-      ∷ Judgement.process (y ⦂ Ty.Un ∷ E) P es₃ ∷ [],
-      Judgement.process E (Process.match M N y Ty.Un P) es₃)
-  printed Rule.decrypt-Un =
-      (Judgement.term E M Ty.Un ∷ Judgement.term E N Ty.Un
-      ∷ Judgement.process (x ⦂ Ty.Un ∷ E) P es₃ ∷ [],
-      Judgement.process E (Process.decrypt M N x Ty.Un P) es₃)
+      let gs = promised T₂ in (
+        Judgement.term E M Ty.Un ∷ Judgement.term E N (Ty.nonce gs)
+            ∷ Judgement.process E P es₃ ∷ [],
+        Judgement.process E (Process.check M N P) (insert (Effect.check M) (minus es₃ gs)),
+      )
+  printed Rule.decrypt = (
+    Judgement.term E M Ty.Un ∷ Judgement.term E N (Ty.symkey T)
+        ∷ Judgement.process (x ⦂ T ∷ E) P es₃ ∷ [],
+    Judgement.process E (Process.decrypt M N x T P) es₃,
+  )
+  printed Rule.out-Un = (
+    Judgement.term E M Ty.Un ∷ Judgement.term E N Ty.Un ∷ Judgement.process E P es₃ ∷ [],
+    Judgement.process E (Process.out M N P) es₃,
+  )
+  printed Rule.inp-Un = (
+    Judgement.term E M Ty.Un ∷ Judgement.process (x ⦂ Ty.Un ∷ E) P es₂ ∷ [],
+    Judgement.process E (Process.inp M x Ty.Un P) es₂,
+  )
+  printed Rule.split-Un = (
+    Judgement.term E M Ty.Un ∷ Judgement.process (y ⦂ Ty.Un ∷ x ⦂ Ty.Un ∷ E) P es₂ ∷ [],
+    Judgement.process E (Process.split M x Ty.Un y Ty.Un P) es₂,
+  )
+  printed Rule.match-Un = (
+    Judgement.term E M Ty.Un ∷ Judgement.term E N Ty.Un
+        ∷ Judgement.process (y ⦂ Ty.Un ∷ E) P es₃ ∷ [],
+    Judgement.process E (Process.match M N y Ty.Un P) es₃,
+  )
+  printed Rule.decrypt-Un = (
+    Judgement.term E M Ty.Un ∷ Judgement.term E N Ty.Un
+        ∷ Judgement.process (x ⦂ Ty.Un ∷ E) P es₃ ∷ [],
+    Judgement.process E (Process.decrypt M N x Ty.Un P) es₃,
+  )
 
 -- the entry stands in the environment
 unfoldable pub stands : Entry → Environment → Bool

@@ -8,3 +8,4 @@ pub mod Check
 pub mod Reading
 pub mod Derivation
 pub mod Apart
+pub mod Rulings

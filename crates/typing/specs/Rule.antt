@@ -80,7 +80,6 @@ pub data Instance : Rule → List Judgement → Judgement → Type 0 where
   empty : Instance Rule.empty [] (Judgement.environment [])
   -- E ⊢ T  ⟹  E, x : T ⊢ ⋄
   entry : {E : Environment} {x : ℕ} {T : Ty} → Instance Rule.entry (Judgement.type E T ∷ []) (Judgement.environment (x ⦂ T ∷ E))
-
   -- E ⊢ ⋄  ⟹  E ⊢ []
   effect-none : {E : Environment} → Instance Rule.effect-none (Judgement.environment E ∷ []) (Judgement.effect E [])
   -- E ⊢ es, E ⊢ L : T  ⟹  E ⊢ es + [end L]
@@ -89,7 +88,6 @@ pub data Instance : Rule → List Judgement → Judgement → Type 0 where
   -- E ⊢ es, E ⊢ N : Un  ⟹  E ⊢ es + [check N]
   effect-check : {E : Environment} {es : List Effect} {N : Term}
       → Instance Rule.effect-check (Judgement.effect E es ∷ Judgement.term E N Ty.Un ∷ []) (Judgement.effect E (insert (Effect.check N) es))
-
   -- E ⊢ ⋄  ⟹  E ⊢ Un
   type-Un : {E : Environment} → Instance Rule.type-Un (Judgement.environment E ∷ []) (Judgement.type E Ty.Un)
   -- E ⊢ T, E, x : T ⊢ U  ⟹  E ⊢ (x : T, U)
@@ -102,7 +100,6 @@ pub data Instance : Rule → List Judgement → Judgement → Type 0 where
   -- E ⊢ es  ⟹  E ⊢ nonce es
   type-nonce : {E : Environment} {es : List Effect}
       → Instance Rule.type-nonce (Judgement.effect E es ∷ []) (Judgement.type E (Ty.nonce es))
-
   -- E′, x : T, E″ ⊢ ⋄  ⟹  E′, x : T, E″ ⊢ x : T
   name : {E : Environment} {x : ℕ} {T : Ty} → List·Memᴰ (x ⦂ T) E
       → Instance Rule.name (Judgement.environment E ∷ []) (Judgement.term E (Term.name x) T)
@@ -118,7 +115,6 @@ pub data Instance : Rule → List Judgement → Judgement → Type 0 where
   -- E ⊢ M : Un, E ⊢ N : Un  ⟹  E ⊢ (M, N) : Un
   pair-Un : {E : Environment} {M N : Term}
       → Instance Rule.pair-Un (Judgement.term E M Ty.Un ∷ Judgement.term E N Ty.Un ∷ []) (Judgement.term E (Term.pair M N) Ty.Un)
-
   -- E ⊢ ⋄  ⟹  E ⊢ STOP : []
   stop : {E : Environment} → Instance Rule.stop (Judgement.environment E ∷ []) (Judgement.process E Process.stop [])
   -- E ⊢ P : es  ⟹  E ⊢ begin L; P : es − [end L]
@@ -136,7 +132,6 @@ pub data Instance : Rule → List Judgement → Judgement → Type 0 where
       → mentions x (minus es (Effect.check (Term.name x) ∷ [])) ≡ false
       → Instance Rule.new (Judgement.process (x ⦂ T ∷ E) P es ∷ [])
       (Judgement.process E (Process.new x T P) (minus es (Effect.check (Term.name x) ∷ [])))
-
   -- E ⊢ M1 : ch(T), E ⊢ M2 : T, E ⊢ P : es  ⟹  E ⊢ out M1 M2; P : es
   out : {E : Environment} {M N : Term} {T : Ty} {P : Process} {es : List Effect}
       → Instance Rule.out (Judgement.term E M (Ty.channel T) ∷ Judgement.term E N T ∷ Judgement.process E P es ∷ [])
@@ -166,7 +161,6 @@ pub data Instance : Rule → List Judgement → Judgement → Type 0 where
   decrypt : {E : Environment} {M N : Term} {x : ℕ} {T : Ty} {P : Process} {es : List Effect} → mentions x es ≡ false
       → Instance Rule.decrypt (Judgement.term E M Ty.Un ∷ Judgement.term E N (Ty.symkey T) ∷ Judgement.process (x ⦂ T ∷ E) P es ∷ [])
       (Judgement.process E (Process.decrypt M N x T P) es)
-
   -- E ⊢ M1 : Un, E ⊢ M2 : Un, E ⊢ P : es  ⟹  E ⊢ out M1 M2; P : es
   out-Un : {E : Environment} {M N : Term} {P : Process} {es : List Effect}
       → Instance Rule.out-Un (Judgement.term E M Ty.Un ∷ Judgement.term E N Ty.Un ∷ Judgement.process E P es ∷ [])

@@ -59,7 +59,6 @@ generatable (Ty.nonce es) = false
 
 -- ---- environments: the entry that was added last stands first. A name may stand twice
 infix 70 _⦂_
-
 pub data Entry : Type 0 where
   _⦂_ : ℕ → Ty → Entry
   deriving Discrete as Entry-discrete

@@ -67,8 +67,12 @@ keeps-apart a e =
     let ((E, v), p, d) = then-came (environmentAt a) _ true (holds-came _ e) in
     let (P, q, c) = then-came (whole (processAt v)) _ true d in
     let h : clear (binders P) (names E) ≡ true = cc in
-    record { E = E; P = P; spells = record { behind = v; environment = p; process = whole-came _ P q };
-    apart = record { each = clear-each _ _ h; new = clear-new _ _ h } }
+    record {
+      E = E;
+      P = P;
+      spells = record { behind = v; environment = p; process = whole-came _ P q };
+      apart = record { each = clear-each _ _ h; new = clear-new _ _ h };
+    }
 
 apart-keeps : (a : List ℕ) → KeepsApart a → keepsApart a ≡ true
 unfolding keepsApart whole then holds

@@ -168,7 +168,7 @@ words-term (Term.pair A B) (Term.pair M N) u v e = two (words-term A M) (words-t
     two f g h =
         let t : termWords A ++ termWords B ++ u ≡ termWords M ++ termWords N ++ v = cc in
         let (p, q) =
-            f (termWords B ++ u) (termWords N ++ v) (sym (append-assoc (termWords A) (termWords B) u) ∙ t ∙ append-assoc (termWords M) (termWords N) v) in
+        f (termWords B ++ u) (termWords N ++ v) (sym (append-assoc (termWords A) (termWords B) u) ∙ t ∙ append-assoc (termWords M) (termWords N) v) in
         let (r, s) = g u v q in
         (cc, s)
 words-term (Term.pair A B) (Term.cipher M N) u v e = absurd (let z : _≡_ {A = ℕ} 2 3 = cc in omega arith)
@@ -183,7 +183,7 @@ words-term (Term.cipher A B) (Term.cipher M N) u v e = two (words-term A M) (wor
     two f g h =
         let t : termWords A ++ termWords B ++ u ≡ termWords M ++ termWords N ++ v = cc in
         let (p, q) =
-            f (termWords B ++ u) (termWords N ++ v) (sym (append-assoc (termWords A) (termWords B) u) ∙ t ∙ append-assoc (termWords M) (termWords N) v) in
+        f (termWords B ++ u) (termWords N ++ v) (sym (append-assoc (termWords A) (termWords B) u) ∙ t ∙ append-assoc (termWords M) (termWords N) v) in
         let (r, s) = g u v q in
         (cc, s)
 
@@ -242,8 +242,11 @@ unfolding count
 least-counted e f [] l h = absurd (omega arith)
 least-counted e f (g ∷ fs) l h =
     let r = least-counted e f fs (l .1) in
-    elim (sameEffect e g) [ yes p ↦ subst (λ (k : Effect). upTo (effectWords f) (effectWords k) ≡ true) (sym p) (l .0) | no p ↦
-    r (omega (arith, count-other e g fs p)) ]
+    elim (sameEffect e g) [
+      | yes p ↦ subst (λ (k : Effect). upTo (effectWords f) (effectWords k) ≡ true) (sym p) (l .0)
+      | no p ↦
+          r (omega (arith, count-other e g fs p))
+    ]
 
 upTo-refl : (xs : List ℕ) → upTo xs xs ≡ true
 unfolding upTo
@@ -270,6 +273,7 @@ ordered-same (e ∷ es) (f ∷ fs) o p h =
 
 -- two lists are one multiset exactly if each effect stands in them equally often
 pub bag-same : (es fs : List Effect) → (bag es ≡ bag fs) ↔ ((e : Effect) → count e es ≡ count e fs)
-bag-same es fs =
-    (λ h e. sym (count-bag e es) ∙ ap (count e) h ∙ count-bag e fs,
-    λ h. ordered-same (bag es) (bag fs) (bag-ordered es) (bag-ordered fs) (λ e. count-bag e es ∙ h e ∙ sym (count-bag e fs)))
+bag-same es fs = (
+  λ h e. sym (count-bag e es) ∙ ap (count e) h ∙ count-bag e fs,
+  λ h. ordered-same (bag es) (bag fs) (bag-ordered es) (bag-ordered fs) (λ e. count-bag e es ∙ h e ∙ sym (count-bag e fs)),
+)

@@ -139,8 +139,10 @@ pub instance-follows : (r : Rule) (Js : List Judgement) (J : Judgement) → Inst
 unfolding follows choose
 instance-follows r Js J i =
     let w = complete i in
-    rw (choose-yes (sameJudgements Js (printed Js J r .0)) (choose (sameJudgement J (printed Js J r .1)) (asks r J) false) false (w .premises),
-    choose-yes (sameJudgement J (printed Js J r .1)) (asks r J) false (w .conclusion)) (w .asked)
+    rw (
+      choose-yes (sameJudgements Js (printed Js J r .0)) (choose (sameJudgement J (printed Js J r .1)) (asks r J) false) false (w .premises),
+      choose-yes (sameJudgement J (printed Js J r .1)) (asks r J) false (w .conclusion),
+    ) (w .asked)
 
 -- the test holds exactly of the instances
 pub exact : (r : Rule) (Js : List Judgement) (J : Judgement) → (follows r Js J ≡ true) ↔ Instance r Js J

@@ -52,9 +52,11 @@ passes-instance w i e =
 instance-passes : (w : List ℕ) (i : ℕ) → IsInstance w i → passes w i ≡ true
 unfolding passes byRule holds
 instance-passes w i h =
-    rw (then-goes (ruleOf (lineWord w i 0)) (byRule w i) (h .numbered) (h .named),
-    then-goes (premisesFrom w i 1 (h .numbered .premises)) _ (h .premises) (h .found),
-    then-goes (judgement (h .numbered .kind) w i) _ (h .conclusion) (h .gives)) (instance-follows (h .numbered .rule) (h .premises) (h .conclusion) (h .instance))
+    rw (
+      then-goes (ruleOf (lineWord w i 0)) (byRule w i) (h .numbered) (h .named),
+      then-goes (premisesFrom w i 1 (h .numbered .premises)) _ (h .premises) (h .found),
+      then-goes (judgement (h .numbered .kind) w i) _ (h .conclusion) (h .gives),
+    ) (instance-follows (h .numbered .rule) (h .premises) (h .conclusion) (h .instance))
 
 -- a line passes exactly if it is an instance of its rule
 pub line-exact : (w : List ℕ) (i : ℕ) → (passes w i ≡ true) ↔ IsInstance w i
@@ -132,14 +134,22 @@ unfolding verdict
 verdict-right a w =
     pick-ind (Right a w) _ _ _ (λ e. inl (record { many = ltb-true _ _ e; count = refl })) (λ few.
     pick-ind (Right a w) _ _ _ (λ e.
-    inr (record { few = ltb-false _ _ few; line = first (crowded w) (lines w); inside = any-first (crowded w) (lines w) e;
-    many = crowded-many w _ (first-holds (crowded w) (lines w) (any-first (crowded w) (lines w) e)); count = refl;
-    before = λ k l. crowded-not w k (first-fails (crowded w) (lines w) k l) })) (λ small.
+    inr (record {
+      few = ltb-false _ _ few;
+      line = first (crowded w) (lines w);
+      inside = any-first (crowded w) (lines w) e;
+      many = crowded-many w _ (first-holds (crowded w) (lines w) (any-first (crowded w) (lines w) e));
+      count = refl;
+      before = λ k l. crowded-not w k (first-fails (crowded w) (lines w) k l);
+    })) (λ small.
     let within : Within w = record { few = ltb-false _ _ few; small = λ i l. crowded-not w i (none-any (crowded w) (lines w) small i l) } in
     pick-ind (Right a w) _ _ _ (λ e.
-    record { within = within; line = any-first (fails w) (lines w) e;
-    no-instance = passes-not w _ (first-holds (fails w) (lines w) (any-first (fails w) (lines w) e));
-    before = λ k l. fails-not w k (first-fails (fails w) (lines w) k l) }) (λ all.
+    record {
+      within = within;
+      line = any-first (fails w) (lines w) e;
+      no-instance = passes-not w _ (first-holds (fails w) (lines w) (any-first (fails w) (lines w) e));
+      before = λ k l. fails-not w k (first-fails (fails w) (lines w) k l);
+    }) (λ all.
     let pass : ((i : ℕ) → i < lines w → IsInstance w i) = λ i l. fails-not w i (none-any (fails w) (lines w) all i l) in
     pick-ind (Right a w) _ _ _ (λ e. record { within = within; all = pass; answers = answers-came a w e })
     (λ e. record { within = within; all = pass; answers-not = λ h. clash (came-answers a w h) e }))))

@@ -9,3 +9,4 @@ pub mod Reading
 pub mod Derivation
 pub mod Apart
 pub mod Rulings
+pub mod Trials

@@ -1,0 +1,50 @@
+// Derivations of authenticity types, in code. Here: where the things that words spell end.
+ghost use mathlib.Core.Path.{_≡_};
+ghost use Prim.Native.Nat.{_≤_};
+ghost use lib.ListN.{drop};
+ghost use Rattle.typing.specs.Reading.{term};
+ghost use Rattle.checking.specs.Behind.{Ends, restOf, termTurn};
+
+// What a term's first word begins: 0 nothing, 1 a name or a variable, 2 a term of two parts.
+fn term_turn(c: u32) -> usize
+    ensures { λ r. ⌜ (r ≡ termTurn c) × (r ≤ 2) ⌝ }
+{
+    if c == 1 {
+        return 1;
+    }
+    if c == 2 {
+        return 2;
+    }
+    if c == 3 {
+        return 2;
+    }
+    if c == 4 {
+        return 1;
+    }
+    0
+}
+
+// The place behind the term that begins at a; 0 where none does. `due` terms are still to come: a term of two parts takes one word, and
+// one more is due; any other takes two, and one less is.
+pub fn term_end(w: &[u32], a: usize) -> usize
+    ensures { λ r. ⌜ Ends (now (w .entry)) (restOf (term (drop a (now (w .entry))))) r ⌝ }
+{
+    let n = w.len();
+    let mut i = a;
+    let mut due = 1;
+    while 0 < due {
+        if n <= i {
+            return 0;
+        }
+        let turn = term_turn(w[i]);
+        if turn == 0 {
+            return 0;
+        }
+        if n - i < 3 - turn {
+            return 0;
+        }
+        due = due + 2 * turn - 3;
+        i = i + 3 - turn;
+    }
+    i
+}

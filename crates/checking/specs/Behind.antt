@@ -7,25 +7,27 @@ use mathlib.Core.Path.{_≡_}
 use lib.ListN.{length, drop}
 use Rattle.typing.specs.Reading.{Read}
 pub mod Laws
+pub mod Effects
 
 -- the words behind it
 unfoldable pub restOf : {A : Type 0} → Read A → Option (List ℕ)
 restOf none = none
 restOf (some p) = some (p .1)
 
--- nothing was read; what was read ends at the place r in w
+-- nothing was read; what was read from the place a on ends at the place r in w
 pub record Nothing (o : Option (List ℕ)) (r : ℕ) : Type 0 where
   pub zero : r ≡ 0
   pub none : o ≡ Option.none
 
-pub record At (w : List ℕ) (o : Option (List ℕ)) (r : ℕ) : Type 0 where
+pub record At (w : List ℕ) (a : ℕ) (o : Option (List ℕ)) (r : ℕ) : Type 0 where
   pub some-word : 0 < r
+  pub after : a ≤ r
   pub inside : r ≤ length w
   pub rest : o ≡ some (drop r w)
 
 -- r is the place in w behind what was read, or 0 where nothing was
-abbrev pub Ends : List ℕ → Option (List ℕ) → ℕ → Type 0
-Ends w o r = Nothing o r ⊎ At w o r
+abbrev pub Ends : List ℕ → ℕ → Option (List ℕ) → ℕ → Type 0
+Ends w a o r = Nothing o r ⊎ At w a o r
 
 -- what a term's first word begins: 0 nothing, 1 a name or a variable, which have one word more, 2 a term of two parts
 unfoldable pub termTurn : ℕ → ℕ

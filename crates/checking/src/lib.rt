@@ -1,8 +1,8 @@
 // Derivations of authenticity types, in code. Here: where the things that words spell end.
 ghost use mathlib.Core.Path.{_≡_};
-ghost use Prim.Native.Nat.{_≤_};
-ghost use lib.ListN.{drop};
-ghost use Rattle.typing.specs.Reading.{term};
+ghost use Prim.Native.Nat.{_≤_, _<_};
+ghost use lib.ListN.{length, drop};
+ghost use Rattle.typing.specs.Reading.{term, effects};
 ghost use Rattle.checking.specs.Behind.{Ends, restOf, termTurn};
 
 // What a term's first word begins: 0 nothing, 1 a name or a variable, 2 a term of two parts.
@@ -27,7 +27,7 @@ fn term_turn(c: u32) -> usize
 // The place behind the term that begins at a; 0 where none does. `due` terms are still to come: a term of two parts takes one word, and
 // one more is due; any other takes two, and one less is.
 pub fn term_end(w: &[u32], a: usize) -> usize
-    ensures { λ r. ⌜ Ends (now (w .entry)) (restOf (term (drop a (now (w .entry))))) r ⌝ }
+    ensures { λ r. ⌜ Ends (now (w .entry)) a (restOf (term (drop a (now (w .entry))))) r ⌝ }
 {
     let n = w.len();
     let mut i = a;
@@ -45,6 +45,35 @@ pub fn term_end(w: &[u32], a: usize) -> usize
         }
         due = due + 2 * turn - 3;
         i = i + 3 - turn;
+    }
+    i
+}
+
+// The place behind k effects that begin at a; 0 where they are not there.
+pub fn effects_end(w: &[u32], a: usize, k: usize) -> usize
+    requires { ⌜ (0 < a) × (a ≤ length (now w)) ⌝ }
+    ensures { λ r. ⌜ Ends (now (w .entry)) a (restOf (effects k (drop a (now (w .entry))))) r ⌝ }
+{
+    let n = w.len();
+    let mut i = a;
+    let mut j = 0;
+    while j < k {
+        if n <= i {
+            return 0;
+        }
+        let c = w[i];
+        if c == 0 {
+            return 0;
+        }
+        if 2 < c {
+            return 0;
+        }
+        let end = term_end(w, i + 1);
+        if end == 0 {
+            return 0;
+        }
+        i = end;
+        j += 1;
     }
     i
 }

@@ -26,16 +26,16 @@ rest-after f none = refl
 rest-after f (some p) = refl
 
 -- ---- Ends, by a test of the place
-pub ends-none : (w : List ℕ) (o : Option (List ℕ)) (r : ℕ) → Ends w o r → r ≡ 0 → o ≡ none
-ends-none w o r (inl n) z = n .none
-ends-none w o r (inr h) z = absurd (omega (arith, h .some-word))
+pub ends-none : (w : List ℕ) (a : ℕ) (o : Option (List ℕ)) (r : ℕ) → Ends w a o r → r ≡ 0 → o ≡ none
+ends-none w a o r (inl n) z = n .none
+ends-none w a o r (inr h) z = absurd (omega (arith, h .some-word))
 
-pub ends-at : (w : List ℕ) (o : Option (List ℕ)) (r : ℕ) → Ends w o r → (r ≡ 0 → ⊥) → At w o r
-ends-at w o r (inl n) z = absurd (z (n .zero))
-ends-at w o r (inr h) z = h
+pub ends-at : (w : List ℕ) (a : ℕ) (o : Option (List ℕ)) (r : ℕ) → Ends w a o r → (r ≡ 0 → ⊥) → At w a o r
+ends-at w a o r (inl n) z = absurd (z (n .zero))
+ends-at w a o r (inr h) z = h
 
-pub ends-nothing : (w : List ℕ) (o : Option (List ℕ)) → o ≡ none → Ends w o 0
-ends-nothing w o e = inl (record { zero = refl; none = e })
+pub ends-nothing : (w : List ℕ) (a : ℕ) (o : Option (List ℕ)) → o ≡ none → Ends w a o 0
+ends-nothing w a o e = inl (record { zero = refl; none = e })
 
 -- ---- terms
 -- the first word of a term
@@ -197,10 +197,11 @@ rest-term u = rest-only (terms u 1) (terms-counted u 1)
 pub record Terms (w : List ℕ) (a i due : ℕ) : Type 0 where
   pub same : restOf (terms (drop a w) 1) ≡ restOf (terms (drop i w) due)
   pub few : due ≤ i + 1
+  pub after : a ≤ i
   pub inside : due ≡ 0 → (0 < i) × (i ≤ length w)
 
 pub terms-begin : (w : List ℕ) (a : ℕ) → Terms w a a 1
-terms-begin w a = record { same = refl; few = omega arith; inside = λ e. absurd (omega arith) }
+terms-begin w a = record { same = refl; few = omega arith; after = omega arith; inside = λ e. absurd (omega arith) }
 
 due-more : (due n : ℕ) → n ≡ 2 → 0 < due → due + 2 * n - 3 ≡ suc (suc (due - 1))
 due-more due n e l = omega arith
@@ -219,21 +220,21 @@ module _ (w : List ℕ) (a i due : ℕ) (t : Terms w a i due) where
   one-more : 0 < due → due ≡ suc (due - 1)
   one-more h = omega arith
 
-  terms-stops : restOf (terms (drop i w) due) ≡ none → Ends w (restOf (term (drop a w))) 0
-  terms-stops e = ends-nothing w _ (rest-term (drop a w) ∙ t .same ∙ e)
+  terms-stops : restOf (terms (drop i w) due) ≡ none → Ends w a (restOf (term (drop a w))) 0
+  terms-stops e = ends-nothing w a _ (rest-term (drop a w) ∙ t .same ∙ e)
 
-  pub terms-past : 0 < due → length w ≤ i → Ends w (restOf (term (drop a w))) 0
+  pub terms-past : 0 < due → length w ≤ i → Ends w a (restOf (term (drop a w))) 0
   terms-past h l =
       let d : drop i w ≡ [] = drop-of-length-le w l in
       terms-stops (rw (one-more h, d) (terms-empty (due - 1)))
 
-  pub terms-none : 0 < due → i < length w → (n : ℕ) → n ≡ termTurn (getD w i 0) → n ≡ 0 → Ends w (restOf (term (drop a w))) 0
+  pub terms-none : 0 < due → i < length w → (n : ℕ) → n ≡ termTurn (getD w i 0) → n ≡ 0 → Ends w a (restOf (term (drop a w))) 0
   terms-none h l n e z =
       let d = drop-cons w i 0 (omega arith) in
       terms-stops (rw (one-more h, d) (terms-nothing (getD w i 0) (due - 1) (drop (suc i) w) (sym e ∙ z)))
 
   pub terms-short : 0 < due → i < length w → (n : ℕ) → n ≡ termTurn (getD w i 0) → (n ≡ 0 → ⊥) → length w - i < 3 - n
-      → Ends w (restOf (term (drop a w))) 0
+      → Ends w a (restOf (term (drop a w))) 0
   terms-short h l n e z s =
       let k = turn-small (getD w i 0) in
       let d = drop-cons w i 0 (omega arith) in
@@ -251,7 +252,7 @@ module _ (w : List ℕ) (a i due : ℕ) (t : Terms w a i due) where
             rw (d, f) (terms-one (getD w i 0) (due - 1) (getD w (suc i) 0) (drop (suc (suc i)) w) (sym e ∙ one)) in
         let at : i + 3 - n ≡ suc (suc i) = omega arith in
         let less = due-less due n one h in
-        record { same = t .same ∙ ap (λ (k : ℕ). restOf (terms (drop i w) k)) (one-more h) ∙ rw (at, less) q; few = rw (at, less) (few-less due i (t .few)); inside = λ _. rw at (omega arith, omega arith) }
+        record { same = t .same ∙ ap (λ (k : ℕ). restOf (terms (drop i w) k)) (one-more h) ∙ rw (at, less) q; few = rw (at, less) (few-less due i (t .few)); after = rw at (omega (arith, t .after)); inside = λ _. rw at (omega arith, omega arith) }
     | no other ↦
         let two : n ≡ 2 = omega (arith, turn-small (getD w i 0)) in
         let d = drop-cons w i 0 (omega arith) in
@@ -259,11 +260,11 @@ module _ (w : List ℕ) (a i due : ℕ) (t : Terms w a i due) where
             rw d (terms-two (getD w i 0) (due - 1) (drop (suc i) w) (sym e ∙ two)) in
         let at : i + 3 - n ≡ suc i = omega arith in
         let more = due-more due n two h in
-        record { same = t .same ∙ ap (λ (k : ℕ). restOf (terms (drop i w) k)) (one-more h) ∙ rw (at, more) q; few = rw (at, more) (few-more due i (t .few) h); inside = λ _. rw at (omega arith, omega arith) }
+        record { same = t .same ∙ ap (λ (k : ℕ). restOf (terms (drop i w) k)) (one-more h) ∙ rw (at, more) q; few = rw (at, more) (few-more due i (t .few) h); after = rw at (omega (arith, t .after)); inside = λ _. rw at (omega arith, omega arith) }
   ]
 
-  pub terms-done : due ≤ 0 → Ends w (restOf (term (drop a w))) i
+  pub terms-done : due ≤ 0 → Ends w a (restOf (term (drop a w))) i
   terms-done h =
       let z : due ≡ 0 = omega arith in
       let (b, l) = t .inside z in
-      inr (record { some-word = b; inside = l; rest = rest-term (drop a w) ∙ t .same ∙ rw z (terms-zero (drop i w)) })
+      inr (record { some-word = b; after = t .after; inside = l; rest = rest-term (drop a w) ∙ t .same ∙ rw z (terms-zero (drop i w)) })

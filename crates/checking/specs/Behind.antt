@@ -1,13 +1,14 @@
 -- Where what was read ends, as a place in the words.
 use Prim.Native.Nat.{ℕ, zero, suc, _≤_, _<_}
-use mathlib.Core.List.{List}
+use mathlib.Core.List.{List, [], _∷_}
 use mathlib.Core.Logic.{_⊎_}
 use mathlib.Core.Option.{Option, none, some}
 use mathlib.Core.Path.{_≡_}
 use lib.ListN.{length, drop}
-use Rattle.typing.specs.Reading.{Read}
+use Rattle.typing.specs.Reading.{Read, effects}
 pub mod Laws
 pub mod Effects
+pub mod Types
 
 -- the words behind it
 unfoldable pub restOf : {A : Type 0} → Read A → Option (List ℕ)
@@ -37,3 +38,24 @@ termTurn (suc (suc zero)) = 2
 termTurn (suc (suc (suc zero))) = 2
 termTurn (suc (suc (suc (suc zero)))) = 1
 termTurn (suc (suc (suc (suc (suc c))))) = 0
+
+-- a type's own words, its first and a nonce's effects, and what is behind them
+unfoldable pub typeOwn : List ℕ → Option (List ℕ)
+typeOwn [] = none
+typeOwn (zero ∷ u) = none
+typeOwn (suc zero ∷ u) = some u
+typeOwn (suc (suc zero) ∷ u) = some u
+typeOwn (suc (suc (suc zero)) ∷ u) = some u
+typeOwn (suc (suc (suc (suc zero))) ∷ u) = some u
+typeOwn (suc (suc (suc (suc (suc zero)))) ∷ []) = none
+typeOwn (suc (suc (suc (suc (suc zero)))) ∷ n ∷ u) = restOf (effects n u)
+typeOwn (suc (suc (suc (suc (suc (suc c))))) ∷ u) = none
+
+-- how many types a type has as its parts
+unfoldable pub typeParts : ℕ → ℕ
+typeParts zero = 0
+typeParts (suc zero) = 0
+typeParts (suc (suc zero)) = 2
+typeParts (suc (suc (suc zero))) = 1
+typeParts (suc (suc (suc (suc zero)))) = 1
+typeParts (suc (suc (suc (suc (suc c))))) = 0

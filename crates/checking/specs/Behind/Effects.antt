@@ -106,8 +106,13 @@ module _ (w : List ℕ) (a k i j : ℕ) (t : Walk w a k i j) where
   walk-again h l d z r q n =
       let b = ends-at w (i + 1) _ r q n in
       let s : restOf (effectOf (drop i w)) ≡ some (drop r w) = here l d z ∙ rw (add-one i) at (b .rest) in
-      record { same = t .same ∙ rw (one-more h) (effects-some (k - (j + 1)) (drop i w) (drop r w) s); low = b .some-word;
-      after = omega (arith, b .after, t .after); inside = b .inside; few = omega arith }
+      record {
+        same = t .same ∙ rw (one-more h) (effects-some (k - (j + 1)) (drop i w) (drop r w) s);
+        low = b .some-word;
+        after = omega (arith, b .after, t .after);
+        inside = b .inside;
+        few = omega arith;
+      }
 
   pub walk-done : k ≤ j → Ends w a (restOf (effects k (drop a w))) i
   walk-done h =

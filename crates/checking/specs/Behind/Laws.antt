@@ -125,17 +125,17 @@ read-list {A} k l u v e =
     sym (ap (λ (z : List A × List ℕ). z .0) q)
 
 -- ---- as many are read as are due
-abbrev Counted : {A : Type 0} → ℕ → Read (List A) → Type 0
+abbrev pub Counted : {A : Type 0} → ℕ → Read (List A) → Type 0
 Counted {A} m r = (l : List A) (v : List ℕ) → r ≡ some (l, v) → length l ≡ m
 
-counted-ahead : {A : Type 0} (a : A) (m : ℕ) (r : Read (List A)) → Counted m r → Counted (suc m) (ahead a r)
+pub counted-ahead : {A : Type 0} (a : A) (m : ℕ) (r : Read (List A)) → Counted m r → Counted (suc m) (ahead a r)
 unfolding ahead then
 counted-ahead a m none h l v e = absurd (let z : _≡_ {A = ℕ} 0 1 = cc in omega arith)
 counted-ahead {A} a m (some p) h l v e =
     let s = read-list (a ∷ p .0) l (p .1) v e in
     ap length s ∙ ap suc (h (p .0) (p .1) refl)
 
-counted-joined : {A : Type 0} (f : A → A → A) (m : ℕ) (r : Read (List A)) → Counted (suc (suc m)) r → Counted (suc m) (after (joined f) r)
+pub counted-joined : {A : Type 0} (f : A → A → A) (m : ℕ) (r : Read (List A)) → Counted (suc (suc m)) r → Counted (suc m) (after (joined f) r)
 unfolding after then joined
 counted-joined f m none h l v e = absurd (let z : _≡_ {A = ℕ} 0 1 = cc in omega arith)
 counted-joined {A} f m (some p) h l v e =
@@ -147,7 +147,7 @@ counted-joined {A} f m (some p) h l v e =
     two (x ∷ []) d = absurd (omega arith)
     two (x ∷ y ∷ k) d = omega arith
 
-counted-altered : {A : Type 0} (f : A → A) (m : ℕ) (r : Read (List A)) → Counted (suc m) r → Counted (suc m) (after (altered f) r)
+pub counted-altered : {A : Type 0} (f : A → A) (m : ℕ) (r : Read (List A)) → Counted (suc m) r → Counted (suc m) (after (altered f) r)
 unfolding after then altered
 counted-altered f m none h l v e = absurd (let z : _≡_ {A = ℕ} 0 1 = cc in omega arith)
 counted-altered {A} f m (some p) h l v e =
@@ -158,14 +158,19 @@ counted-altered {A} f m (some p) h l v e =
     one [] d = absurd (omega arith)
     one (x ∷ k) d = omega arith
 
-counted-none : {A : Type 0} (m : ℕ) → Counted {A = A} m none
+pub counted-none : {A : Type 0} (m : ℕ) → Counted {A = A} m none
 counted-none m l v e = absurd (let z : _≡_ {A = ℕ} 0 1 = cc in omega arith)
 
-counted-zero : {A : Type 0} (u : List ℕ) → Counted {A = A} 0 (some ([], u))
+pub counted-zero : {A : Type 0} (u : List ℕ) → Counted {A = A} 0 (some ([], u))
 counted-zero {A} u l v e = ap length (read-list [] l u v e)
 
+pub counted-then : {A B : Type 0} (r : Read A) (f : A × List ℕ → Read (List B)) (m : ℕ) → ((p : A × List ℕ) → Counted m (f p)) → Counted m (then r f)
+unfolding then
+counted-then none f m h l v e = absurd (let z : _≡_ {A = ℕ} 0 1 = cc in omega arith)
+counted-then (some p) f m h l v e = h p l v e
+
 -- the one that is read is all that was
-rest-only : {A : Type 0} (r : Read (List A)) → Counted 1 r → restOf (only r) ≡ restOf r
+pub rest-only : {A : Type 0} (r : Read (List A)) → Counted 1 r → restOf (only r) ≡ restOf r
 unfolding restOf only then
 rest-only none h = refl
 rest-only {A} (some p) h = go (p .0) (p .1) (h (p .0) (p .1) refl)
@@ -249,7 +254,7 @@ module _ (w : List ℕ) (a i due : ℕ) (t : Terms w a i due) where
         let d = drop-cons w i 0 (omega arith) in
         let f = drop-cons w (suc i) 0 (omega arith) in
         let q : restOf (terms (drop i w) (suc (due - 1))) ≡ restOf (terms (drop (suc (suc i)) w) (due - 1)) =
-            rw (d, f) (terms-one (getD w i 0) (due - 1) (getD w (suc i) 0) (drop (suc (suc i)) w) (sym e ∙ one)) in
+        rw (d, f) (terms-one (getD w i 0) (due - 1) (getD w (suc i) 0) (drop (suc (suc i)) w) (sym e ∙ one)) in
         let at : i + 3 - n ≡ suc (suc i) = omega arith in
         let less = due-less due n one h in
         record { same = t .same ∙ ap (λ (k : ℕ). restOf (terms (drop i w) k)) (one-more h) ∙ rw (at, less) q; few = rw (at, less) (few-less due i (t .few)); after = rw at (omega (arith, t .after)); inside = λ _. rw at (omega arith, omega arith) }
@@ -257,7 +262,7 @@ module _ (w : List ℕ) (a i due : ℕ) (t : Terms w a i due) where
         let two : n ≡ 2 = omega (arith, turn-small (getD w i 0)) in
         let d = drop-cons w i 0 (omega arith) in
         let q : restOf (terms (drop i w) (suc (due - 1))) ≡ restOf (terms (drop (suc i) w) (suc (suc (due - 1)))) =
-            rw d (terms-two (getD w i 0) (due - 1) (drop (suc i) w) (sym e ∙ two)) in
+        rw d (terms-two (getD w i 0) (due - 1) (drop (suc i) w) (sym e ∙ two)) in
         let at : i + 3 - n ≡ suc i = omega arith in
         let more = due-more due n two h in
         record { same = t .same ∙ ap (λ (k : ℕ). restOf (terms (drop i w) k)) (one-more h) ∙ rw (at, more) q; few = rw (at, more) (few-more due i (t .few) h); after = rw at (omega (arith, t .after)); inside = λ _. rw at (omega arith, omega arith) }

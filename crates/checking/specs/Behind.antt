@@ -5,10 +5,15 @@ use mathlib.Core.Logic.{_⊎_}
 use mathlib.Core.Option.{Option, none, some}
 use mathlib.Core.Path.{_≡_}
 use lib.ListN.{length, drop}
-use Rattle.typing.specs.Reading.{Read, effects}
+use lib.Dec.{eqb}
+use Rattle.words.specs.Choice.{pick, then}
+use Rattle.typing.specs.Reading.{Read, term, effects, typeAt}
 pub mod Laws
 pub mod Effects
 pub mod Types
+pub mod Environments
+pub mod Times
+pub mod Processes
 
 -- the words behind it
 unfoldable pub restOf : {A : Type 0} → Read A → Option (List ℕ)
@@ -59,3 +64,49 @@ typeParts (suc (suc zero)) = 2
 typeParts (suc (suc (suc zero))) = 1
 typeParts (suc (suc (suc (suc zero)))) = 1
 typeParts (suc (suc (suc (suc (suc c))))) = 0
+
+-- ---- passing over things of one sort
+unfoldable pub skipName : List ℕ → Option (List ℕ)
+skipName [] = none
+skipName (x ∷ u) = some u
+
+abbrev pub skipTerm : List ℕ → Option (List ℕ)
+skipTerm u = restOf (term u)
+
+abbrev pub skipType : List ℕ → Option (List ℕ)
+skipType u = restOf (typeAt u)
+
+unfoldable pub skipEffects : List ℕ → Option (List ℕ)
+skipEffects [] = none
+skipEffects (n ∷ u) = restOf (effects n u)
+
+-- k times, one behind another
+unfoldable pub times : (List ℕ → Option (List ℕ)) → ℕ → List ℕ → Option (List ℕ)
+times s zero u = some u
+times s (suc k) u = then (s u) (times s k)
+
+-- n names, m terms and t types
+unfoldable pub skips : ℕ → ℕ → ℕ → List ℕ → Option (List ℕ)
+skips n m t u = then (times skipName n u) (λ v. then (times skipTerm m v) (times skipType t))
+
+-- a process's own words, all but the processes in it, and what is behind them
+unfoldable pub processOwn : List ℕ → Option (List ℕ)
+processOwn [] = none
+processOwn (zero ∷ u) = none
+processOwn (suc zero ∷ u) = skips 1 0 1 u
+processOwn (suc (suc zero) ∷ u) = skips 0 2 0 u
+processOwn (suc (suc (suc zero)) ∷ u) = skips 1 1 1 u
+processOwn (suc (suc (suc (suc zero))) ∷ u) = skips 0 0 0 u
+processOwn (suc (suc (suc (suc (suc zero)))) ∷ u) = skips 0 0 0 u
+processOwn (suc (suc (suc (suc (suc (suc zero))))) ∷ u) = skips 2 1 2 u
+processOwn (suc (suc (suc (suc (suc (suc (suc zero)))))) ∷ u) = skips 1 2 1 u
+processOwn (suc (suc (suc (suc (suc (suc (suc (suc zero))))))) ∷ u) = skips 1 2 1 u
+processOwn (suc (suc (suc (suc (suc (suc (suc (suc (suc zero)))))))) ∷ u) = skips 0 1 0 u
+processOwn (suc (suc (suc (suc (suc (suc (suc (suc (suc (suc zero))))))))) ∷ u) = skips 0 1 0 u
+processOwn (suc (suc (suc (suc (suc (suc (suc (suc (suc (suc (suc zero)))))))))) ∷ u) = then (skips 1 1 0 u) skipEffects
+processOwn (suc (suc (suc (suc (suc (suc (suc (suc (suc (suc (suc (suc zero))))))))))) ∷ u) = skips 0 2 0 u
+processOwn (suc (suc (suc (suc (suc (suc (suc (suc (suc (suc (suc (suc (suc c)))))))))))) ∷ u) = none
+
+-- how many processes a process has as its parts
+unfoldable pub processParts : ℕ → ℕ
+processParts c = pick (eqb c 4) 2 (pick (eqb c 5) 0 1)

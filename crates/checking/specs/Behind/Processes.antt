@@ -107,7 +107,7 @@ unfolding withEffects
 counted-list [] k m h = counted-none m
 counted-list (n ∷ u) k m h = counted-then (effects n u) _ m (λ p. h (bag (p .0)) (p .1))
 
-processes-counted : (f p : ℕ) (u : List ℕ) → Counted p (processes f p u)
+pub processes-counted : (f p : ℕ) (u : List ℕ) → Counted p (processes f p u)
 unfolding processes withTerm withType withEffects
 processes-counted zero zero u = counted-zero u
 processes-counted (suc f) zero u = counted-zero u

@@ -52,7 +52,7 @@ with-effects [] k g h = refl
 with-effects (n ∷ u) k g h = by-rest (effects n u) (λ es v. k (bag es) v) g (λ es v. h (bag es) v)
 
 -- ---- a process is its own words, and its parts behind them
-processes-own : (f p q c : ℕ) (u : List ℕ) → q ≡ p + processParts c
+pub processes-own : (f p q c : ℕ) (u : List ℕ) → q ≡ p + processParts c
     → restOf (processes (suc f) (suc p) (c ∷ u)) ≡ then (processOwn (c ∷ u)) (λ v. restOf (processes f q v))
 unfolding processes processOwn processParts pick then skips times skipName restOf
 processes-own f p q zero u e = refl
@@ -145,7 +145,7 @@ processes-counted (suc f) (suc p) (suc (suc (suc (suc (suc (suc (suc (suc (suc (
     counted-then (term u) _ (suc p) (λ v0. counted-then (term (v0 .1)) _ (suc p) (λ v1. counted-altered _ p (processes f (suc p) (v1 .1)) (processes-counted f (suc p) (v1 .1))))
 processes-counted (suc f) (suc p) (suc (suc (suc (suc (suc (suc (suc (suc (suc (suc (suc (suc (suc c)))))))))))) ∷ u) = counted-none (suc p)
 
-rest-process : (u : List ℕ) → restOf (processAt u) ≡ restOf (processes (length u) 1 u)
+pub rest-process : (u : List ℕ) → restOf (processAt u) ≡ restOf (processes (length u) 1 u)
 unfolding processAt
 rest-process u = rest-only (processes (length u) 1 u) (processes-counted (length u) 1 u)
 
@@ -154,7 +154,7 @@ unfolding processes restOf
 processes-zero zero u = refl
 processes-zero (suc f) u = refl
 
-processes-empty : (f p : ℕ) → restOf (processes f (suc p) []) ≡ none
+pub processes-empty : (f p : ℕ) → restOf (processes f (suc p) []) ≡ none
 unfolding processes restOf
 processes-empty zero p = refl
 processes-empty (suc f) p = refl

@@ -9,10 +9,12 @@ use Rattle.words.specs.Choice.{pick}
 use Rattle.typing.specs.Types.{Environment}
 use Rattle.typing.specs.Process.{Process}
 use Rattle.typing.specs.Apart.{binders, names, among}
-use Rattle.typing.specs.Reading.{Read, processes}
+use Rattle.typing.specs.Reading.{Read, environmentAt, processes, processAt}
+use Rattle.checking.specs.Behind.{restOf, At}
 pub mod Laws
 pub mod Names
 pub mod Along
+pub mod Asked
 
 -- the binders of several processes
 unfoldable pub allBinders : List Process → List ℕ
@@ -49,3 +51,8 @@ nameApart ns bs x = not (among x ns) && not (ltb 1 (times-in x bs))
 unfoldable pub allApart : List ℕ → List ℕ → List ℕ → Bool
 allApart ns bs [] = true
 allApart ns bs (x ∷ l) = nameApart ns bs x && allApart ns bs l
+
+-- an environment is spelled from the first word on and ends at p, where a process begins that ends at `end`
+pub record Placed (w : List ℕ) (p end : ℕ) : Type 0 where
+  pub environment : At w 0 (restOf (environmentAt w)) p
+  pub process : At w p (restOf (processAt (drop p w))) end

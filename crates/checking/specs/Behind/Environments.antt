@@ -16,31 +16,31 @@ use Rattle.checking.specs.Behind.Laws.{rest-after, ends-none, ends-at, e
 use Rattle.checking.specs.Behind.Effects.{then-none, then-some}
 
 -- ---- entries
-entries-empty : (f : ℕ) → restOf (entries f []) ≡ none
+pub entries-empty : (f : ℕ) → restOf (entries f []) ≡ none
 unfolding entries restOf
 entries-empty zero = refl
 entries-empty (suc f) = refl
 
-entries-last : (f c : ℕ) (u : List ℕ) → c ≡ 1 → restOf (entries (suc f) (c ∷ u)) ≡ some u
+pub entries-last : (f c : ℕ) (u : List ℕ) → c ≡ 1 → restOf (entries (suc f) (c ∷ u)) ≡ some u
 unfolding entries restOf
 entries-last f c u e = rw e
 
-entries-other : (f c : ℕ) (u : List ℕ) → (c ≡ 1 → ⊥) → (c ≡ 2 → ⊥) → restOf (entries (suc f) (c ∷ u)) ≡ none
+pub entries-other : (f c : ℕ) (u : List ℕ) → (c ≡ 1 → ⊥) → (c ≡ 2 → ⊥) → restOf (entries (suc f) (c ∷ u)) ≡ none
 unfolding entries restOf
 entries-other f zero u d e = refl
 entries-other f (suc zero) u d e = absurd (d refl)
 entries-other f (suc (suc zero)) u d e = absurd (e refl)
 entries-other f (suc (suc (suc c))) u d e = refl
 
-entries-cut : (f c : ℕ) → c ≡ 2 → restOf (entries (suc f) (c ∷ [])) ≡ none
+pub entries-cut : (f c : ℕ) → c ≡ 2 → restOf (entries (suc f) (c ∷ [])) ≡ none
 unfolding entries restOf
 entries-cut f c e = rw e
 
-entries-no-type : (f c x : ℕ) (u : List ℕ) → c ≡ 2 → restOf (typeAt u) ≡ none → restOf (entries (suc f) (c ∷ x ∷ u)) ≡ none
+pub entries-no-type : (f c x : ℕ) (u : List ℕ) → c ≡ 2 → restOf (typeAt u) ≡ none → restOf (entries (suc f) (c ∷ x ∷ u)) ≡ none
 unfolding entries
 entries-no-type f c x u e h = rw e (then-none (typeAt u) _ h)
 
-entries-type : (f c x : ℕ) (u v : List ℕ) → c ≡ 2 → restOf (typeAt u) ≡ some v → restOf (entries (suc f) (c ∷ x ∷ u)) ≡ restOf (entries f v)
+pub entries-type : (f c x : ℕ) (u v : List ℕ) → c ≡ 2 → restOf (typeAt u) ≡ some v → restOf (entries (suc f) (c ∷ x ∷ u)) ≡ restOf (entries f v)
 unfolding entries
 entries-type f c x u v e h = rw e (then-some (typeAt u) _ v _ h (λ T. rest-after (λ (E : Environment). (x ⦂ T) ∷ E) (entries f v)))
 

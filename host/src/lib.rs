@@ -23,4 +23,5 @@ pub mod shelf;
 pub mod show;
 pub mod term;
 pub mod translate;
+pub mod types;
 pub mod words;

@@ -4,7 +4,8 @@
 use host::requests::{self, Calls, Request};
 use host::shelf::Shelf;
 use host::{
-    bench, compare, corpus, edits, files, frames, mutants, narration, random, rehearse, routes, show, translate, words,
+    bench, compare, corpus, edits, files, frames, mutants, narration, random, rehearse, routes, show, translate, types,
+    words,
 };
 use std::io::{self, Write};
 use std::path::{Path, PathBuf};
@@ -32,6 +33,8 @@ host frames OBJECT [NAME..]             print the stack frames of an object's fu
 host bench LIB BOOKS [PLOT]             time proved code, a library made by host/library, against this and its anchor
 host routes LIB SEED COUNT [DIR..]      compare proved bytes, proved words and this on books and schedules
 host routes --lean SEED COUNT [DIR..]   compare the bench's anchor and this on books and schedules
+host types FILE [OUT]                   derive the effect of a process; write OUT.asked and OUT.derivation
+host types --check ASKED DERIVATION     print the verdict on a derivation, a file of words
 host help                               print this
 ";
 
@@ -175,6 +178,28 @@ fn run(arguments: &[String]) -> Result<bool, String> {
             let folders: Vec<PathBuf> = folders.iter().map(PathBuf::from).collect();
             return routes::run(Path::new(library), seed, count, &folders, &mut io::stdout());
         }
+        ["types", "--check", asked, derivation] => {
+            let asked = some_words(asked)?;
+            let apart = if types::keeps_apart(&asked) {
+                "apart"
+            } else {
+                "not apart"
+            };
+            let verdict = types::verdict(&asked, &some_words(derivation)?);
+            say(&format!("{verdict}; bound names are {apart}\n"))?;
+        }
+        ["types", file, out @ ..] if out.len() < 2 && *file != "--check" => {
+            let (told, derived) =
+                types::tell(&files::text(Path::new(file))?).map_err(|mistake| format!("{file}: {mistake}"))?;
+            if let (Some(out), Some(derived)) = (out.first(), derived) {
+                give(&words::to_bytes(&derived.asked), Some(&format!("{out}.asked").as_str()))?;
+                give(
+                    &words::to_bytes(&derived.derivation),
+                    Some(&format!("{out}.derivation").as_str()),
+                )?;
+            }
+            say(&ended(told))?;
+        }
         [command, ..] => {
             return Err(format!("what is asked with `{command}` isn't clear\n\n{USE}"));
         }
@@ -190,6 +215,12 @@ fn number(text: &str) -> Result<u64, String> {
 /// The bytes of a file's first words, "and no further".
 fn first_words(name: &str, most: usize) -> Result<Vec<u8>, String> {
     files::first_bytes(Path::new(name), 4 * most)
+}
+
+/// The words of a file of what is asked or of a derivation.
+fn some_words(name: &str) -> Result<Vec<u32>, String> {
+    let bytes = first_words(name, types::READ)?;
+    words::of_bytes(&bytes).map_err(|_| format!("{name}: the bytes are no words, four each"))
 }
 
 fn ended(mut text: String) -> String {

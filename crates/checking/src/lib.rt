@@ -1,13 +1,16 @@
 // Derivations of authenticity types, in code. Here: where the things that words spell end.
 use words::wide;
 ghost use mathlib.Core.Path.{_≡_};
-ghost use Prim.Native.Nat.{_+_, _≤_, _<_};
+ghost use Prim.Native.Nat.{_+_, _-_, _≤_, _<_};
 ghost use lib.Dec.{eqb, ltb};
 ghost use lib.ListN.{length, drop, take, getD};
 ghost use Rattle.words.specs.Choice.{pick};
+ghost use Rattle.words.specs.Run.{run, sameWords};
+ghost use Rattle.typing.specs.Term.{sameTerm};
 ghost use Rattle.typing.specs.Apart.{among, keepsApart};
 ghost use Rattle.typing.specs.Reading.{term, effects, typeAt, environmentAt, processAt};
-ghost use Rattle.checking.specs.Behind.{Ends, restOf, termTurn, typeOwn, typeParts, processOwn, processParts};
+ghost use Rattle.checking.specs.Behind.{At, Ends, restOf, termTurn, typeOwn, typeParts, processOwn, processParts};
+ghost use Rattle.checking.specs.Same.{termIn, test};
 ghost use Rattle.checking.specs.Bound.{processNames, times-in, bindersAt, namesIn, nameApart, allApart, Placed};
 ghost use Rattle.checking.specs.Behind.{skipTerm, skipType, skipEffects, times, skips};
 
@@ -469,4 +472,30 @@ pub fn keeps_apart(asked: &[u32]) -> bool
         return false;
     }
     all_apart(asked, p, end)
+}
+
+// The n words from a on and those from b on are the same.
+fn same_run(u: &[u32], a: usize, v: &[u32], b: usize, n: usize) -> bool
+    requires { ⌜ (a + n ≤ length (now u)) × (b + n ≤ length (now v)) ⌝ }
+    ensures { λ r. ⌜ r ≡ sameWords (run (now (u .entry)) a n) (run (now (v .entry)) b n) ⌝ }
+{
+    let mut k = 0;
+    while k < n {
+        if u[a + k] != v[b + k] {
+            return false;
+        }
+        k += 1;
+    }
+    true
+}
+
+// The terms from a to e and from b to f are the same.
+pub fn same_term(u: &[u32], a: usize, e: usize, v: &[u32], b: usize, f: usize) -> bool
+    requires { ⌜ At (now u) a (restOf (term (drop a (now u)))) e × At (now v) b (restOf (term (drop b (now v)))) f ⌝ }
+    ensures { λ r. ⌜ r ≡ test (sameTerm (termIn (now (u .entry)) a) (termIn (now (v .entry)) b)) ⌝ }
+{
+    if e - a != f - b {
+        return false;
+    }
+    same_run(u, a, v, b, e - a)
 }

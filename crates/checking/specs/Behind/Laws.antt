@@ -180,7 +180,7 @@ rest-only {A} (some p) h = go (p .0) (p .1) (h (p .0) (p .1) refl)
     go [] v d = absurd (omega arith)
     go (a ∷ k) v d = refl
 
-terms-counted : (u : List ℕ) (m : ℕ) → Counted m (terms u m)
+pub terms-counted : (u : List ℕ) (m : ℕ) → Counted m (terms u m)
 unfolding terms
 terms-counted [] zero = counted-zero []
 terms-counted [] (suc m) = counted-none (suc m)
@@ -194,7 +194,7 @@ terms-counted (suc (suc (suc (suc zero))) ∷ []) (suc m) = counted-none (suc m)
 terms-counted (suc (suc (suc (suc zero))) ∷ k ∷ u) (suc m) = counted-ahead (Term.bound k) m (terms u m) (terms-counted u m)
 terms-counted (suc (suc (suc (suc (suc c)))) ∷ u) (suc m) = counted-none (suc m)
 
-rest-term : (u : List ℕ) → restOf (term u) ≡ restOf (terms u 1)
+pub rest-term : (u : List ℕ) → restOf (term u) ≡ restOf (terms u 1)
 unfolding term
 rest-term u = rest-only (terms u 1) (terms-counted u 1)
 

@@ -11,6 +11,8 @@ use Rattle.typing.specs.Process.{Process}
 use Rattle.typing.specs.Reading.{Read, term, effectOf, effects, typeAt, environmentAt, processAt}
 use Rattle.checking.specs.Behind.{restOf, At}
 pub mod Laws
+pub mod Effects
+pub mod Bags
 
 -- what was read; where nothing was, what is given here
 unfoldable pub valueOr : {A : Type 0} → A → Read A → A

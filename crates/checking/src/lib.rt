@@ -6,11 +6,13 @@ ghost use lib.Dec.{eqb, ltb};
 ghost use lib.ListN.{length, drop, take, getD};
 ghost use Rattle.words.specs.Choice.{pick};
 ghost use Rattle.words.specs.Run.{run, sameWords};
-ghost use Rattle.typing.specs.Term.{sameTerm};
+ghost use Rattle.typing.specs.Term.{sameTerm, sameEffect};
+ghost use Rattle.typing.specs.Bag.{bag, count};
+ghost use Rattle.typing.specs.Types.{sameEffects};
 ghost use Rattle.typing.specs.Apart.{among, keepsApart};
-ghost use Rattle.typing.specs.Reading.{term, effects, typeAt, environmentAt, processAt};
+ghost use Rattle.typing.specs.Reading.{term, effectOf, effects, typeAt, environmentAt, processAt};
 ghost use Rattle.checking.specs.Behind.{At, Ends, restOf, termTurn, typeOwn, typeParts, processOwn, processParts};
-ghost use Rattle.checking.specs.Same.{termIn, test};
+ghost use Rattle.checking.specs.Same.{termIn, effectIn, effectsIn, test};
 ghost use Rattle.checking.specs.Bound.{processNames, times-in, bindersAt, namesIn, nameApart, allApart, Placed};
 ghost use Rattle.checking.specs.Behind.{skipTerm, skipType, skipEffects, times, skips};
 
@@ -498,4 +500,74 @@ pub fn same_term(u: &[u32], a: usize, e: usize, v: &[u32], b: usize, f: usize) -
         return false;
     }
     same_run(u, a, v, b, e - a)
+}
+
+// The effects from a to e and from b to f are the same.
+fn same_effect(u: &[u32], a: usize, e: usize, v: &[u32], b: usize, f: usize) -> bool
+    requires { ⌜ At (now u) a (restOf (effectOf (drop a (now u)))) e × At (now v) b (restOf (effectOf (drop b (now v)))) f ⌝ }
+    ensures { λ r. ⌜ r ≡ test (sameEffect (effectIn (now (u .entry)) a) (effectIn (now (v .entry)) b)) ⌝ }
+{
+    if e - a != f - b {
+        return false;
+    }
+    same_run(u, a, v, b, e - a)
+}
+
+// 1 where it is so, else 0.
+fn one(so: bool) -> usize
+    ensures { λ r. ⌜ (r ≡ pick so 1 0) × (r ≤ 1) ⌝ }
+{
+    if so {
+        return 1;
+    }
+    0
+}
+
+// How often the effect from b to f stands among the k effects from a to end.
+fn count_effect(u: &[u32], a: usize, k: usize, end: usize, v: &[u32], b: usize, f: usize) -> usize
+    requires { ⌜ (0 < a) × At (now u) a (restOf (effects k (drop a (now u)))) end × At (now v) b (restOf (effectOf (drop b (now v)))) f ⌝ }
+    ensures { λ r. ⌜ r ≡ count (effectIn (now (v .entry)) b) (effectsIn (now (u .entry)) a k) ⌝ }
+{
+    let mut i = a;
+    let mut j = 0;
+    let mut n = 0;
+    while j < k {
+        let e = term_end(u, i + 1);
+        n += one(same_effect(u, i, e, v, b, f));
+        i = e;
+        j += 1;
+    }
+    n
+}
+
+// The k effects from a to end and the l effects from b to last are one multiset.
+pub fn same_bag(
+    u: &[u32],
+    a: usize,
+    k: usize,
+    end: usize,
+    v: &[u32],
+    b: usize,
+    l: usize,
+    last: usize,
+) -> bool
+    requires { ⌜ (0 < a) × (0 < b) × At (now u) a (restOf (effects k (drop a (now u)))) end × At (now v) b (restOf (effects l (drop b (now v)))) last ⌝ }
+    ensures { λ r. ⌜ r ≡ test (sameEffects (bag (effectsIn (now (u .entry)) a k)) (bag (effectsIn (now (v .entry)) b l))) ⌝ }
+{
+    if k != l {
+        return false;
+    }
+    let mut i = b;
+    let mut j = 0;
+    while j < l {
+        let e = term_end(v, i + 1);
+        let first = count_effect(u, a, k, end, v, i, e);
+        let second = count_effect(v, b, l, last, v, i, e);
+        if first != second {
+            return false;
+        }
+        i = e;
+        j += 1;
+    }
+    true
 }

@@ -201,3 +201,9 @@ module _ (u v : List ℕ) (a e b f : ℕ) (s : At u a (restOf (term (drop a u)))
       sym (test-no (sameTerm (termIn u a) (termIn v b)) (λ p.
       let w : run u a (e - a) ≡ run v b (e - a) = run-term u a e s ∙ ap termWords p ∙ sym (run-term v b f t) ∙ ap (run v b) (sym h) in
       clash (same-exact (run u a (e - a)) (run v b (e - a)) .1 w) (sym d)))
+
+pub pick-one : (b : Bool) → b ≡ true → _≡_ {A = ℕ} 1 (pick b 1 0)
+pick-one b e = sym (pick-true {A = ℕ} b 1 0 e)
+
+pub pick-none : (b : Bool) → b ≡ false → _≡_ {A = ℕ} 0 (pick b 1 0)
+pick-none b e = sym (pick-false {A = ℕ} b 1 0 e)

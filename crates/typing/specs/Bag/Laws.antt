@@ -16,7 +16,7 @@ use Rattle.typing.specs.Term.{Term, Effect, sameEffect, termWords, effec
 use Rattle.typing.specs.Bag.{upTo, insert, plus, bag, remove, minus, count}
 
 -- ---- count
-count-none : (e : Effect) → count e [] ≡ 0
+pub count-none : (e : Effect) → count e [] ≡ 0
 unfolding count
 count-none e = refl
 
@@ -68,7 +68,7 @@ pub count-bag : (e : Effect) (es : List Effect) → count e (bag es) ≡ count e
 unfolding bag count
 count-bag e es = let h = count-plus e es [] in omega arith
 
-count-remove : (e f : Effect) (fs : List Effect) → count e (remove f fs) ≡ count e fs - count e (f ∷ [])
+pub count-remove : (e f : Effect) (fs : List Effect) → count e (remove f fs) ≡ count e fs - count e (f ∷ [])
 unfolding remove count choose
 count-remove e f [] = omega arith
 count-remove e f (g ∷ fs) = go (sameEffect f g) (sameEffect e f) (sameEffect e g) (count-remove e f fs)
@@ -187,7 +187,7 @@ words-term (Term.cipher A B) (Term.cipher M N) u v e = two (words-term A M) (wor
         let (r, s) = g u v q in
         (cc, s)
 
-words-effect : (e f : Effect) → effectWords e ≡ effectWords f → e ≡ f
+pub words-effect : (e f : Effect) → effectWords e ≡ effectWords f → e ≡ f
 unfolding effectWords
 words-effect (Effect.end M) (Effect.end N) e =
     let h : termWords M ≡ termWords N = cc in

@@ -1,0 +1,12 @@
+-- `checking::one` meets its contract, by cases. Assumes nothing.
+use native.Mathlib.Omega.{arith}
+use Rattle.checking.specs.Same.Laws.{pick-one, pick-none}
+use Rattle.checking.proofs.one.Statement.{statement}
+use Rattle.checking.proofs.one.Tie as tie
+
+pub one-spec : {M : Type 1} → statement M
+one-spec =
+    tie.close
+    (tie.spec
+    (λ c. (search pick-one, omega arith))  -- returns
+    (λ c. (search pick-none, omega arith)))  -- returns-2

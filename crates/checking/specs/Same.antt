@@ -1,18 +1,21 @@
 -- What is read at a place, as a value, and whether two are the same.
-use Prim.Native.Nat.{ℕ}
+use Prim.Native.Nat.{ℕ, zero, suc}
 use mathlib.Core.Bool.{Bool, true, false}
 use mathlib.Core.List.{List, [], _∷_, _++_}
 use mathlib.Core.Option.{Option, none, some}
+use lib.Dec.{eqb}
 use lib.ListN.{drop}
-use Rattle.words.specs.Choice.{choose}
+use Rattle.words.specs.Choice.{pick, choose}
 use Rattle.typing.specs.Term.{Term, Effect, termWords, effectWords}
+use Rattle.typing.specs.Bag.{bag}
 use Rattle.typing.specs.Types.{Ty, Environment}
 use Rattle.typing.specs.Process.{Process}
-use Rattle.typing.specs.Reading.{Read, term, effectOf, effects, typeAt, environmentAt, processAt}
+use Rattle.typing.specs.Reading.{Read, joined, altered, term, effectOf, effects, typeAt, environmentAt, processAt}
 use Rattle.checking.specs.Behind.{restOf, At}
 pub mod Laws
 pub mod Effects
 pub mod Bags
+pub mod Types
 
 -- what was read; where nothing was, what is given here
 unfoldable pub valueOr : {A : Type 0} → A → Read A → A
@@ -39,3 +42,19 @@ test d = choose d true false
 unfoldable pub allTermWords : List Term → List ℕ
 allTermWords [] = []
 allTermWords (M ∷ Ms) = termWords M ++ allTermWords Ms
+
+-- a nonce's effects, where the words begin one
+unfoldable pub ownEffects : List ℕ → List Effect
+ownEffects [] = []
+ownEffects (c ∷ []) = []
+ownEffects (c ∷ n ∷ u) = pick (eqb c 5) (bag (valueOr [] (effects n u))) []
+
+-- types with one in front, or with the first put together, as its first word says
+unfoldable pub form : ℕ → List Effect → List Ty → List Ty
+form zero es l = []
+form (suc zero) es l = Ty.Un ∷ l
+form (suc (suc zero)) es l = joined Ty.pair l
+form (suc (suc (suc zero))) es l = altered Ty.channel l
+form (suc (suc (suc (suc zero)))) es l = altered Ty.symkey l
+form (suc (suc (suc (suc (suc zero))))) es l = Ty.nonce es ∷ l
+form (suc (suc (suc (suc (suc (suc c)))))) es l = []

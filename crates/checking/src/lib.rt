@@ -1,6 +1,7 @@
 // Derivations of authenticity types, in code. Here: where the things that words spell end.
 use words::wide;
 ghost use mathlib.Core.Path.{_≡_};
+ghost use mathlib.Core.Option.{some};
 ghost use Prim.Native.Nat.{_+_, _-_, _≤_, _<_};
 ghost use lib.Dec.{eqb, ltb};
 ghost use lib.ListN.{length, drop, take, getD};
@@ -8,11 +9,11 @@ ghost use Rattle.words.specs.Choice.{pick};
 ghost use Rattle.words.specs.Run.{run, sameWords};
 ghost use Rattle.typing.specs.Term.{sameTerm, sameEffect};
 ghost use Rattle.typing.specs.Bag.{bag, count};
-ghost use Rattle.typing.specs.Types.{sameEffects};
+ghost use Rattle.typing.specs.Types.{sameType, sameEffects};
 ghost use Rattle.typing.specs.Apart.{among, keepsApart};
 ghost use Rattle.typing.specs.Reading.{term, effectOf, effects, typeAt, environmentAt, processAt};
 ghost use Rattle.checking.specs.Behind.{At, Ends, restOf, termTurn, typeOwn, typeParts, processOwn, processParts};
-ghost use Rattle.checking.specs.Same.{termIn, effectIn, effectsIn, test};
+ghost use Rattle.checking.specs.Same.{termIn, effectIn, effectsIn, typeIn, test, ownEffects};
 ghost use Rattle.checking.specs.Bound.{processNames, times-in, bindersAt, namesIn, nameApart, allApart, Placed};
 ghost use Rattle.checking.specs.Behind.{skipTerm, skipType, skipEffects, times, skips};
 
@@ -525,7 +526,7 @@ fn one(so: bool) -> usize
 
 // How often the effect from b to f stands among the k effects from a to end.
 fn count_effect(u: &[u32], a: usize, k: usize, end: usize, v: &[u32], b: usize, f: usize) -> usize
-    requires { ⌜ (0 < a) × At (now u) a (restOf (effects k (drop a (now u)))) end × At (now v) b (restOf (effectOf (drop b (now v)))) f ⌝ }
+    requires { ⌜ (0 < a) × (restOf (effects k (drop a (now u))) ≡ some (drop end (now u))) × At (now v) b (restOf (effectOf (drop b (now v)))) f ⌝ }
     ensures { λ r. ⌜ r ≡ count (effectIn (now (v .entry)) b) (effectsIn (now (u .entry)) a k) ⌝ }
 {
     let mut i = a;
@@ -551,7 +552,7 @@ pub fn same_bag(
     l: usize,
     last: usize,
 ) -> bool
-    requires { ⌜ (0 < a) × (0 < b) × At (now u) a (restOf (effects k (drop a (now u)))) end × At (now v) b (restOf (effects l (drop b (now v)))) last ⌝ }
+    requires { ⌜ (0 < a) × (0 < b) × (restOf (effects k (drop a (now u))) ≡ some (drop end (now u))) × (restOf (effects l (drop b (now v))) ≡ some (drop last (now v))) ⌝ }
     ensures { λ r. ⌜ r ≡ test (sameEffects (bag (effectsIn (now (u .entry)) a k)) (bag (effectsIn (now (v .entry)) b l))) ⌝ }
 {
     if k != l {
@@ -568,6 +569,50 @@ pub fn same_bag(
         }
         i = e;
         j += 1;
+    }
+    true
+}
+
+// The types that begin at i and at j, with the same word, have the same effects of their own.
+fn same_own(u: &[u32], i: usize, own: usize, v: &[u32], j: usize, other: usize) -> bool
+    requires { ⌜ (i < length (now u)) × (j < length (now v)) × At (now u) (i + 1) (typeOwn (drop i (now u))) own × At (now v) (j + 1) (typeOwn (drop j (now v))) other × (getD (now u) i 0 ≡ getD (now v) j 0) ⌝ }
+    ensures { λ r. ⌜ r ≡ test (sameEffects (ownEffects (drop i (now (u .entry)))) (ownEffects (drop j (now (v .entry))))) ⌝ }
+{
+    if u[i] != 5 {
+        return true;
+    }
+    same_bag(
+        u,
+        i + 2,
+        wide(u[i + 1]),
+        own,
+        v,
+        j + 2,
+        wide(v[j + 1]),
+        other,
+    )
+}
+
+// The types from a to e and from b to f are the same. `due` types are still to come.
+pub fn same_type(u: &[u32], a: usize, e: usize, v: &[u32], b: usize, f: usize) -> bool
+    requires { ⌜ At (now u) a (restOf (typeAt (drop a (now u)))) e × At (now v) b (restOf (typeAt (drop b (now v)))) f ⌝ }
+    ensures { λ r. ⌜ r ≡ test (sameType (typeIn (now (u .entry)) a) (typeIn (now (v .entry)) b)) ⌝ }
+{
+    let mut i = a;
+    let mut j = b;
+    let mut due = 1;
+    while 0 < due {
+        let own = type_own(u, i);
+        let other = type_own(v, j);
+        if u[i] != v[j] {
+            return false;
+        }
+        if !same_own(u, i, own, v, j, other) {
+            return false;
+        }
+        due = due + type_parts(u[i]) - 1;
+        i = own;
+        j = other;
     }
     true
 }

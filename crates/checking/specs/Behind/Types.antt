@@ -111,7 +111,7 @@ module _ (w : List ℕ) (i : ℕ) (l : i < length w) where
       ]
 
 -- ---- types
-types-stop : (f t : ℕ) (u : List ℕ) → typeOwn u ≡ none → restOf (types (suc f) (suc t) u) ≡ none
+pub types-stop : (f t : ℕ) (u : List ℕ) → typeOwn u ≡ none → restOf (types (suc f) (suc t) u) ≡ none
 unfolding types typeOwn restOf withEffects
 types-stop f t [] e = refl
 types-stop f t (zero ∷ u) e = refl
@@ -135,7 +135,7 @@ plus-one t = omega arith
 plus-two : (t : ℕ) → t + 2 ≡ suc (suc t)
 plus-two t = omega arith
 
-types-go : (f t c : ℕ) (u v : List ℕ) → typeOwn (c ∷ u) ≡ some v → restOf (types (suc f) (suc t) (c ∷ u)) ≡ restOf (types f (t + typeParts c) v)
+pub types-go : (f t c : ℕ) (u v : List ℕ) → typeOwn (c ∷ u) ≡ some v → restOf (types (suc f) (suc t) (c ∷ u)) ≡ restOf (types f (t + typeParts c) v)
 unfolding types typeOwn typeParts withEffects
 types-go f t zero u v e = absurd (let z : _≡_ {A = ℕ} 0 1 = cc in omega arith)
 types-go f t (suc zero) u v e = rest-ahead Ty.Un (types f t u) ∙ rw (← one-of e, plus-zero t)
@@ -147,7 +147,7 @@ types-go f t (suc (suc (suc (suc (suc zero))))) (n ∷ u) v e =
     then-some (effects n u) _ v _ e (λ es. rest-ahead (Ty.nonce (bag es)) (types f t v) ∙ rw (plus-zero t))
 types-go f t (suc (suc (suc (suc (suc (suc c)))))) u v e = absurd (let z : _≡_ {A = ℕ} 0 1 = cc in omega arith)
 
-types-counted : (f t : ℕ) (u : List ℕ) → Counted t (types f t u)
+pub types-counted : (f t : ℕ) (u : List ℕ) → Counted t (types f t u)
 unfolding types withEffects
 types-counted zero zero u = counted-zero u
 types-counted (suc f) zero u = counted-zero u
@@ -163,16 +163,16 @@ types-counted (suc f) (suc t) (suc (suc (suc (suc (suc zero)))) ∷ n ∷ u) =
     counted-then (effects n u) _ (suc t) (λ p. counted-ahead (Ty.nonce (bag (p .0))) t (types f t (p .1)) (types-counted f t (p .1)))
 types-counted (suc f) (suc t) (suc (suc (suc (suc (suc (suc c))))) ∷ u) = counted-none (suc t)
 
-rest-type : (u : List ℕ) → restOf (typeAt u) ≡ restOf (types (length u) 1 u)
+pub rest-type : (u : List ℕ) → restOf (typeAt u) ≡ restOf (types (length u) 1 u)
 unfolding typeAt
 rest-type u = rest-only (types (length u) 1 u) (types-counted (length u) 1 u)
 
-types-zero : (f : ℕ) (u : List ℕ) → restOf (types f 0 u) ≡ some u
+pub types-zero : (f : ℕ) (u : List ℕ) → restOf (types f 0 u) ≡ some u
 unfolding types restOf
 types-zero zero u = refl
 types-zero (suc f) u = refl
 
-empty : (f t : ℕ) → restOf (types f (suc t) []) ≡ none
+pub empty : (f t : ℕ) → restOf (types f (suc t) []) ≡ none
 unfolding types restOf
 empty zero t = refl
 empty (suc f) t = refl

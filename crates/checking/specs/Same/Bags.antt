@@ -64,9 +64,9 @@ pub record Tally (u : List ℕ) (a k end : ℕ) (x : Effect) (i j n : ℕ) : Typ
 sub-zero : (k : ℕ) → k - 0 ≡ k
 sub-zero k = omega arith
 
-pub tally-begin : (u : List ℕ) (a k end : ℕ) (x : Effect) → At u a (restOf (effects k (drop a u))) end → 0 < a → Tally u a k end x a 0 0
+pub tally-begin : (u : List ℕ) (a k end : ℕ) (x : Effect) → restOf (effects k (drop a u)) ≡ some (drop end u) → 0 < a → Tally u a k end x a 0 0
 tally-begin u a k end x h l =
-    record { along = record { reads = rw (sub-zero k) (h .rest); low = l }; sum = rw (sub-zero k) (omega arith); few = omega arith; small = omega arith }
+    record { along = record { reads = rw (sub-zero k) h; low = l }; sum = rw (sub-zero k) (omega arith); few = omega arith; small = omega arith }
 
 module _ (u : List ℕ) (a k end : ℕ) (x : Effect) (i j n : ℕ) (t : Tally u a k end x i j n) where
   due : j < k → 0 < k - j
@@ -120,11 +120,11 @@ pub record Weighing (u : List ℕ) (a k : ℕ) (v : List ℕ) (b l fin i j : ℕ
   pub few : j ≤ l
   pub passed : (x : Effect) → 0 < count x (effectsIn v b l) → (count x (effectsIn u a k) ≡ count x (effectsIn v b l)) ⊎ (0 < count x (effectsIn v i (l - j)))
 
-pub weighing-begin : (u : List ℕ) (a k : ℕ) (v : List ℕ) (b l fin : ℕ) → At v b (restOf (effects l (drop b v))) fin → 0 < b → Weighing u a k v b l fin b 0
+pub weighing-begin : (u : List ℕ) (a k : ℕ) (v : List ℕ) (b l fin : ℕ) → restOf (effects l (drop b v)) ≡ some (drop fin v) → 0 < b → Weighing u a k v b l fin b 0
 weighing-begin u a k v b l fin h lo =
-    record { along = record { reads = rw (sub-zero l) (h .rest); low = lo }; few = omega arith; passed = λ x c. inr (rw (sub-zero l) c) }
+    record { along = record { reads = rw (sub-zero l) h; low = lo }; few = omega arith; passed = λ x c. inr (rw (sub-zero l) c) }
 
-module _ (u : List ℕ) (a k end : ℕ) (v : List ℕ) (b l fin : ℕ) (s : At u a (restOf (effects k (drop a u))) end) (w : At v b (restOf (effects l (drop b v))) fin) where
+module _ (u : List ℕ) (a k end : ℕ) (v : List ℕ) (b l fin : ℕ) (s : restOf (effects k (drop a u)) ≡ some (drop end u)) (w : restOf (effects l (drop b v)) ≡ some (drop fin v)) where
   pub bags-differ : (x : Effect) (m n : ℕ) → m ≡ count x (effectsIn u a k) → n ≡ count x (effectsIn v b l) → (m ≡ n → ⊥)
       → false ≡ test (sameEffects (bag (effectsIn u a k)) (bag (effectsIn v b l)))
   bags-differ x m n e f d =
@@ -182,8 +182,8 @@ length-same (e ∷ es) fs h =
     ap suc r ∙ sym (remove-length e fs there)
 
 -- lists of two lengths are never one multiset
-pub bags-lengths : (u : List ℕ) (a k end : ℕ) (v : List ℕ) (b l fin : ℕ) → At u a (restOf (effects k (drop a u))) end
-    → At v b (restOf (effects l (drop b v))) fin → (k ≡ l → ⊥) → false ≡ test (sameEffects (bag (effectsIn u a k)) (bag (effectsIn v b l)))
+pub bags-lengths : (u : List ℕ) (a k end : ℕ) (v : List ℕ) (b l fin : ℕ) → restOf (effects k (drop a u)) ≡ some (drop end u)
+    → restOf (effects l (drop b v)) ≡ some (drop fin v) → (k ≡ l → ⊥) → false ≡ test (sameEffects (bag (effectsIn u a k)) (bag (effectsIn v b l)))
 bags-lengths u a k end v b l fin s w d =
     sym (test-no (sameEffects (bag (effectsIn u a k)) (bag (effectsIn v b l)))
     (λ h. d (sym (list-length u a k end s) ∙ length-same (effectsIn u a k) (effectsIn v b l) (bag-same (effectsIn u a k) (effectsIn v b l) .0 h) ∙ list-length v b l fin w)))

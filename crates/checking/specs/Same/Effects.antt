@@ -186,6 +186,6 @@ effects-length (suc m) u z e =
     let f = first-of m u z e in
     ap length (f .list) ∙ ap suc (effects-length m (f .behind) z (f .others))
 
-pub list-length : (w : List ℕ) (a k end : ℕ) → At w a (restOf (effects k (drop a w))) end → length (effectsIn w a k) ≡ k
+pub list-length : (w : List ℕ) (a k end : ℕ) → restOf (effects k (drop a w)) ≡ some (drop end w) → length (effectsIn w a k) ≡ k
 unfolding effectsIn
-list-length w a k end b = effects-length k (drop a w) (drop end w) (b .rest)
+list-length w a k end b = effects-length k (drop a w) (drop end w) b

@@ -39,6 +39,11 @@ pub test-no : {P : Type 0} (d : Dec P) → (P → ⊥) → test d ≡ false
 unfolding test
 test-no d p = choose-no d true false p
 
+pub test-true : {P : Type 0} (d : Dec P) → test d ≡ true → P
+unfolding test choose
+test-true (yes p) e = p
+test-true (no p) e = absurd (true≢false (sym e))
+
 -- ---- terms are spelled by their words
 Spelled : Read (List Term) → List ℕ → Type 0
 Spelled r u = (l : List Term) (v : List ℕ) → r ≡ some (l, v) → u ≡ allTermWords l ++ v

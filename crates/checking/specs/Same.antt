@@ -16,6 +16,7 @@ pub mod Laws
 pub mod Effects
 pub mod Bags
 pub mod Types
+pub mod Environments
 
 -- what was read; where nothing was, what is given here
 unfoldable pub valueOr : {A : Type 0} → A → Read A → A
@@ -33,6 +34,9 @@ effectsIn w a k = valueOr [] (effects k (drop a w))
 
 unfoldable pub typeIn : List ℕ → ℕ → Ty
 typeIn w a = valueOr Ty.Un (typeAt (drop a w))
+
+unfoldable pub environmentIn : List ℕ → ℕ → Environment
+environmentIn w a = valueOr [] (environmentAt (drop a w))
 
 -- a decision as a test
 unfoldable pub test : {P : Type 0} → Dec P → Bool

@@ -9,11 +9,11 @@ ghost use Rattle.words.specs.Choice.{pick};
 ghost use Rattle.words.specs.Run.{run, sameWords};
 ghost use Rattle.typing.specs.Term.{sameTerm, sameEffect};
 ghost use Rattle.typing.specs.Bag.{bag, count};
-ghost use Rattle.typing.specs.Types.{sameType, sameEffects};
+ghost use Rattle.typing.specs.Types.{sameType, sameEffects, sameEnvironment};
 ghost use Rattle.typing.specs.Apart.{among, keepsApart};
 ghost use Rattle.typing.specs.Reading.{term, effectOf, effects, typeAt, environmentAt, processAt};
 ghost use Rattle.checking.specs.Behind.{At, Ends, restOf, termTurn, typeOwn, typeParts, processOwn, processParts};
-ghost use Rattle.checking.specs.Same.{termIn, effectIn, effectsIn, typeIn, test, ownEffects};
+ghost use Rattle.checking.specs.Same.{termIn, effectIn, effectsIn, typeIn, environmentIn, test, ownEffects};
 ghost use Rattle.checking.specs.Bound.{processNames, times-in, bindersAt, namesIn, nameApart, allApart, Placed};
 ghost use Rattle.checking.specs.Behind.{skipTerm, skipType, skipEffects, times, skips};
 
@@ -615,4 +615,32 @@ pub fn same_type(u: &[u32], a: usize, e: usize, v: &[u32], b: usize, f: usize) -
         j = other;
     }
     true
+}
+
+// The environments from a to e and from b to f are the same.
+pub fn same_environment(u: &[u32], a: usize, e: usize, v: &[u32], b: usize, f: usize) -> bool
+    requires { ⌜ At (now u) a (restOf (environmentAt (drop a (now u)))) e × At (now v) b (restOf (environmentAt (drop b (now v)))) f ⌝ }
+    ensures { λ r. ⌜ r ≡ test (sameEnvironment (environmentIn (now (u .entry)) a) (environmentIn (now (v .entry)) b)) ⌝ }
+{
+    let mut i = a;
+    let mut j = b;
+    while i < u.len() {
+        if u[i] != v[j] {
+            return false;
+        }
+        if u[i] == 1 {
+            return true;
+        }
+        let own = type_end(u, i + 2);
+        let other = type_end(v, j + 2);
+        if u[i + 1] != v[j + 1] {
+            return false;
+        }
+        if !same_type(u, i + 2, own, v, j + 2, other) {
+            return false;
+        }
+        i = own;
+        j = other;
+    }
+    false
 }

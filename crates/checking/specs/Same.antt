@@ -1,6 +1,6 @@
 -- What is read at a place, as a value, and whether two are the same.
 use Prim.Native.Nat.{ℕ, zero, suc}
-use mathlib.Core.Bool.{Bool, true, false}
+use mathlib.Core.Bool.{Bool, true, false, _&&_, _||_}
 use mathlib.Core.List.{List, [], _∷_, _++_}
 use mathlib.Core.Option.{Option, none, some}
 use lib.Dec.{eqb}
@@ -17,6 +17,7 @@ pub mod Effects
 pub mod Bags
 pub mod Types
 pub mod Environments
+pub mod Leaves
 
 -- what was read; where nothing was, what is given here
 unfoldable pub valueOr : {A : Type 0} → A → Read A → A
@@ -62,3 +63,21 @@ form (suc (suc (suc zero))) es l = altered Ty.channel l
 form (suc (suc (suc (suc zero)))) es l = altered Ty.symkey l
 form (suc (suc (suc (suc (suc zero))))) es l = Ty.nonce es ∷ l
 form (suc (suc (suc (suc (suc (suc c)))))) es l = []
+
+-- some leaf of a term, a name with 1 and a variable with 4, is of a kind
+unfoldable pub anyLeaf : (ℕ → ℕ → Bool) → Term → Bool
+anyLeaf p (Term.name n) = p 1 n
+anyLeaf p (Term.bound k) = p 4 k
+anyLeaf p (Term.pair M N) = anyLeaf p M || anyLeaf p N
+anyLeaf p (Term.cipher M N) = anyLeaf p M || anyLeaf p N
+
+unfoldable pub anyLeaves : (ℕ → ℕ → Bool) → List Term → Bool
+anyLeaves p [] = false
+anyLeaves p (M ∷ Ms) = anyLeaf p M || anyLeaves p Ms
+
+-- the name x; a variable
+unfoldable pub isName : ℕ → ℕ → ℕ → Bool
+isName x c n = eqb c 1 && eqb n x
+
+unfoldable pub isBound : ℕ → ℕ → Bool
+isBound c n = eqb c 4

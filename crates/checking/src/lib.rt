@@ -7,13 +7,13 @@ ghost use lib.Dec.{eqb, ltb};
 ghost use lib.ListN.{length, drop, take, getD};
 ghost use Rattle.words.specs.Choice.{pick};
 ghost use Rattle.words.specs.Run.{run, sameWords};
-ghost use Rattle.typing.specs.Term.{sameTerm, sameEffect};
+ghost use Rattle.typing.specs.Term.{sameTerm, sameEffect, closed, occurs, mentions};
 ghost use Rattle.typing.specs.Bag.{bag, count};
 ghost use Rattle.typing.specs.Types.{sameType, sameEffects, sameEnvironment};
 ghost use Rattle.typing.specs.Apart.{among, keepsApart};
 ghost use Rattle.typing.specs.Reading.{term, effectOf, effects, typeAt, environmentAt, processAt};
 ghost use Rattle.checking.specs.Behind.{At, Ends, restOf, termTurn, typeOwn, typeParts, processOwn, processParts};
-ghost use Rattle.checking.specs.Same.{termIn, effectIn, effectsIn, typeIn, environmentIn, test, ownEffects};
+ghost use Rattle.checking.specs.Same.{termIn, effectIn, effectsIn, typeIn, environmentIn, test, ownEffects, isName};
 ghost use Rattle.checking.specs.Bound.{processNames, times-in, bindersAt, namesIn, nameApart, allApart, Placed};
 ghost use Rattle.checking.specs.Behind.{skipTerm, skipType, skipEffects, times, skips};
 
@@ -643,4 +643,51 @@ pub fn same_environment(u: &[u32], a: usize, e: usize, v: &[u32], b: usize, f: u
         j = other;
     }
     false
+}
+
+// The name x stands at i.
+fn is_name(w: &[u32], i: usize, x: u32) -> bool
+    requires { ⌜ (i < length (now w)) × (getD (now w) i 0 ≡ 1 → i + 1 < length (now w)) ⌝ }
+    ensures { λ r. ⌜ r ≡ isName x (getD (now (w .entry)) i 0) (getD (now (w .entry)) (i + 1) 0) ⌝ }
+{
+    if w[i] != 1 {
+        return false;
+    }
+    w[i + 1] == x
+}
+
+// The name x is one of those of the term from a to end.
+pub fn term_mentions(w: &[u32], a: usize, end: usize, x: u32) -> bool
+    requires { ⌜ At (now w) a (restOf (term (drop a (now w)))) end ⌝ }
+    ensures { λ r. ⌜ r ≡ occurs x (termIn (now (w .entry)) a) ⌝ }
+{
+    let mut i = a;
+    let mut due = 1;
+    while 0 < due {
+        if is_name(w, i, x) {
+            return true;
+        }
+        let turn = term_turn(w[i]);
+        due = due + 2 * turn - 3;
+        i = i + 3 - turn;
+    }
+    false
+}
+
+// No pair type's own variable stands in the term from a to end.
+pub fn term_closed(w: &[u32], a: usize, end: usize) -> bool
+    requires { ⌜ At (now w) a (restOf (term (drop a (now w)))) end ⌝ }
+    ensures { λ r. ⌜ r ≡ closed (termIn (now (w .entry)) a) ⌝ }
+{
+    let mut i = a;
+    let mut due = 1;
+    while 0 < due {
+        if w[i] == 4 {
+            return false;
+        }
+        let turn = term_turn(w[i]);
+        due = due + 2 * turn - 3;
+        i = i + 3 - turn;
+    }
+    true
 }

@@ -39,7 +39,7 @@ ends-nothing w a o e = inl (record { zero = refl; none = e })
 
 -- ---- terms
 -- the first word of a term
-terms-nothing : (c m : ℕ) (u : List ℕ) → termTurn c ≡ 0 → restOf (terms (c ∷ u) (suc m)) ≡ none
+pub terms-nothing : (c m : ℕ) (u : List ℕ) → termTurn c ≡ 0 → restOf (terms (c ∷ u) (suc m)) ≡ none
 unfolding terms termTurn restOf
 terms-nothing zero m u e = refl
 terms-nothing (suc zero) m u e = absurd (omega arith)
@@ -48,7 +48,7 @@ terms-nothing (suc (suc (suc zero))) m u e = absurd (omega arith)
 terms-nothing (suc (suc (suc (suc zero)))) m u e = absurd (omega arith)
 terms-nothing (suc (suc (suc (suc (suc c))))) m u e = refl
 
-terms-two : (c m : ℕ) (u : List ℕ) → termTurn c ≡ 2 → restOf (terms (c ∷ u) (suc m)) ≡ restOf (terms u (suc (suc m)))
+pub terms-two : (c m : ℕ) (u : List ℕ) → termTurn c ≡ 2 → restOf (terms (c ∷ u) (suc m)) ≡ restOf (terms u (suc (suc m)))
 unfolding terms termTurn
 terms-two zero m u e = absurd (omega arith)
 terms-two (suc zero) m u e = absurd (omega arith)
@@ -57,7 +57,7 @@ terms-two (suc (suc (suc zero))) m u e = rest-after _ _
 terms-two (suc (suc (suc (suc zero)))) m u e = absurd (omega arith)
 terms-two (suc (suc (suc (suc (suc c))))) m u e = absurd (omega arith)
 
-terms-one : (c m n : ℕ) (u : List ℕ) → termTurn c ≡ 1 → restOf (terms (c ∷ n ∷ u) (suc m)) ≡ restOf (terms u m)
+pub terms-one : (c m n : ℕ) (u : List ℕ) → termTurn c ≡ 1 → restOf (terms (c ∷ n ∷ u) (suc m)) ≡ restOf (terms u m)
 unfolding terms termTurn
 terms-one zero m n u e = absurd (omega arith)
 terms-one (suc zero) m n u e = rest-ahead _ _
@@ -66,7 +66,7 @@ terms-one (suc (suc (suc zero))) m n u e = absurd (omega arith)
 terms-one (suc (suc (suc (suc zero)))) m n u e = rest-ahead _ _
 terms-one (suc (suc (suc (suc (suc c))))) m n u e = absurd (omega arith)
 
-terms-cut : (c m : ℕ) → termTurn c ≡ 1 → restOf (terms (c ∷ []) (suc m)) ≡ none
+pub terms-cut : (c m : ℕ) → termTurn c ≡ 1 → restOf (terms (c ∷ []) (suc m)) ≡ none
 unfolding terms termTurn restOf
 terms-cut zero m e = absurd (omega arith)
 terms-cut (suc zero) m e = refl
@@ -75,7 +75,7 @@ terms-cut (suc (suc (suc zero))) m e = absurd (omega arith)
 terms-cut (suc (suc (suc (suc zero)))) m e = refl
 terms-cut (suc (suc (suc (suc (suc c))))) m e = absurd (omega arith)
 
-terms-empty : (m : ℕ) → restOf (terms [] (suc m)) ≡ none
+pub terms-empty : (m : ℕ) → restOf (terms [] (suc m)) ≡ none
 unfolding terms restOf
 terms-empty m = refl
 
@@ -208,16 +208,16 @@ pub record Terms (w : List ℕ) (a i due : ℕ) : Type 0 where
 pub terms-begin : (w : List ℕ) (a : ℕ) → Terms w a a 1
 terms-begin w a = record { same = refl; few = omega arith; after = omega arith; inside = λ e. absurd (omega arith) }
 
-due-more : (due n : ℕ) → n ≡ 2 → 0 < due → due + 2 * n - 3 ≡ suc (suc (due - 1))
+pub due-more : (due n : ℕ) → n ≡ 2 → 0 < due → due + 2 * n - 3 ≡ suc (suc (due - 1))
 due-more due n e l = omega arith
 
-due-less : (due n : ℕ) → n ≡ 1 → 0 < due → due + 2 * n - 3 ≡ due - 1
+pub due-less : (due n : ℕ) → n ≡ 1 → 0 < due → due + 2 * n - 3 ≡ due - 1
 due-less due n e l = omega arith
 
-few-more : (due i : ℕ) → due ≤ i + 1 → 0 < due → suc (suc (due - 1)) ≤ suc i + 1
+pub few-more : (due i : ℕ) → due ≤ i + 1 → 0 < due → suc (suc (due - 1)) ≤ suc i + 1
 few-more due i h l = omega arith
 
-few-less : (due i : ℕ) → due ≤ i + 1 → due - 1 ≤ suc (suc i) + 1
+pub few-less : (due i : ℕ) → due ≤ i + 1 → due - 1 ≤ suc (suc i) + 1
 few-less due i h = omega arith
 
 module _ (w : List ℕ) (a i due : ℕ) (t : Terms w a i due) where

@@ -18,6 +18,7 @@ pub mod Bags
 pub mod Types
 pub mod Environments
 pub mod Leaves
+pub mod Mentions
 
 -- what was read; where nothing was, what is given here
 unfoldable pub valueOr : {A : Type 0} → A → Read A → A

@@ -691,3 +691,21 @@ pub fn term_closed(w: &[u32], a: usize, end: usize) -> bool
     }
     true
 }
+
+// The name x is one of those of the k effects from a to end.
+pub fn effects_mention(w: &[u32], a: usize, k: usize, end: usize, x: u32) -> bool
+    requires { ⌜ (0 < a) × (restOf (effects k (drop a (now w))) ≡ some (drop end (now w))) ⌝ }
+    ensures { λ r. ⌜ r ≡ mentions x (effectsIn (now (w .entry)) a k) ⌝ }
+{
+    let mut i = a;
+    let mut j = 0;
+    while j < k {
+        let e = term_end(w, i + 1);
+        if term_mentions(w, i + 1, e, x) {
+            return true;
+        }
+        i = e;
+        j += 1;
+    }
+    false
+}

@@ -155,6 +155,11 @@ module _ (w : List ℕ) (end m i : ℕ) (t : Along w end m i) where
         rest = head-rest h ∙ sym (term-there h) ∙ b .rest;
       }
 
+  -- its term is there
+  pub along-term : 0 < m → (r : ℕ) → Ends w (i + 1) (restOf (term (drop (i + 1) w))) r → At w (i + 1) (restOf (term (drop (i + 1) w))) r
+  along-term h r (inl n) = absurd (let y : none ≡ some (head h .behind) = sym (n .none) ∙ term-there h in let z : _≡_ {A = ℕ} 0 1 = cc in omega arith)
+  along-term h r (inr b) = b
+
   behind-is : (h : 0 < m) (r : ℕ) → At w i (restOf (effectOf (drop i w))) r → head h .behind ≡ drop r w
   behind-is h r b = let e : some (head h .behind) ≡ some (drop r w) = sym (head-rest h) ∙ b .rest in cc
 

@@ -19,6 +19,7 @@ pub mod Types
 pub mod Environments
 pub mod Leaves
 pub mod Mentions
+pub mod Stands
 
 -- what was read; where nothing was, what is given here
 unfoldable pub valueOr : {A : Type 0} → A → Read A → A

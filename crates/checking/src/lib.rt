@@ -9,7 +9,8 @@ ghost use Rattle.words.specs.Choice.{pick};
 ghost use Rattle.words.specs.Run.{run, sameWords};
 ghost use Rattle.typing.specs.Term.{sameTerm, sameEffect, closed, occurs, mentions};
 ghost use Rattle.typing.specs.Bag.{bag, count};
-ghost use Rattle.typing.specs.Types.{sameType, sameEffects, sameEnvironment};
+ghost use Rattle.typing.specs.Types.{sameType, sameEffects, sameEnvironment, sameEntry, _⦂_};
+ghost use Rattle.typing.specs.Check.{stands};
 ghost use Rattle.typing.specs.Apart.{among, keepsApart};
 ghost use Rattle.typing.specs.Reading.{term, effectOf, effects, typeAt, environmentAt, processAt};
 ghost use Rattle.checking.specs.Behind.{At, Ends, restOf, termTurn, typeOwn, typeParts, processOwn, processParts};
@@ -706,6 +707,36 @@ pub fn effects_mention(w: &[u32], a: usize, k: usize, end: usize, x: u32) -> boo
         }
         i = e;
         j += 1;
+    }
+    false
+}
+
+// The entry at i, whose type ends at own, is x with the type from b to f.
+fn is_entry(w: &[u32], i: usize, own: usize, x: u32, v: &[u32], b: usize, f: usize) -> bool
+    requires { ⌜ (i + 1 < length (now w)) × At (now w) (i + 2) (restOf (typeAt (drop (i + 2) (now w)))) own × At (now v) b (restOf (typeAt (drop b (now v)))) f ⌝ }
+    ensures { λ r. ⌜ r ≡ test (sameEntry (x ⦂ typeIn (now (v .entry)) b) (getD (now (w .entry)) (i + 1) 0 ⦂ typeIn (now (w .entry)) (i + 2))) ⌝ }
+{
+    if w[i + 1] != x {
+        return false;
+    }
+    same_type(w, i + 2, own, v, b, f)
+}
+
+// The entry x with the type from b to f stands in the environment from a to e.
+pub fn entry_stands(w: &[u32], a: usize, e: usize, x: u32, v: &[u32], b: usize, f: usize) -> bool
+    requires { ⌜ At (now w) a (restOf (environmentAt (drop a (now w)))) e × At (now v) b (restOf (typeAt (drop b (now v)))) f ⌝ }
+    ensures { λ r. ⌜ r ≡ stands (x ⦂ typeIn (now (v .entry)) b) (environmentIn (now (w .entry)) a) ⌝ }
+{
+    let mut i = a;
+    while i < w.len() {
+        if w[i] == 1 {
+            return false;
+        }
+        let own = type_end(w, i + 2);
+        if is_entry(w, i, own, x, v, b, f) {
+            return true;
+        }
+        i = own;
     }
     false
 }

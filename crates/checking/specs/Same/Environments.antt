@@ -52,11 +52,11 @@ pub record Along (w : List ℕ) (end i : ℕ) : Type 0 where
 pub listOf : (w : List ℕ) (end i : ℕ) → Along w end i → Environment
 listOf w end i t = valueOr [] (entries (t .fuel) (drop i w))
 
-along-begin : (w : List ℕ) (a end : ℕ) → At w a (restOf (environmentAt (drop a w))) end → Along w end a
+pub along-begin : (w : List ℕ) (a end : ℕ) → At w a (restOf (environmentAt (drop a w))) end → Along w end a
 unfolding environmentAt
 along-begin w a end h = record { fuel = length (drop a w); enough = omega (arith, length-drop a w); reads = h .rest }
 
-begin-list : (w : List ℕ) (a end : ℕ) (h : At w a (restOf (environmentAt (drop a w))) end) → listOf w end a (along-begin w a end h) ≡ environmentIn w a
+pub begin-list : (w : List ℕ) (a end : ℕ) (h : At w a (restOf (environmentAt (drop a w))) end) → listOf w end a (along-begin w a end h) ≡ environmentIn w a
 unfolding listOf along-begin environmentIn environmentAt
 begin-list w a end h = refl
 

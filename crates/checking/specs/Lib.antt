@@ -1,3 +1,4 @@
 pub mod Behind
 pub mod Bound
 pub mod Same
+pub mod Large

@@ -14,6 +14,7 @@ ghost use Rattle.typing.specs.Check.{stands};
 ghost use Rattle.typing.specs.Apart.{among, keepsApart};
 ghost use Rattle.typing.specs.Reading.{term, effectOf, effects, typeAt, environmentAt, processAt};
 ghost use Rattle.checking.specs.Behind.{At, Ends, restOf, termTurn, typeOwn, typeParts, processOwn, processParts};
+ghost use Rattle.checking.specs.Large.{tooLarge};
 ghost use Rattle.checking.specs.Same.{termIn, effectIn, effectsIn, typeIn, environmentIn, test, ownEffects, isName};
 ghost use Rattle.checking.specs.Bound.{processNames, times-in, bindersAt, namesIn, nameApart, allApart, Placed};
 ghost use Rattle.checking.specs.Behind.{skipTerm, skipType, skipEffects, times, skips};
@@ -739,4 +740,35 @@ pub fn entry_stands(w: &[u32], a: usize, e: usize, x: u32, v: &[u32], b: usize, 
         i = own;
     }
     false
+}
+
+// The word at i; 0 past the end.
+fn word(w: &[u32], i: usize) -> u32
+    ensures { λ r. ⌜ r ≡ getD (now (w .entry)) i 0 ⌝ }
+{
+    if i < w.len() {
+        return w[i];
+    }
+    0
+}
+
+// Refusal 24: the number of lines where it is too large, else the number of effects of the smallest line that has too many; 0 where
+// none is too large.
+pub fn too_large(w: &[u32]) -> u32
+    ensures { λ r. ⌜ r ≡ tooLarge (now (w .entry)) ⌝ }
+{
+    let lines = word(w, 0);
+    if 1024 < lines {
+        return lines;
+    }
+    let n = wide(lines);
+    let mut i = 0;
+    while i < n {
+        let effects = word(w, 9 * i + 9);
+        if 64 < effects {
+            return effects;
+        }
+        i += 1;
+    }
+    0
 }

@@ -13,6 +13,16 @@ Inv-loop w p end x i₀ due₀ n₀ i due n = Counting w p end x i due n
 abbrev μ-loop : tie.MeasureT-loop
 μ-loop w p end x i₀ due₀ n₀ i due n = length w - i
 
+-- x is bound a second time
+returns : tie.Need-returns Inv-loop μ-loop
+returns c =
+    let after-same-names : tie.After-same-names Inv-loop μ-loop = search in
+    let after-process-own : tie.After-process-own Inv-loop μ-loop = search in
+    let in-loop : tie.In-loop Inv-loop μ-loop = search in
+    let at-loop : tie.At-loop Inv-loop μ-loop = search in
+    counting-twice _ _ _ _ _ _ _ (at-loop .loop .inv) (in-loop .loop-test .taken) _ (after-process-own .process-own .ensures) _
+    (after-same-names .same-names .ensures .0) (c .if1 .taken)
+
 mul-process-parts : tie.Need-mul-process-parts Inv-loop μ-loop
 mul-process-parts c =
     let in-loop : tie.In-loop Inv-loop μ-loop = search in
@@ -62,7 +72,7 @@ bound-twice-spec =
     (λ c κs. search counting-inside)  -- process-own-requires
     (λ c κs. search counting-names)  -- same-names-requires
     (λ c. omega arith)  -- add-if1
-    (λ c. search counting-twice)  -- returns
+    returns
     (λ c. omega arith)  -- add-n
     mul-process-parts
     shared-slice-read-process-parts

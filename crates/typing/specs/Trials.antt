@@ -285,6 +285,7 @@ unfolding then whole holds ahead joined altered after terms only term effectOf e
 aparts [] = []
 aparts (a ∷ l) = keepsApart a ∷ aparts l
 
-pub aparts-hold : aparts (labels-asked ∷ handshake-asked ∷ dependent-asked ∷ shadowed-asked ∷ [] ∷ []) ≡ true ∷ true ∷ true ∷ false ∷ false ∷ []
+pub aparts-hold : aparts (labels-asked ∷ handshake-asked ∷ dependent-asked ∷ shadowed-asked ∷ [] ∷ []) ≡ true ∷ true ∷ true ∷ false ∷ false
+    ∷ []
 unfolding aparts labels-asked handshake-asked dependent-asked shadowed-asked
 aparts-hold = refl

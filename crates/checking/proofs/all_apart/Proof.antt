@@ -49,7 +49,8 @@ loop-less c =
     let after-process-own : tie.After-process-own Inv-loop μ-loop = search in
     let in-loop : tie.In-loop Inv-loop μ-loop = search in
     let at-loop : tie.At-loop Inv-loop μ-loop = search in
-    let own = passing-own _ _ _ _ _ (at-loop .loop .inv) (in-loop .loop-test .taken) _ (after-process-own .process-own .ensures) in
+    let own = passing-own _ _ _ _ _ (at-loop .loop .inv) (in-loop .loop-test .taken) _
+    (after-process-own .process-own .ensures) in
     omega (arith, own .after, own .inside)
 
 pub all-apart-spec : {M : Type 1} → statement M

@@ -20,7 +20,8 @@ returns c =
     let after-process-own : tie.After-process-own Inv-loop μ-loop = search in
     let in-loop : tie.In-loop Inv-loop μ-loop = search in
     let at-loop : tie.At-loop Inv-loop μ-loop = search in
-    counting-twice _ _ _ _ _ _ _ (at-loop .loop .inv) (in-loop .loop-test .taken) _ (after-process-own .process-own .ensures) _
+    counting-twice _ _ _ _ _ _ _ (at-loop .loop .inv) (in-loop .loop-test .taken) _
+    (after-process-own .process-own .ensures) _
     (after-same-names .same-names .ensures .0) (c .if1 .taken)
 
 mul-process-parts : tie.Need-mul-process-parts Inv-loop μ-loop
@@ -59,7 +60,8 @@ loop-less c =
     let after-process-own : tie.After-process-own Inv-loop μ-loop = search in
     let in-loop : tie.In-loop Inv-loop μ-loop = search in
     let at-loop : tie.At-loop Inv-loop μ-loop = search in
-    let own = counting-own _ _ _ _ _ _ _ (at-loop .loop .inv) (in-loop .loop-test .taken) _ (after-process-own .process-own .ensures) in
+    let own = counting-own _ _ _ _ _ _ _ (at-loop .loop .inv) (in-loop .loop-test .taken) _
+    (after-process-own .process-own .ensures) in
     omega (arith, own .after, own .inside)
 
 pub bound-twice-spec : {M : Type 1} → statement M

@@ -25,8 +25,11 @@ same-effect-requires c κs =
     let after-term-end : tie.After-term-end Inv-loop μ-loop = search in
     let in-loop : tie.In-loop Inv-loop μ-loop = search in
     let at-loop : tie.At-loop Inv-loop μ-loop = search in
-    let start : tie.Start Inv-loop μ-loop = search in
-    (tally-end _ _ _ _ _ _ _ _ (at-loop .loop .inv) (in-loop .loop-test .taken) _ (after-term-end .term-end .ensures), start .pre .2)
+    let start : tie.Start Inv-loop μ-loop = search in (
+      tally-end _ _ _ _ _ _ _ _ (at-loop .loop .inv) (in-loop .loop-test .taken) _
+          (after-term-end .term-end .ensures),
+      start .pre .2,
+    )
 
 pub count-effect-spec : {M : Type 1} → statement M
 count-effect-spec =

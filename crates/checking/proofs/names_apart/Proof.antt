@@ -11,7 +11,8 @@ returns-2 c =
     let else1 : tie.Else1 = search in
     let after-process-names : tie.After-process-names = search in
     let start : tie.Start = search in
-    names-apart-first (start .args .w .now) _ _ _ _ (after-process-names .process-names .ensures .0) (start .pre .1) (else1 .if1 .left)
+    names-apart-first (start .args .w .now) _ _ _ _ (after-process-names .process-names .ensures .0) (start .pre .1)
+    (else1 .if1 .left)
     (after-process-names .process-names .ensures .1) _ (after-name-apart .name-apart .ensures) (c .if2 .taken)
 
 pub names-apart-spec : {M : Type 1} → statement M

@@ -1,4 +1,5 @@
--- `checking::same_bag` meets its contract: each effect of the second list is counted, or still to come. Assumes nothing.
+-- `checking::same_bag` meets its contract: each effect of the second list is counted, or still to come. Assumes
+-- nothing.
 use Prim.Native.Nat.{_-_}
 use borrow.Author.Needs.{needs}
 use native.Mathlib.Omega.{arith}
@@ -17,7 +18,8 @@ add-term-end c =
     let in-loop : tie.In-loop Inv-loop μ-loop = search in
     let at-loop : tie.At-loop Inv-loop μ-loop = search in
     let start : tie.Start Inv-loop μ-loop = search in
-    let l = weighing-inside _ _ _ (start .args .end) _ _ _ (start .args .last) (start .pre .2) (start .pre .3) _ _ (at-loop .loop .inv) (in-loop .loop-test .taken) in
+    let l = weighing-inside _ _ _ (start .args .end) _ _ _ (start .args .last) (start .pre .2) (start .pre .3) _ _
+    (at-loop .loop .inv) (in-loop .loop-test .taken) in
     omega arith
 
 count-effect-requires : tie.Need-count-effect-requires Inv-loop μ-loop
@@ -26,7 +28,8 @@ count-effect-requires c κs =
     let in-loop : tie.In-loop Inv-loop μ-loop = search in
     let at-loop : tie.At-loop Inv-loop μ-loop = search in
     let start : tie.Start Inv-loop μ-loop = search in
-    let own = weighing-end _ _ _ (start .args .end) _ _ _ (start .args .last) (start .pre .2) (start .pre .3) _ _ (at-loop .loop .inv) (in-loop .loop-test .taken) _ (after-term-end .term-end .ensures) in
+    let own = weighing-end _ _ _ (start .args .end) _ _ _ (start .args .last) (start .pre .2) (start .pre .3) _ _
+    (at-loop .loop .inv) (in-loop .loop-test .taken) _ (after-term-end .term-end .ensures) in
     (start .pre .0, start .pre .2, own)
 
 count-effect-requires-2 : tie.Need-count-effect-requires-2 Inv-loop μ-loop
@@ -35,7 +38,8 @@ count-effect-requires-2 c κs =
     let in-loop : tie.In-loop Inv-loop μ-loop = search in
     let at-loop : tie.At-loop Inv-loop μ-loop = search in
     let start : tie.Start Inv-loop μ-loop = search in
-    let own = weighing-end _ _ _ (start .args .end) _ _ _ (start .args .last) (start .pre .2) (start .pre .3) _ _ (at-loop .loop .inv) (in-loop .loop-test .taken) _ (after-term-end .term-end .ensures) in
+    let own = weighing-end _ _ _ (start .args .end) _ _ _ (start .args .last) (start .pre .2) (start .pre .3) _ _
+    (at-loop .loop .inv) (in-loop .loop-test .taken) _ (after-term-end .term-end .ensures) in
     (start .pre .1, start .pre .3, own)
 
 pub same-bag-spec : {M : Type 1} → statement M

@@ -1,4 +1,5 @@
--- `checking::same_environment` meets its contract: the older entries are the same exactly if the environments are. Assumes nothing.
+-- `checking::same_environment` meets its contract: the older entries are the same exactly if the environments are.
+-- Assumes nothing.
 use Prim.Native.Nat.{_-_}
 use lib.ListN.{length}
 use borrow.Author.Needs.{needs}
@@ -123,8 +124,10 @@ same-type-requires c κs =
     let else1 : tie.Else1 Inv-loop μ-loop = search in
     let else2 : tie.Else2 Inv-loop μ-loop = search in
     let at-loop : tie.At-loop Inv-loop μ-loop = search in
-    let own = pairing-left-type _ _ _ _ _ _ _ _ (at-loop .loop .inv) (else1 .if1 .left) (else2 .if2 .left) _ (after-type-end .type-end .ensures) in
-    let other = pairing-right-type _ _ _ _ _ _ _ _ (at-loop .loop .inv) (else1 .if1 .left) (else2 .if2 .left) _ (after-type-end2 .type-end2 .ensures) in
+    let own = pairing-left-type _ _ _ _ _ _ _ _ (at-loop .loop .inv) (else1 .if1 .left) (else2 .if2 .left) _
+    (after-type-end .type-end .ensures) in
+    let other = pairing-right-type _ _ _ _ _ _ _ _ (at-loop .loop .inv) (else1 .if1 .left) (else2 .if2 .left) _
+    (after-type-end2 .type-end2 .ensures) in
     (own, other)
 
 loop-less : tie.Need-loop-less Inv-loop μ-loop
@@ -134,8 +137,10 @@ loop-less c =
     let else1 : tie.Else1 Inv-loop μ-loop = search in
     let else2 : tie.Else2 Inv-loop μ-loop = search in
     let at-loop : tie.At-loop Inv-loop μ-loop = search in
-    let own = pairing-left-type _ _ _ _ _ _ _ _ (at-loop .loop .inv) (else1 .if1 .left) (else2 .if2 .left) _ (after-type-end .type-end .ensures) in
-    let other = pairing-right-type _ _ _ _ _ _ _ _ (at-loop .loop .inv) (else1 .if1 .left) (else2 .if2 .left) _ (after-type-end2 .type-end2 .ensures) in
+    let own = pairing-left-type _ _ _ _ _ _ _ _ (at-loop .loop .inv) (else1 .if1 .left) (else2 .if2 .left) _
+    (after-type-end .type-end .ensures) in
+    let other = pairing-right-type _ _ _ _ _ _ _ _ (at-loop .loop .inv) (else1 .if1 .left) (else2 .if2 .left) _
+    (after-type-end2 .type-end2 .ensures) in
     omega (arith, own .after, own .inside)
 
 pub same-environment-spec : {M : Type 1} → statement M

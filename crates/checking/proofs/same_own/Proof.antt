@@ -81,7 +81,8 @@ same-bag-requires c κs =
       omega arith,
       omega arith,
       nonce-reads _ _ _ (start .pre .0) (start .pre .2) (else1 .if1 .left) _ (after-wide .wide .ensures .0),
-      nonce-reads _ _ _ (start .pre .1) (start .pre .3) (sym (start .pre .4) ∙ else1 .if1 .left) _ (after-wide2 .wide2 .ensures .0),
+      nonce-reads _ _ _ (start .pre .1) (start .pre .3) (sym (start .pre .4)
+          ∙ else1 .if1 .left) _ (after-wide2 .wide2 .ensures .0),
     )
 
 pub same-own-spec : {M : Type 1} → statement M

@@ -1,4 +1,5 @@
--- `checking::same_type` meets its contract: what is still to come is the same exactly if the types are. Assumes nothing.
+-- `checking::same_type` meets its contract: what is still to come is the same exactly if the types are. Assumes
+-- nothing.
 use Prim.Native.Nat.{_-_}
 use lib.ListN.{length}
 use borrow.Author.Needs.{needs}
@@ -55,8 +56,10 @@ same-own-requires c κs =
     let at-loop : tie.At-loop Inv-loop μ-loop = search in
     let l = pairing-left _ _ _ _ _ _ _ _ _ (at-loop .loop .inv) (in-loop .loop-test .taken) in
     let r = pairing-right _ _ _ _ _ _ _ _ _ (at-loop .loop .inv) (in-loop .loop-test .taken) in
-    let own = pairing-own _ _ _ _ _ _ _ _ _ (at-loop .loop .inv) (in-loop .loop-test .taken) _ (after-type-own .type-own .ensures) in
-    let other = pairing-other _ _ _ _ _ _ _ _ _ (at-loop .loop .inv) (in-loop .loop-test .taken) _ (after-type-own2 .type-own2 .ensures) in
+    let own = pairing-own _ _ _ _ _ _ _ _ _ (at-loop .loop .inv) (in-loop .loop-test .taken) _
+    (after-type-own .type-own .ensures) in
+    let other = pairing-other _ _ _ _ _ _ _ _ _ (at-loop .loop .inv) (in-loop .loop-test .taken) _
+    (after-type-own2 .type-own2 .ensures) in
     (l, r, own, other, else1 .if1 .left)
 
 mul-type-parts : tie.Need-mul-type-parts Inv-loop μ-loop
@@ -101,8 +104,10 @@ loop-less c =
     let at-loop : tie.At-loop Inv-loop μ-loop = search in
     let l = pairing-left _ _ _ _ _ _ _ _ _ (at-loop .loop .inv) (in-loop .loop-test .taken) in
     let r = pairing-right _ _ _ _ _ _ _ _ _ (at-loop .loop .inv) (in-loop .loop-test .taken) in
-    let own = pairing-own _ _ _ _ _ _ _ _ _ (at-loop .loop .inv) (in-loop .loop-test .taken) _ (after-type-own .type-own .ensures) in
-    let other = pairing-other _ _ _ _ _ _ _ _ _ (at-loop .loop .inv) (in-loop .loop-test .taken) _ (after-type-own2 .type-own2 .ensures) in
+    let own = pairing-own _ _ _ _ _ _ _ _ _ (at-loop .loop .inv) (in-loop .loop-test .taken) _
+    (after-type-own .type-own .ensures) in
+    let other = pairing-other _ _ _ _ _ _ _ _ _ (at-loop .loop .inv) (in-loop .loop-test .taken) _
+    (after-type-own2 .type-own2 .ensures) in
     omega (arith, own .after, own .inside)
 
 pub same-type-spec : {M : Type 1} → statement M

@@ -49,7 +49,8 @@ add-due c =
     let at-loop : tie.At-loop Inv-loop μ-loop = search in
     let l = closed-inside _ _ _ _ _ (at-loop .loop .inv) (in-loop .loop-test .taken) in
     let f = closed-few _ _ _ _ _ (at-loop .loop .inv) in
-    let w = closed-word _ _ _ _ _ (at-loop .loop .inv) (in-loop .loop-test .taken) _ (after-term-turn .term-turn .ensures .0) in
+    let w = closed-word _ _ _ _ _ (at-loop .loop .inv) (in-loop .loop-test .taken) _
+    (after-term-turn .term-turn .ensures .0) in
     omega arith
 
 sub-due : tie.Need-sub-due Inv-loop μ-loop
@@ -59,7 +60,8 @@ sub-due c =
     let at-loop : tie.At-loop Inv-loop μ-loop = search in
     let l = closed-inside _ _ _ _ _ (at-loop .loop .inv) (in-loop .loop-test .taken) in
     let f = closed-few _ _ _ _ _ (at-loop .loop .inv) in
-    let w = closed-word _ _ _ _ _ (at-loop .loop .inv) (in-loop .loop-test .taken) _ (after-term-turn .term-turn .ensures .0) in
+    let w = closed-word _ _ _ _ _ (at-loop .loop .inv) (in-loop .loop-test .taken) _
+    (after-term-turn .term-turn .ensures .0) in
     omega arith
 
 add-i : tie.Need-add-i Inv-loop μ-loop
@@ -69,7 +71,8 @@ add-i c =
     let at-loop : tie.At-loop Inv-loop μ-loop = search in
     let l = closed-inside _ _ _ _ _ (at-loop .loop .inv) (in-loop .loop-test .taken) in
     let f = closed-few _ _ _ _ _ (at-loop .loop .inv) in
-    let w = closed-word _ _ _ _ _ (at-loop .loop .inv) (in-loop .loop-test .taken) _ (after-term-turn .term-turn .ensures .0) in
+    let w = closed-word _ _ _ _ _ (at-loop .loop .inv) (in-loop .loop-test .taken) _
+    (after-term-turn .term-turn .ensures .0) in
     omega arith
 
 sub-i : tie.Need-sub-i Inv-loop μ-loop
@@ -79,7 +82,8 @@ sub-i c =
     let at-loop : tie.At-loop Inv-loop μ-loop = search in
     let l = closed-inside _ _ _ _ _ (at-loop .loop .inv) (in-loop .loop-test .taken) in
     let f = closed-few _ _ _ _ _ (at-loop .loop .inv) in
-    let w = closed-word _ _ _ _ _ (at-loop .loop .inv) (in-loop .loop-test .taken) _ (after-term-turn .term-turn .ensures .0) in
+    let w = closed-word _ _ _ _ _ (at-loop .loop .inv) (in-loop .loop-test .taken) _
+    (after-term-turn .term-turn .ensures .0) in
     omega arith
 
 loop-less : tie.Need-loop-less Inv-loop μ-loop
@@ -89,7 +93,8 @@ loop-less c =
     let at-loop : tie.At-loop Inv-loop μ-loop = search in
     let l = closed-inside _ _ _ _ _ (at-loop .loop .inv) (in-loop .loop-test .taken) in
     let f = closed-few _ _ _ _ _ (at-loop .loop .inv) in
-    let w = closed-word _ _ _ _ _ (at-loop .loop .inv) (in-loop .loop-test .taken) _ (after-term-turn .term-turn .ensures .0) in
+    let w = closed-word _ _ _ _ _ (at-loop .loop .inv) (in-loop .loop-test .taken) _
+    (after-term-turn .term-turn .ensures .0) in
     omega arith
 
 pub term-closed-spec : {M : Type 1} → statement M

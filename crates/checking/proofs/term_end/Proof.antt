@@ -1,4 +1,5 @@
--- `checking::term_end` meets its contract: what is read from the place a ends where what is still due from the place i on does.
+-- `checking::term_end` meets its contract: what is read from the place a ends where what is still due from the place i
+-- on does.
 -- Assumes nothing.
 use Prim.Native.Nat.{_-_}
 use lib.ListN.{length}
@@ -21,7 +22,8 @@ returns-2 c =
     let else1 : tie.Else1 Inv-loop μ-loop = search in
     let in-loop : tie.In-loop Inv-loop μ-loop = search in
     let at-loop : tie.At-loop Inv-loop μ-loop = search in
-    terms-none _ _ _ _ (at-loop .loop .inv) (in-loop .loop-test .taken) (else1 .if1 .left) _ (after-term-turn .term-turn .ensures .0)
+    terms-none _ _ _ _ (at-loop .loop .inv) (in-loop .loop-test .taken) (else1 .if1 .left) _
+    (after-term-turn .term-turn .ensures .0)
     (c .if2 .taken)
 
 pub term-end-spec : {M : Type 1} → statement M

@@ -43,7 +43,8 @@ add-due c =
     let at-loop : tie.At-loop Inv-loop μ-loop = search in
     let l = name-inside _ _ _ _ _ _ (at-loop .loop .inv) (in-loop .loop-test .taken) in
     let f = name-few _ _ _ _ _ _ (at-loop .loop .inv) in
-    let w = name-word _ _ _ _ _ _ (at-loop .loop .inv) (in-loop .loop-test .taken) _ (after-term-turn .term-turn .ensures .0) in
+    let w = name-word _ _ _ _ _ _ (at-loop .loop .inv) (in-loop .loop-test .taken) _
+    (after-term-turn .term-turn .ensures .0) in
     omega arith
 
 sub-due : tie.Need-sub-due Inv-loop μ-loop
@@ -53,7 +54,8 @@ sub-due c =
     let at-loop : tie.At-loop Inv-loop μ-loop = search in
     let l = name-inside _ _ _ _ _ _ (at-loop .loop .inv) (in-loop .loop-test .taken) in
     let f = name-few _ _ _ _ _ _ (at-loop .loop .inv) in
-    let w = name-word _ _ _ _ _ _ (at-loop .loop .inv) (in-loop .loop-test .taken) _ (after-term-turn .term-turn .ensures .0) in
+    let w = name-word _ _ _ _ _ _ (at-loop .loop .inv) (in-loop .loop-test .taken) _
+    (after-term-turn .term-turn .ensures .0) in
     omega arith
 
 add-i : tie.Need-add-i Inv-loop μ-loop
@@ -63,7 +65,8 @@ add-i c =
     let at-loop : tie.At-loop Inv-loop μ-loop = search in
     let l = name-inside _ _ _ _ _ _ (at-loop .loop .inv) (in-loop .loop-test .taken) in
     let f = name-few _ _ _ _ _ _ (at-loop .loop .inv) in
-    let w = name-word _ _ _ _ _ _ (at-loop .loop .inv) (in-loop .loop-test .taken) _ (after-term-turn .term-turn .ensures .0) in
+    let w = name-word _ _ _ _ _ _ (at-loop .loop .inv) (in-loop .loop-test .taken) _
+    (after-term-turn .term-turn .ensures .0) in
     omega arith
 
 sub-i : tie.Need-sub-i Inv-loop μ-loop
@@ -73,7 +76,8 @@ sub-i c =
     let at-loop : tie.At-loop Inv-loop μ-loop = search in
     let l = name-inside _ _ _ _ _ _ (at-loop .loop .inv) (in-loop .loop-test .taken) in
     let f = name-few _ _ _ _ _ _ (at-loop .loop .inv) in
-    let w = name-word _ _ _ _ _ _ (at-loop .loop .inv) (in-loop .loop-test .taken) _ (after-term-turn .term-turn .ensures .0) in
+    let w = name-word _ _ _ _ _ _ (at-loop .loop .inv) (in-loop .loop-test .taken) _
+    (after-term-turn .term-turn .ensures .0) in
     omega arith
 
 loop-less : tie.Need-loop-less Inv-loop μ-loop
@@ -83,7 +87,8 @@ loop-less c =
     let at-loop : tie.At-loop Inv-loop μ-loop = search in
     let l = name-inside _ _ _ _ _ _ (at-loop .loop .inv) (in-loop .loop-test .taken) in
     let f = name-few _ _ _ _ _ _ (at-loop .loop .inv) in
-    let w = name-word _ _ _ _ _ _ (at-loop .loop .inv) (in-loop .loop-test .taken) _ (after-term-turn .term-turn .ensures .0) in
+    let w = name-word _ _ _ _ _ _ (at-loop .loop .inv) (in-loop .loop-test .taken) _
+    (after-term-turn .term-turn .ensures .0) in
     omega arith
 
 pub term-mentions-spec : {M : Type 1} → statement M

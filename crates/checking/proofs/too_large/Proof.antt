@@ -30,7 +30,8 @@ returns-2 c =
     let after-word2 : tie.After-word2 Inv-loop μ-loop = search in
     let in-loop : tie.In-loop Inv-loop μ-loop = search in
     let at-loop : tie.At-loop Inv-loop μ-loop = search in
-    scan-found _ _ _ (at-loop .loop .inv) (in-loop .loop-test .taken) _ (count-word _ _ _ (after-word2 .word2 .ensures)) (c .if2 .taken)
+    scan-found _ _ _ (at-loop .loop .inv) (in-loop .loop-test .taken) _ (count-word _ _ _ (after-word2 .word2 .ensures))
+    (c .if2 .taken)
 
 loop-again : tie.Need-loop-again Inv-loop μ-loop
 loop-again c =
@@ -38,7 +39,8 @@ loop-again c =
     let after-word2 : tie.After-word2 Inv-loop μ-loop = search in
     let in-loop : tie.In-loop Inv-loop μ-loop = search in
     let at-loop : tie.At-loop Inv-loop μ-loop = search in
-    scan-again _ _ _ (at-loop .loop .inv) (in-loop .loop-test .taken) _ (count-word _ _ _ (after-word2 .word2 .ensures)) (else2 .if2 .left)
+    scan-again _ _ _ (at-loop .loop .inv) (in-loop .loop-test .taken) _ (count-word _ _ _ (after-word2 .word2 .ensures))
+    (else2 .if2 .left)
 
 pub too-large-spec : {M : Type 1} → statement M
 too-large-spec =

@@ -1,4 +1,5 @@
--- `checking::type_own` meets its contract: a nonce has its effects behind its count, and no other type has words of its own but its
+-- `checking::type_own` meets its contract: a nonce has its effects behind its count, and no other type has words of its
+-- own but its
 -- first. Assumes nothing.
 use borrow.Author.Needs.{needs}
 use native.Mathlib.Omega.{arith}

@@ -40,7 +40,8 @@ pub entries-no-type : (f c x : ℕ) (u : List ℕ) → c ≡ 2 → restOf (typeA
 unfolding entries
 entries-no-type f c x u e h = rw e (then-none (typeAt u) _ h)
 
-pub entries-type : (f c x : ℕ) (u v : List ℕ) → c ≡ 2 → restOf (typeAt u) ≡ some v → restOf (entries (suc f) (c ∷ x ∷ u)) ≡ restOf (entries f v)
+pub entries-type : (f c x : ℕ) (u v : List ℕ) → c ≡ 2 → restOf (typeAt u) ≡ some v
+    → restOf (entries (suc f) (c ∷ x ∷ u)) ≡ restOf (entries f v)
 unfolding entries
 entries-type f c x u v e h = rw e (then-some (typeAt u) _ v _ h (λ T. rest-after (λ (E : Environment). (x ⦂ T) ∷ E) (entries f v)))
 

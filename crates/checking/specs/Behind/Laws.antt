@@ -164,7 +164,8 @@ counted-none m l v e = absurd (let z : _≡_ {A = ℕ} 0 1 = cc in omega arith)
 pub counted-zero : {A : Type 0} (u : List ℕ) → Counted {A = A} 0 (some ([], u))
 counted-zero {A} u l v e = ap length (read-list [] l u v e)
 
-pub counted-then : {A B : Type 0} (r : Read A) (f : A × List ℕ → Read (List B)) (m : ℕ) → ((p : A × List ℕ) → Counted m (f p)) → Counted m (then r f)
+pub counted-then : {A B : Type 0} (r : Read A) (f : A × List ℕ → Read (List B)) (m : ℕ) → ((p : A × List ℕ) → Counted m (f p))
+    → Counted m (then r f)
 unfolding then
 counted-then none f m h l v e = absurd (let z : _≡_ {A = ℕ} 0 1 = cc in omega arith)
 counted-then (some p) f m h l v e = h p l v e
@@ -257,7 +258,14 @@ module _ (w : List ℕ) (a i due : ℕ) (t : Terms w a i due) where
         rw (d, f) (terms-one (getD w i 0) (due - 1) (getD w (suc i) 0) (drop (suc (suc i)) w) (sym e ∙ one)) in
         let at : i + 3 - n ≡ suc (suc i) = omega arith in
         let less = due-less due n one h in
-        record { same = t .same ∙ ap (λ (k : ℕ). restOf (terms (drop i w) k)) (one-more h) ∙ rw (at, less) q; few = rw (at, less) (few-less due i (t .few)); after = rw at (omega (arith, t .after)); inside = λ _. rw at (omega arith, omega arith) }
+        record {
+          same = t .same ∙ ap (λ (k : ℕ). restOf (terms (drop i w) k)) (one-more h)
+              ∙ rw (at, less) q;
+          few = rw (at, less) (few-less due i (t .few));
+          after = rw at (omega (arith, t .after));
+          inside = λ _. rw at
+              (omega arith, omega arith);
+        }
     | no other ↦
         let two : n ≡ 2 = omega (arith, turn-small (getD w i 0)) in
         let d = drop-cons w i 0 (omega arith) in
@@ -265,7 +273,14 @@ module _ (w : List ℕ) (a i due : ℕ) (t : Terms w a i due) where
         rw d (terms-two (getD w i 0) (due - 1) (drop (suc i) w) (sym e ∙ two)) in
         let at : i + 3 - n ≡ suc i = omega arith in
         let more = due-more due n two h in
-        record { same = t .same ∙ ap (λ (k : ℕ). restOf (terms (drop i w) k)) (one-more h) ∙ rw (at, more) q; few = rw (at, more) (few-more due i (t .few) h); after = rw at (omega (arith, t .after)); inside = λ _. rw at (omega arith, omega arith) }
+        record {
+          same = t .same ∙ ap (λ (k : ℕ). restOf (terms (drop i w) k)) (one-more h)
+              ∙ rw (at, more) q;
+          few = rw (at, more) (few-more due i (t .few) h);
+          after = rw at (omega (arith, t .after));
+          inside = λ _. rw at
+              (omega arith, omega arith);
+        }
   ]
 
   pub terms-done : due ≤ 0 → Ends w a (restOf (term (drop a w))) i

@@ -29,7 +29,8 @@ unfolding then
 then-assoc none f g = refl
 then-assoc (some a) f g = refl
 
-by-rest : {A B : Type 0} (r : Read A) (k : A → List ℕ → Read B) (g : List ℕ → Option (List ℕ)) → ((a : A) (v : List ℕ) → restOf (k a v) ≡ g v)
+by-rest : {A B : Type 0} (r : Read A) (k : A → List ℕ → Read B) (g : List ℕ → Option (List ℕ))
+    → ((a : A) (v : List ℕ) → restOf (k a v) ≡ g v)
     → restOf (then r (λ p. k (p .0) (p .1))) ≡ then (restOf r) g
 unfolding then restOf
 by-rest none k g h = refl
@@ -101,7 +102,8 @@ processes-own f p q (suc (suc (suc (suc (suc (suc (suc (suc (suc (suc (suc (suc 
     rw one (simp then-assoc (with-term u _ _ (λ _ v0. with-term v0 _ _ (λ _ v1. rest-after _ (processes f (suc p) v1)))))
 processes-own f p q (suc (suc (suc (suc (suc (suc (suc (suc (suc (suc (suc (suc (suc c))))))))))))) u e = refl
 
-counted-list : {B : Type 0} (u : List ℕ) (k : List Effect → List ℕ → Read (List B)) (m : ℕ) → ((es : List Effect) (v : List ℕ) → Counted m (k es v))
+counted-list : {B : Type 0} (u : List ℕ) (k : List Effect → List ℕ → Read (List B)) (m : ℕ)
+    → ((es : List Effect) (v : List ℕ) → Counted m (k es v))
     → Counted m (withEffects u k)
 unfolding withEffects
 counted-list [] k m h = counted-none m
@@ -118,22 +120,27 @@ processes-counted (suc f) (suc p) (suc zero ∷ []) = counted-none (suc p)
 processes-counted (suc f) (suc p) (suc zero ∷ x ∷ u) =
     counted-then (typeAt u) _ (suc p) (λ v0. counted-altered _ p (processes f (suc p) (v0 .1)) (processes-counted f (suc p) (v0 .1)))
 processes-counted (suc f) (suc p) (suc (suc zero) ∷ u) =
-    counted-then (term u) _ (suc p) (λ v0. counted-then (term (v0 .1)) _ (suc p) (λ v1. counted-altered _ p (processes f (suc p) (v1 .1)) (processes-counted f (suc p) (v1 .1))))
+    counted-then (term u) _ (suc p) (λ v0. counted-then (term (v0 .1)) _ (suc p) (λ v1. counted-altered _ p (processes f (suc p) (v1 .1)) (processes-counted f
+    (suc p) (v1 .1))))
 processes-counted (suc f) (suc p) (suc (suc (suc zero)) ∷ []) = counted-none (suc p)
 processes-counted (suc f) (suc p) (suc (suc (suc zero)) ∷ x ∷ u) =
-    counted-then (term u) _ (suc p) (λ v0. counted-then (typeAt (v0 .1)) _ (suc p) (λ v1. counted-altered _ p (processes f (suc p) (v1 .1)) (processes-counted f (suc p) (v1 .1))))
+    counted-then (term u) _ (suc p) (λ v0. counted-then (typeAt (v0 .1)) _ (suc p) (λ v1. counted-altered _ p (processes f (suc p) (v1 .1)) (processes-counted
+    f (suc p) (v1 .1))))
 processes-counted (suc f) (suc p) (suc (suc (suc (suc zero))) ∷ u) = counted-joined _ p (processes f (suc (suc p)) u) (processes-counted f (suc (suc p)) u)
 processes-counted (suc f) (suc p) (suc (suc (suc (suc (suc zero)))) ∷ u) = counted-ahead _ p (processes f p u) (processes-counted f p u)
 processes-counted (suc f) (suc p) (suc (suc (suc (suc (suc (suc zero))))) ∷ []) = counted-none (suc p)
 processes-counted (suc f) (suc p) (suc (suc (suc (suc (suc (suc zero))))) ∷ x ∷ []) = counted-none (suc p)
 processes-counted (suc f) (suc p) (suc (suc (suc (suc (suc (suc zero))))) ∷ x ∷ y ∷ u) =
-    counted-then (term u) _ (suc p) (λ v0. counted-then (typeAt (v0 .1)) _ (suc p) (λ v1. counted-then (typeAt (v1 .1)) _ (suc p) (λ v2. counted-altered _ p (processes f (suc p) (v2 .1)) (processes-counted f (suc p) (v2 .1)))))
+    counted-then (term u) _ (suc p) (λ v0. counted-then (typeAt (v0 .1)) _ (suc p) (λ v1. counted-then (typeAt (v1 .1)) _ (suc p) (λ v2. counted-altered _ p
+    (processes f (suc p) (v2 .1)) (processes-counted f (suc p) (v2 .1)))))
 processes-counted (suc f) (suc p) (suc (suc (suc (suc (suc (suc (suc zero)))))) ∷ []) = counted-none (suc p)
 processes-counted (suc f) (suc p) (suc (suc (suc (suc (suc (suc (suc zero)))))) ∷ x ∷ u) =
-    counted-then (term u) _ (suc p) (λ v0. counted-then (term (v0 .1)) _ (suc p) (λ v1. counted-then (typeAt (v1 .1)) _ (suc p) (λ v2. counted-altered _ p (processes f (suc p) (v2 .1)) (processes-counted f (suc p) (v2 .1)))))
+    counted-then (term u) _ (suc p) (λ v0. counted-then (term (v0 .1)) _ (suc p) (λ v1. counted-then (typeAt (v1 .1)) _ (suc p) (λ v2. counted-altered _ p
+    (processes f (suc p) (v2 .1)) (processes-counted f (suc p) (v2 .1)))))
 processes-counted (suc f) (suc p) (suc (suc (suc (suc (suc (suc (suc (suc zero))))))) ∷ []) = counted-none (suc p)
 processes-counted (suc f) (suc p) (suc (suc (suc (suc (suc (suc (suc (suc zero))))))) ∷ x ∷ u) =
-    counted-then (term u) _ (suc p) (λ v0. counted-then (term (v0 .1)) _ (suc p) (λ v1. counted-then (typeAt (v1 .1)) _ (suc p) (λ v2. counted-altered _ p (processes f (suc p) (v2 .1)) (processes-counted f (suc p) (v2 .1)))))
+    counted-then (term u) _ (suc p) (λ v0. counted-then (term (v0 .1)) _ (suc p) (λ v1. counted-then (typeAt (v1 .1)) _ (suc p) (λ v2. counted-altered _ p
+    (processes f (suc p) (v2 .1)) (processes-counted f (suc p) (v2 .1)))))
 processes-counted (suc f) (suc p) (suc (suc (suc (suc (suc (suc (suc (suc (suc zero)))))))) ∷ u) =
     counted-then (term u) _ (suc p) (λ v0. counted-altered _ p (processes f (suc p) (v0 .1)) (processes-counted f (suc p) (v0 .1)))
 processes-counted (suc f) (suc p) (suc (suc (suc (suc (suc (suc (suc (suc (suc (suc zero))))))))) ∷ u) =
@@ -142,7 +149,8 @@ processes-counted (suc f) (suc p) (suc (suc (suc (suc (suc (suc (suc (suc (suc (
 processes-counted (suc f) (suc p) (suc (suc (suc (suc (suc (suc (suc (suc (suc (suc (suc zero)))))))))) ∷ x ∷ u) =
     counted-then (term u) _ (suc p) (λ v. counted-list (v .1) _ (suc p) (λ es y. counted-altered _ p (processes f (suc p) y) (processes-counted f (suc p) y)))
 processes-counted (suc f) (suc p) (suc (suc (suc (suc (suc (suc (suc (suc (suc (suc (suc (suc zero))))))))))) ∷ u) =
-    counted-then (term u) _ (suc p) (λ v0. counted-then (term (v0 .1)) _ (suc p) (λ v1. counted-altered _ p (processes f (suc p) (v1 .1)) (processes-counted f (suc p) (v1 .1))))
+    counted-then (term u) _ (suc p) (λ v0. counted-then (term (v0 .1)) _ (suc p) (λ v1. counted-altered _ p (processes f (suc p) (v1 .1)) (processes-counted f
+    (suc p) (v1 .1))))
 processes-counted (suc f) (suc p) (suc (suc (suc (suc (suc (suc (suc (suc (suc (suc (suc (suc (suc c)))))))))))) ∷ u) = counted-none (suc p)
 
 pub rest-process : (u : List ℕ) → restOf (processAt u) ≡ restOf (processes (length u) 1 u)
@@ -203,7 +211,8 @@ module _ (w : List ℕ) (a n m t : ℕ) (low : 0 < a) (in-words : a ≤ length w
   unfolding skips then
   past-names s = rw (names-some n a w (omega arith), then)
 
-  pub skip-no-terms : n ≤ length w - a → (e : ℕ) → Ends w (a + n) (times skipTerm m (drop (a + n) w)) e → e ≡ 0 → Ends w a (skips n m t (drop a w)) 0
+  pub skip-no-terms : n ≤ length w - a → (e : ℕ) → Ends w (a + n) (times skipTerm m (drop (a + n) w)) e → e ≡ 0
+      → Ends w a (skips n m t (drop a w)) 0
   unfolding then
   skip-no-terms s e q z = ends-nothing w a _ (past-names s ∙ rw (ends-none w (a + n) _ e q z, then))
 
@@ -234,7 +243,8 @@ list-done w a n l e r q =
     ]
 
 -- ---- processOwn, by the first word
-own-other : (c : ℕ) (u : List ℕ) → (c ≡ 1 → ⊥) → (c ≡ 2 → ⊥) → (c ≡ 3 → ⊥) → (c ≡ 4 → ⊥) → (c ≡ 5 → ⊥) → (c ≡ 6 → ⊥) → (c ≡ 7 → ⊥)
+own-other : (c : ℕ) (u : List ℕ) → (c ≡ 1 → ⊥) → (c ≡ 2 → ⊥) → (c ≡ 3 → ⊥) → (c ≡ 4 → ⊥) → (c ≡ 5 → ⊥)
+    → (c ≡ 6 → ⊥) → (c ≡ 7 → ⊥)
     → (c ≡ 8 → ⊥) → (c ≡ 9 → ⊥) → (c ≡ 10 → ⊥) → (c ≡ 11 → ⊥) → (c ≡ 12 → ⊥) → processOwn (c ∷ u) ≡ none
 unfolding processOwn
 own-other zero u d1 d2 d3 d4 d5 d6 d7 d8 d9 d10 d11 d12 = refl
@@ -252,7 +262,8 @@ own-other (suc (suc (suc (suc (suc (suc (suc (suc (suc (suc (suc zero)))))))))))
 own-other (suc (suc (suc (suc (suc (suc (suc (suc (suc (suc (suc (suc zero)))))))))))) u d1 d2 d3 d4 d5 d6 d7 d8 d9 d10 d11 d12 = absurd (d12 refl)
 own-other (suc (suc (suc (suc (suc (suc (suc (suc (suc (suc (suc (suc (suc c))))))))))))) u d1 d2 d3 d4 d5 d6 d7 d8 d9 d10 d11 d12 = refl
 
-own-as : (w : List ℕ) (i : ℕ) → i < length w → (k : ℕ) (o : List ℕ → Option (List ℕ)) → getD w i 0 ≡ k → ((u : List ℕ) → processOwn (k ∷ u) ≡ o u)
+own-as : (w : List ℕ) (i : ℕ) → i < length w → (k : ℕ) (o : List ℕ → Option (List ℕ)) → getD w i 0 ≡ k
+    → ((u : List ℕ) → processOwn (k ∷ u) ≡ o u)
     → (r : ℕ) → Ends w (i + 1) (o (drop (i + 1) w)) r → Ends w (i + 1) (processOwn (drop i w)) r
 own-as w i l k o e f r q =
     let h : processOwn (drop i w) ≡ o (drop (i + 1) w) = rw (drop-cons w i 0 l, e, add-one) (f (drop (suc i) w)) in
@@ -310,7 +321,8 @@ module _ (w : List ℕ) (i : ℕ) (l : i < length w) where
   unfolding processOwn
   own-check e r q = own-as w i l 12 (skips 0 2 0) e (λ u. refl) r q
 
-  pub own-cast-none : getD w i 0 ≡ 11 → (e : ℕ) → Ends w (i + 1) (skips 1 1 0 (drop (i + 1) w)) e → e ≡ 0 → Ends w (i + 1) (processOwn (drop i w)) 0
+  pub own-cast-none : getD w i 0 ≡ 11 → (e : ℕ) → Ends w (i + 1) (skips 1 1 0 (drop (i + 1) w)) e → e ≡ 0
+      → Ends w (i + 1) (processOwn (drop i w)) 0
   unfolding processOwn then
   own-cast-none c e q z =
       own-as w i l 11 (λ u. then (skips 1 1 0 u) skipEffects) c (λ u. refl) 0
@@ -328,8 +340,10 @@ module _ (w : List ℕ) (i : ℕ) (l : i < length w) where
         | inr y ↦ inr (record { some-word = y .some-word; after = omega (arith, b .after, y .after); inside = y .inside; rest = h ∙ y .rest })
       ])
 
-  pub own-none : (getD w i 0 ≡ 1 → ⊥) → (getD w i 0 ≡ 2 → ⊥) → (getD w i 0 ≡ 3 → ⊥) → (getD w i 0 ≡ 4 → ⊥) → (getD w i 0 ≡ 5 → ⊥)
-      → (getD w i 0 ≡ 6 → ⊥) → (getD w i 0 ≡ 7 → ⊥) → (getD w i 0 ≡ 8 → ⊥) → (getD w i 0 ≡ 9 → ⊥) → (getD w i 0 ≡ 10 → ⊥)
+  pub own-none : (getD w i 0 ≡ 1 → ⊥) → (getD w i 0 ≡ 2 → ⊥) → (getD w i 0 ≡ 3 → ⊥) → (getD w i 0 ≡ 4 → ⊥)
+      → (getD w i 0 ≡ 5 → ⊥)
+      → (getD w i 0 ≡ 6 → ⊥) → (getD w i 0 ≡ 7 → ⊥) → (getD w i 0 ≡ 8 → ⊥) → (getD w i 0 ≡ 9 → ⊥)
+      → (getD w i 0 ≡ 10 → ⊥)
       → (getD w i 0 ≡ 12 → ⊥) → (getD w i 0 ≡ 11 → ⊥) → Ends w (i + 1) (processOwn (drop i w)) 0
   own-none d1 d2 d3 d4 d5 d6 d7 d8 d9 d10 d12 d11 =
       ends-nothing w (i + 1) _ (rw (drop-cons w i 0 l) (own-other (getD w i 0) (drop (suc i) w) d1 d2 d3 d4 d5 d6 d7 d8 d9 d10 d11 d12))

@@ -135,7 +135,8 @@ plus-one t = omega arith
 plus-two : (t : ℕ) → t + 2 ≡ suc (suc t)
 plus-two t = omega arith
 
-pub types-go : (f t c : ℕ) (u v : List ℕ) → typeOwn (c ∷ u) ≡ some v → restOf (types (suc f) (suc t) (c ∷ u)) ≡ restOf (types f (t + typeParts c) v)
+pub types-go : (f t c : ℕ) (u v : List ℕ) → typeOwn (c ∷ u) ≡ some v
+    → restOf (types (suc f) (suc t) (c ∷ u)) ≡ restOf (types f (t + typeParts c) v)
 unfolding types typeOwn typeParts withEffects
 types-go f t zero u v e = absurd (let z : _≡_ {A = ℕ} 0 1 = cc in omega arith)
 types-go f t (suc zero) u v e = rest-ahead Ty.Un (types f t u) ∙ rw (← one-of e, plus-zero t)
@@ -224,7 +225,8 @@ module _ (w : List ℕ) (a i due : ℕ) (t : Walk w a i due) where
   pub walk-none : 0 < due → i < length w → (r : ℕ) → Ends w (i + 1) (typeOwn (drop i w)) r → r ≡ 0 → Ends w a (restOf (typeAt (drop a w))) 0
   walk-none h l r q z = walk-stops h l (ends-none w (i + 1) _ r q z)
 
-  pub walk-again : 0 < due → i < length w → (r : ℕ) → Ends w (i + 1) (typeOwn (drop i w)) r → (r ≡ 0 → ⊥) → (n : ℕ) → n ≡ typeParts (getD w i 0)
+  pub walk-again : 0 < due → i < length w → (r : ℕ) → Ends w (i + 1) (typeOwn (drop i w)) r → (r ≡ 0 → ⊥) → (n : ℕ)
+      → n ≡ typeParts (getD w i 0)
       → n ≤ 2 → Walk w a r (due + n - 1)
   walk-again h l r q z n e k =
       let b = ends-at w (i + 1) _ r q z in

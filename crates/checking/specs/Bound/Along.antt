@@ -136,7 +136,14 @@ module _ (w : List ℕ) (end i due : ℕ) (bs : List ℕ) (t : Along w end i due
       let bound = processes-bound (t .fuel - 1) (due - 1) (due + n - 1) (getD w i 0) (drop (suc i) w) (drop r w) (drop end w) s (own-words h r b) reads in
       record {
         later = boundIn (processes (t .fuel - 1) (due + n - 1) (drop r w));
-        along = record { fuel = t .fuel - 1; enough = omega (arith, t .enough, b .after); reads = reads; few = few-sum due n i r (t .few) k (b .after) h; left = refl };
+        along = record {
+          fuel = t .fuel - 1;
+          enough = omega (arith, t .enough, b .after);
+          reads = reads;
+          few = few-sum due n i r (t .few) k
+              (b .after) h;
+          left = refl;
+        };
         bound = sym (t .left) ∙ ap boundIn (reading h) ∙ rw add-one bound;
       }
 

@@ -53,7 +53,8 @@ pub names-cast : (c : ℕ) → c ≡ 11 → 1 ≡ processNames c
 unfolding processNames pick
 names-cast c e = sym (ap processNames e)
 
-pub names-none : (c : ℕ) → (c ≡ 6 → ⊥) → (c ≡ 1 → ⊥) → (c ≡ 3 → ⊥) → (c ≡ 7 → ⊥) → (c ≡ 8 → ⊥) → (c ≡ 11 → ⊥) → 0 ≡ processNames c
+pub names-none : (c : ℕ) → (c ≡ 6 → ⊥) → (c ≡ 1 → ⊥) → (c ≡ 3 → ⊥) → (c ≡ 7 → ⊥) → (c ≡ 8 → ⊥) → (c ≡ 11 → ⊥)
+    → 0 ≡ processNames c
 unfolding processNames
 names-none c a b d e f g =
     sym (pick-false {A = ℕ} (eqb c 6) _ _ (ne-eqb c 6 a) ∙ pick-false {A = ℕ} (eqb c 1) _ _ (ne-eqb c 1 b)
@@ -74,7 +75,8 @@ module _ (w : List ℕ) (i n : ℕ) (e : n ≡ processNames (getD w i 0)) (l : i
   own-one : n ≡ 1 → take (processNames (getD w i 0)) (drop (i + 1) w) ≡ getD w (i + 1) 0 ∷ []
   own-one z = ap (λ (k : ℕ). take k (drop (i + 1) w)) (sym e ∙ z) ∙ rw (drop-cons w (i + 1) 0 (omega arith)) refl
 
-  own-two : n ≤ 2 → (n ≡ 0 → ⊥) → (n ≡ 1 → ⊥) → take (processNames (getD w i 0)) (drop (i + 1) w) ≡ getD w (i + 1) 0 ∷ getD w (i + 2) 0 ∷ []
+  own-two : n ≤ 2 → (n ≡ 0 → ⊥) → (n ≡ 1 → ⊥)
+      → take (processNames (getD w i 0)) (drop (i + 1) w) ≡ getD w (i + 1) 0 ∷ getD w (i + 2) 0 ∷ []
   own-two h z y =
       let two : n ≡ 2 = omega arith in
       let at : suc (i + 1) ≡ i + 2 = omega arith in
@@ -96,7 +98,8 @@ module _ (w : List ℕ) (i n : ℕ) (e : n ≡ processNames (getD w i 0)) (l : i
 
 parts-small : (c : ℕ) → processParts c ≤ 2
 unfolding processParts
-parts-small c = pick-ind (λ (n : ℕ). n ≤ 2) (eqb c 4) 2 _ (λ _. omega arith) (λ _. pick-ind (λ (n : ℕ). n ≤ 2) (eqb c 5) 0 1 (λ _. omega arith) (λ _. omega arith))
+parts-small c = pick-ind (λ (n : ℕ). n ≤ 2) (eqb c 4) 2 _ (λ _. omega arith)
+    (λ _. pick-ind (λ (n : ℕ). n ≤ 2) (eqb c 5) 0 1 (λ _. omega arith) (λ _. omega arith))
 
 -- ---- how often a name is bound: n times before the place i
 pub record Counting (w : List ℕ) (p end x i due n : ℕ) : Type 0 where
@@ -176,11 +179,13 @@ names-entry : (f c y : ℕ) (u v z : List ℕ) → c ≡ 2 → restOf (typeAt u)
 unfolding entries then restOf
 names-entry f c y u v z e h r = rw e (go (typeAt u) h)
   where
-    go : (o : Read Ty) → restOf o ≡ some v → namesIn (then o (λ q. after (λ (E : Environment). (y ⦂ q .0) ∷ E) (entries f (q .1)))) ≡ y ∷ namesIn (entries f v)
+    go : (o : Read Ty) → restOf o ≡ some v → namesIn
+        (then o (λ q. after (λ (E : Environment). (y ⦂ q .0) ∷ E) (entries f (q .1)))) ≡ y ∷ namesIn (entries f v)
     go none k = absurd (let d : _≡_ {A = ℕ} 0 1 = cc in omega arith)
     go (some q) k =
         let s : v ≡ q .1 = cc in
-        subst (λ (l : List ℕ). namesIn (after (λ (E : Environment). (y ⦂ q .0) ∷ E) (entries f l)) ≡ y ∷ namesIn (entries f v)) s (in-front y (q .0) (entries f v) z r)
+        subst (λ (l : List ℕ). namesIn (after (λ (E : Environment). (y ⦂ q .0) ∷ E) (entries f l)) ≡ y ∷ namesIn (entries f v)) s
+        (in-front y (q .0) (entries f v) z r)
 
 module _ (w : List ℕ) (p x i : ℕ) (t : Entries w p x i) where
   some-not : (o : Option (List ℕ)) → o ≡ some (drop p w) → o ≡ none → ⊥
@@ -217,7 +222,8 @@ module _ (w : List ℕ) (p x i : ℕ) (t : Entries w p x i) where
     | yes l ↦ l
     | no l ↦
         let f : drop (suc i) w ≡ [] = drop-of-length-le w {i = suc i} (omega arith) in
-        absurd (some-not _ (t .reads) (ap restOf reading ∙ ap (λ (u : List ℕ). restOf (entries (suc (t .fuel - 1)) (getD w i 0 ∷ u))) f ∙ entries-cut (t .fuel - 1) _ e))
+        absurd (some-not _ (t .reads) (ap restOf reading ∙ ap (λ (u : List ℕ). restOf (entries (suc (t .fuel - 1)) (getD w i 0 ∷ u))) f
+        ∙ entries-cut (t .fuel - 1) _ e))
   ]
 
   entry : getD w i 0 ≡ 2 → entries (t .fuel) (drop i w) ≡ entries (suc (t .fuel - 1)) (getD w i 0 ∷ getD w (i + 1) 0 ∷ drop (i + 2) w)
@@ -229,7 +235,8 @@ module _ (w : List ℕ) (p x i : ℕ) (t : Entries w p x i) where
       (ap (λ (k : ℕ). drop k w) one ∙ drop-cons w (i + 1) 0 (entries-name e)
       ∙ ap (λ (k : ℕ). getD w (i + 1) 0 ∷ drop k w) two)
 
-  pub entries-type-at : getD w i 0 ≡ 2 → (r : ℕ) → Ends w (i + 2) (restOf (typeAt (drop (i + 2) w))) r → At w (i + 2) (restOf (typeAt (drop (i + 2) w))) r
+  pub entries-type-at : getD w i 0 ≡ 2 → (r : ℕ) → Ends w (i + 2) (restOf (typeAt (drop (i + 2) w))) r
+      → At w (i + 2) (restOf (typeAt (drop (i + 2) w))) r
   entries-type-at e r (inl n) =
       absurd (some-not _ (t .reads) (ap restOf (entry e) ∙ entries-no-type (t .fuel - 1) _ _ (drop (i + 2) w) e (n .none)))
   entries-type-at e r (inr b) = b
@@ -251,7 +258,8 @@ module _ (w : List ℕ) (p x i : ℕ) (t : Entries w p x i) where
       let b = entries-type-at e r q in
       sym (named e r b ∙ or-left _ _ (eq-eqb x (getD w (i + 1) 0) (sym y)))
 
-  pub entries-again : getD w i 0 ≡ 2 → (r : ℕ) → Ends w (i + 2) (restOf (typeAt (drop (i + 2) w))) r → (getD w (i + 1) 0 ≡ x → ⊥) → Entries w p x r
+  pub entries-again : getD w i 0 ≡ 2 → (r : ℕ) → Ends w (i + 2) (restOf (typeAt (drop (i + 2) w))) r → (getD w (i + 1) 0 ≡ x → ⊥)
+      → Entries w p x r
   entries-again e r q y =
       let b = entries-type-at e r q in
       record {
@@ -268,13 +276,15 @@ module _ (w : List ℕ) (p x i : ℕ) (t : Entries w p x i) where
 all-append : (ns bs k l : List ℕ) → allApart ns bs (k ++ l) ≡ (allApart ns bs k && allApart ns bs l)
 unfolding allApart
 all-append ns bs [] l = refl
-all-append ns bs (y ∷ k) l = ap (λ (c : Bool). nameApart ns bs y && c) (all-append ns bs k l) ∙ sym (and-assoc (nameApart ns bs y) (allApart ns bs k) (allApart ns bs l))
+all-append ns bs (y ∷ k) l = ap (λ (c : Bool). nameApart ns bs y && c) (all-append ns bs k l)
+    ∙ sym (and-assoc (nameApart ns bs y) (allApart ns bs k) (allApart ns bs l))
 
 pub name-in : (ns bs : List ℕ) (x : ℕ) (b : Bool) → b ≡ among x ns → b ≡ true → false ≡ nameApart ns bs x
 unfolding nameApart
 name-in ns bs x b e h = sym (ap (λ (c : Bool). not c && not (ltb 1 (times-in x bs))) (sym e ∙ h))
 
-pub name-twice : (ns bs : List ℕ) (x : ℕ) (b : Bool) → b ≡ among x ns → b ≡ false → (c : Bool) → c ≡ ltb 1 (times-in x bs) → not c ≡ nameApart ns bs x
+pub name-twice : (ns bs : List ℕ) (x : ℕ) (b : Bool) → b ≡ among x ns → b ≡ false → (c : Bool) → c ≡ ltb 1 (times-in x bs)
+    → not c ≡ nameApart ns bs x
 unfolding nameApart
 name-twice ns bs x b e h c d =
     sym (ap (λ (y : Bool). not y && not (ltb 1 (times-in x bs))) (sym e ∙ h) ∙ ap not (sym d))
@@ -289,7 +299,8 @@ module _ (w ns bs : List ℕ) (i n : ℕ) (e : n ≡ processNames (getD w i 0)) 
   unfolding allApart
   names-apart-first z h f d g = elim (decEq n 1) [
     | yes o ↦ sym (ap (allApart ns bs) (own-one w i n e l o) ∙ ap (λ (c : Bool). c && true) (sym d ∙ not-true _ g))
-    | no o ↦ sym (ap (allApart ns bs) (own-two w i n e l h z o) ∙ ap (λ (c : Bool). c && (nameApart ns bs (getD w (i + 2) 0) && true)) (sym d ∙ not-true _ g))
+    | no o ↦ sym (ap (allApart ns bs) (own-two w i n e l h z o)
+        ∙ ap (λ (c : Bool). c && (nameApart ns bs (getD w (i + 2) 0) && true)) (sym d ∙ not-true _ g))
   ]
 
   pub names-apart-one : (f : Bool) → f ≡ nameApart ns bs (getD w (i + 1) 0) → not f ≡ false → n ≡ 1
@@ -297,12 +308,14 @@ module _ (w ns bs : List ℕ) (i n : ℕ) (e : n ≡ processNames (getD w i 0)) 
   unfolding allApart
   names-apart-one f d g o = sym (ap (allApart ns bs) (own-one w i n e l o) ∙ ap (λ (c : Bool). c && true) (sym d ∙ not-false _ g))
 
-  pub names-apart-two : (n ≡ 0 → ⊥) → n ≤ 2 → (f : Bool) → f ≡ nameApart ns bs (getD w (i + 1) 0) → not f ≡ false → (n ≡ 1 → ⊥) → (g : Bool)
+  pub names-apart-two : (n ≡ 0 → ⊥) → n ≤ 2 → (f : Bool) → f ≡ nameApart ns bs (getD w (i + 1) 0) → not f ≡ false → (n ≡ 1 → ⊥)
+      → (g : Bool)
       → g ≡ nameApart ns bs (getD w (i + 2) 0) → g ≡ allApart ns bs (take (processNames (getD w i 0)) (drop (i + 1) w))
   unfolding allApart
   names-apart-two z h f d y o g c =
       sym (ap (allApart ns bs) (own-two w i n e l h z o)
-      ∙ ap (λ (b : Bool). b && (nameApart ns bs (getD w (i + 2) 0) && true)) (sym d ∙ not-false _ y) ∙ and-true (nameApart ns bs (getD w (i + 2) 0)) ∙ sym c)
+      ∙ ap (λ (b : Bool). b && (nameApart ns bs (getD w (i + 2) 0) && true)) (sym d ∙ not-false _ y) ∙ and-true (nameApart ns bs (getD w (i + 2) 0))
+      ∙ sym c)
 
 -- ---- all names are apart: those before the place i are
 abbrev pub environmentNames : List ℕ → List ℕ
@@ -366,7 +379,8 @@ unfolding only then boundIn allBinders
 binders-of none c P v e = absurd (let z : _≡_ {A = ℕ} 0 1 = cc in omega arith)
 binders-of (some q) c P v e = go (q .0) (q .1) (c (q .0) (q .1) refl) e
   where
-    go : (l : List Process) (u : List ℕ) → length l ≡ 1 → _≡_ {A = Read Process} (elim l as (λ _. Read Process) [ [] ↦ none | a ∷ k ↦ some (a, u) ]) (some (P, v))
+    go : (l : List Process) (u : List ℕ) → length l ≡ 1
+        → _≡_ {A = Read Process} (elim l as (λ _. Read Process) [ [] ↦ none | a ∷ k ↦ some (a, u) ]) (some (P, v))
         → allBinders l ≡ binders P
     go [] u d h = absurd (omega arith)
     go (Q ∷ []) u d h =
@@ -396,14 +410,16 @@ module _ (w : List ℕ) where
   unfolding keepsApart then holds
   asked-no-environment p q z = rw (none-of (environmentAt w) (ends-none w 0 _ p q z), then)
 
-  pub asked-no-process : (p : ℕ) → Ends w 0 (restOf (environmentAt w)) p → (p ≡ 0 → ⊥) → (e : ℕ) → Ends w p (restOf (processAt (drop p w))) e → e ≡ 0
+  pub asked-no-process : (p : ℕ) → Ends w 0 (restOf (environmentAt w)) p → (p ≡ 0 → ⊥) → (e : ℕ) → Ends w p (restOf (processAt (drop p w))) e
+      → e ≡ 0
       → false ≡ keepsApart w
   unfolding keepsApart then holds whole
   asked-no-process p q z e r y =
       let (E, h) = read-of (environmentAt w) (drop p w) (ends-at w 0 _ p q z .rest) in
       rw (h, then, none-of (processAt (drop p w)) (ends-none w p _ e r y), then)
 
-  pub asked-more : (p : ℕ) → Ends w 0 (restOf (environmentAt w)) p → (p ≡ 0 → ⊥) → (e : ℕ) → Ends w p (restOf (processAt (drop p w))) e → (e ≡ 0 → ⊥)
+  pub asked-more : (p : ℕ) → Ends w 0 (restOf (environmentAt w)) p → (p ≡ 0 → ⊥) → (e : ℕ) → Ends w p (restOf (processAt (drop p w))) e
+      → (e ≡ 0 → ⊥)
       → (e ≡ length w → ⊥) → false ≡ keepsApart w
   unfolding keepsApart then holds whole
   asked-more p q z e r y o =
@@ -413,11 +429,13 @@ module _ (w : List ℕ) where
       let c = drop-cons w e 0 (omega (arith, b .inside)) in
       rw (h, then, g, then, c)
 
-  pub placed : (p : ℕ) → Ends w 0 (restOf (environmentAt w)) p → (p ≡ 0 → ⊥) → (e : ℕ) → Ends w p (restOf (processAt (drop p w))) e → (e ≡ 0 → ⊥)
+  pub placed : (p : ℕ) → Ends w 0 (restOf (environmentAt w)) p → (p ≡ 0 → ⊥) → (e : ℕ) → Ends w p (restOf (processAt (drop p w))) e
+      → (e ≡ 0 → ⊥)
       → Placed w p e
   placed p q z e r y = record { environment = ends-at w 0 _ p q z; process = ends-at w p _ e r y }
 
-  pub asked-apart : (p : ℕ) → Ends w 0 (restOf (environmentAt w)) p → (p ≡ 0 → ⊥) → (e : ℕ) → Ends w p (restOf (processAt (drop p w))) e → (e ≡ 0 → ⊥)
+  pub asked-apart : (p : ℕ) → Ends w 0 (restOf (environmentAt w)) p → (p ≡ 0 → ⊥) → (e : ℕ) → Ends w p (restOf (processAt (drop p w))) e
+      → (e ≡ 0 → ⊥)
       → e ≡ length w → (b : Bool) → b ≡ allApart (environmentNames w) (bindersAt w p) (bindersAt w p) → b ≡ keepsApart w
   unfolding keepsApart then holds whole namesIn
   asked-apart p q z e r y o b c =

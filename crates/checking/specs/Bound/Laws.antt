@@ -54,7 +54,8 @@ bound-then (some p) k v o e h =
     let s : v ≡ p .1 = cc in
     subst (λ (u : List ℕ). boundIn (k (p .0) u) ≡ o) s (h (p .0))
 
-bound-term : (u : List ℕ) (k : Term → List ℕ → Read (List Process)) (v o : List ℕ) → skipTerm u ≡ some v → ((M : Term) → boundIn (k M v) ≡ o)
+bound-term : (u : List ℕ) (k : Term → List ℕ → Read (List Process)) (v o : List ℕ) → skipTerm u ≡ some v
+    → ((M : Term) → boundIn (k M v) ≡ o)
     → boundIn (withTerm u k) ≡ o
 unfolding withTerm
 bound-term u k v o e h = bound-then (term u) k v o e h
@@ -104,7 +105,8 @@ skips-came n m t u v e =
     (a, b, p, q, c)
 
 -- ---- one process: its names, and those of what is behind its own words
-pub processes-bound : (f p q c : ℕ) (u v z : List ℕ) → q ≡ p + processParts c → processOwn (c ∷ u) ≡ some v → restOf (processes f q v) ≡ some z
+pub processes-bound : (f p q c : ℕ) (u v z : List ℕ) → q ≡ p + processParts c → processOwn (c ∷ u) ≡ some v
+    → restOf (processes f q v) ≡ some z
     → boundIn (processes (suc f) (suc p) (c ∷ u)) ≡ take (processNames c) u ++ boundIn (processes f q v)
 unfolding processes processOwn processParts processNames pick then skips times skipName binders
 processes-bound f p q zero u v z e o s = absurd (let y : _≡_ {A = ℕ} 0 1 = cc in omega arith)
@@ -126,7 +128,8 @@ processes-bound f p q (suc (suc zero)) u v z e o s =
     let h1 : skipTerm u ≡ some c = subst (λ (y : List ℕ). skipTerm y ≡ some c) na c1 in
     let te : v ≡ b = none-of skipType b v t0 in
     let h3 : skipTerm c ≡ some v = c2 ∙ ap {B = Option (List ℕ)} some (sym te) in
-    rw one (bound-term u _ c _ h1 (λ _. bound-term c _ v _ h3 (λ _. bound-altered _ [] p (processes f (suc p) v) (processes-counted f (suc p) v) z r (λ P. refl))))
+    rw one (bound-term u _ c _ h1 (λ _. bound-term c _ v _ h3 (λ _. bound-altered _ [] p (processes f (suc p) v) (processes-counted f (suc p) v) z r (λ P.
+    refl))))
 processes-bound f p q (suc (suc (suc zero))) [] v z e o s = absurd (let y : _≡_ {A = ℕ} 0 1 = cc in omega arith)
 processes-bound f p q (suc (suc (suc zero))) (x ∷ u) v z e o s =
     let one : q ≡ suc p = omega arith in
@@ -135,7 +138,8 @@ processes-bound f p q (suc (suc (suc zero))) (x ∷ u) v z e o s =
     let na : a ≡ u = names-one x u a n0 in
     let h1 : skipTerm u ≡ some b = subst (λ (y : List ℕ). skipTerm y ≡ some b) na (one-of skipTerm a b m0) in
     let h2 : skipType b ≡ some v = one-of skipType b v t0 in
-    rw one (bound-term u _ b _ h1 (λ _. bound-type b _ v _ h2 (λ _. bound-altered _ (x ∷ []) p (processes f (suc p) v) (processes-counted f (suc p) v) z r (λ P. refl))))
+    rw one (bound-term u _ b _ h1 (λ _. bound-type b _ v _ h2 (λ _. bound-altered _ (x ∷ []) p (processes f (suc p) v) (processes-counted f (suc p) v) z r
+    (λ P. refl))))
 processes-bound f p q (suc (suc (suc (suc zero)))) u v z e o s =
     let two : q ≡ suc (suc p) = omega arith in
     let r = rw two at s in
@@ -155,7 +159,8 @@ processes-bound f p q (suc (suc (suc (suc (suc (suc zero)))))) (x ∷ y ∷ u) v
     let na : a ≡ u = names-two x y u a n0 in
     let h1 : skipTerm u ≡ some b = subst (λ (y : List ℕ). skipTerm y ≡ some b) na (one-of skipTerm a b m0) in
     let (d, d1, d2) = two-of skipType b v t0 in
-    rw one (bound-term u _ b _ h1 (λ _. bound-type b _ d _ d1 (λ _. bound-type d _ v _ d2 (λ _. bound-altered _ (x ∷ y ∷ []) p (processes f (suc p) v) (processes-counted f (suc p) v) z r (λ P. refl)))))
+    rw one (bound-term u _ b _ h1 (λ _. bound-type b _ d _ d1 (λ _. bound-type d _ v _ d2 (λ _. bound-altered _ (x ∷ y ∷ []) p (processes f (suc p) v)
+    (processes-counted f (suc p) v) z r (λ P. refl)))))
 processes-bound f p q (suc (suc (suc (suc (suc (suc (suc zero))))))) [] v z e o s = absurd (let y : _≡_ {A = ℕ} 0 1 = cc in omega arith)
 processes-bound f p q (suc (suc (suc (suc (suc (suc (suc zero))))))) (x ∷ u) v z e o s =
     let one : q ≡ suc p = omega arith in
@@ -165,7 +170,8 @@ processes-bound f p q (suc (suc (suc (suc (suc (suc (suc zero))))))) (x ∷ u) v
     let (c, c1, c2) = two-of skipTerm a b m0 in
     let h1 : skipTerm u ≡ some c = subst (λ (y : List ℕ). skipTerm y ≡ some c) na c1 in
     let h2 : skipType b ≡ some v = one-of skipType b v t0 in
-    rw one (bound-term u _ c _ h1 (λ _. bound-term c _ b _ c2 (λ _. bound-type b _ v _ h2 (λ _. bound-altered _ (x ∷ []) p (processes f (suc p) v) (processes-counted f (suc p) v) z r (λ P. refl)))))
+    rw one (bound-term u _ c _ h1 (λ _. bound-term c _ b _ c2 (λ _. bound-type b _ v _ h2 (λ _. bound-altered _ (x ∷ []) p (processes f (suc p) v)
+    (processes-counted f (suc p) v) z r (λ P. refl)))))
 processes-bound f p q (suc (suc (suc (suc (suc (suc (suc (suc zero)))))))) [] v z e o s = absurd (let y : _≡_ {A = ℕ} 0 1 = cc in omega arith)
 processes-bound f p q (suc (suc (suc (suc (suc (suc (suc (suc zero)))))))) (x ∷ u) v z e o s =
     let one : q ≡ suc p = omega arith in
@@ -175,7 +181,8 @@ processes-bound f p q (suc (suc (suc (suc (suc (suc (suc (suc zero)))))))) (x �
     let (c, c1, c2) = two-of skipTerm a b m0 in
     let h1 : skipTerm u ≡ some c = subst (λ (y : List ℕ). skipTerm y ≡ some c) na c1 in
     let h2 : skipType b ≡ some v = one-of skipType b v t0 in
-    rw one (bound-term u _ c _ h1 (λ _. bound-term c _ b _ c2 (λ _. bound-type b _ v _ h2 (λ _. bound-altered _ (x ∷ []) p (processes f (suc p) v) (processes-counted f (suc p) v) z r (λ P. refl)))))
+    rw one (bound-term u _ c _ h1 (λ _. bound-term c _ b _ c2 (λ _. bound-type b _ v _ h2 (λ _. bound-altered _ (x ∷ []) p (processes f (suc p) v)
+    (processes-counted f (suc p) v) z r (λ P. refl)))))
 processes-bound f p q (suc (suc (suc (suc (suc (suc (suc (suc (suc zero))))))))) u v z e o s =
     let one : q ≡ suc p = omega arith in
     let r = rw one at s in
@@ -194,7 +201,8 @@ processes-bound f p q (suc (suc (suc (suc (suc (suc (suc (suc (suc (suc zero))))
     let te : v ≡ b = none-of skipType b v t0 in
     let h3 : skipTerm u ≡ some v = h1 ∙ ap {B = Option (List ℕ)} some (sym te) in
     rw one (bound-term u _ v _ h3 (λ _. bound-altered _ [] p (processes f (suc p) v) (processes-counted f (suc p) v) z r (λ P. refl)))
-processes-bound f p q (suc (suc (suc (suc (suc (suc (suc (suc (suc (suc (suc zero))))))))))) [] v z e o s = absurd (let y : _≡_ {A = ℕ} 0 1 = cc in omega arith)
+processes-bound f p q (suc (suc (suc (suc (suc (suc (suc (suc (suc (suc (suc zero))))))))))) [] v z e o s = absurd
+    (let y : _≡_ {A = ℕ} 0 1 = cc in omega arith)
 processes-bound f p q (suc (suc (suc (suc (suc (suc (suc (suc (suc (suc (suc zero))))))))))) (x ∷ u) v z e o s =
     let one : q ≡ suc p = omega arith in
     let r = rw one at s in
@@ -204,7 +212,8 @@ processes-bound f p q (suc (suc (suc (suc (suc (suc (suc (suc (suc (suc (suc zer
     let h1 : skipTerm u ≡ some b = subst (λ (y : List ℕ). skipTerm y ≡ some b) na (one-of skipTerm a b m0) in
     let te : end ≡ b = none-of skipType b end t0 in
     let h3 : skipTerm u ≡ some end = h1 ∙ ap {B = Option (List ℕ)} some (sym te) in
-    rw one (bound-term u _ end _ h3 (λ _. bound-effects end _ v _ last (λ _. bound-altered _ (x ∷ []) p (processes f (suc p) v) (processes-counted f (suc p) v) z r (λ P. refl))))
+    rw one (bound-term u _ end _ h3 (λ _. bound-effects end _ v _ last (λ _. bound-altered _ (x ∷ []) p (processes f (suc p) v) (processes-counted f (suc p)
+    v) z r (λ P. refl))))
 processes-bound f p q (suc (suc (suc (suc (suc (suc (suc (suc (suc (suc (suc (suc zero)))))))))))) u v z e o s =
     let one : q ≡ suc p = omega arith in
     let r = rw one at s in
@@ -214,5 +223,7 @@ processes-bound f p q (suc (suc (suc (suc (suc (suc (suc (suc (suc (suc (suc (su
     let h1 : skipTerm u ≡ some c = subst (λ (y : List ℕ). skipTerm y ≡ some c) na c1 in
     let te : v ≡ b = none-of skipType b v t0 in
     let h3 : skipTerm c ≡ some v = c2 ∙ ap {B = Option (List ℕ)} some (sym te) in
-    rw one (bound-term u _ c _ h1 (λ _. bound-term c _ v _ h3 (λ _. bound-altered _ [] p (processes f (suc p) v) (processes-counted f (suc p) v) z r (λ P. refl))))
-processes-bound f p q (suc (suc (suc (suc (suc (suc (suc (suc (suc (suc (suc (suc (suc c))))))))))))) u v z e o s = absurd (let y : _≡_ {A = ℕ} 0 1 = cc in omega arith)
+    rw one (bound-term u _ c _ h1 (λ _. bound-term c _ v _ h3 (λ _. bound-altered _ [] p (processes f (suc p) v) (processes-counted f (suc p) v) z r (λ P.
+    refl))))
+processes-bound f p q (suc (suc (suc (suc (suc (suc (suc (suc (suc (suc (suc (suc (suc c))))))))))))) u v z e o s = absurd
+    (let y : _≡_ {A = ℕ} 0 1 = cc in omega arith)

@@ -32,7 +32,8 @@ unfolding remove choose
 remove-length f [] h = absurd (omega (arith, count-none f))
 remove-length f (g ∷ es) h = go (sameEffect f g) (λ d. remove-length f es d)
   where
-    go : (c : Dec (f ≡ g)) → (0 < count f es → length es ≡ suc (length (remove f es))) → length (g ∷ es) ≡ suc (length (choose c es (g ∷ remove f es)))
+    go : (c : Dec (f ≡ g)) → (0 < count f es → length es ≡ suc (length (remove f es)))
+        → length (g ∷ es) ≡ suc (length (choose c es (g ∷ remove f es)))
     go (yes p) r = refl
     go (no p) r = ap suc (r (omega (arith, count-other f g es p)))
 
@@ -41,7 +42,8 @@ empty-list [] h = refl
 empty-list (e ∷ es) h = absurd (omega arith)
 
 -- lists of one length in which the effects of the second stand equally often have all effects equally often
-pub counts-all : (fs es : List Effect) → length es ≡ length fs → ((x : Effect) → 0 < count x fs → count x es ≡ count x fs) → (x : Effect) → count x es ≡ count x fs
+pub counts-all : (fs es : List Effect) → length es ≡ length fs → ((x : Effect) → 0 < count x fs → count x es ≡ count x fs) → (x : Effect)
+    → count x es ≡ count x fs
 counts-all [] es l h x = ap (count x) (empty-list es l)
 counts-all (f ∷ fs) es l h x =
     let here = count-here f f fs refl in
@@ -84,7 +86,8 @@ module _ (u : List ℕ) (a k end : ℕ) (x : Effect) (i j n : ℕ) (t : Tally u 
   turn : j < k → (r : ℕ) → Ends u (i + 1) (restOf (term (drop (i + 1) u))) r → effectsIn u i (k - j) ≡ effectIn u i ∷ effectsIn u r (k - (j + 1))
   turn h r q = along-list u end (k - j) i (t .along) (due h) r q ∙ ap (λ (m : ℕ). effectIn u i ∷ effectsIn u r m) less
 
-  pub tally-again : j < k → (r : ℕ) → Ends u (i + 1) (restOf (term (drop (i + 1) u))) r → (b : Bool) → b ≡ test (sameEffect (effectIn u i) x) → (p : ℕ)
+  pub tally-again : j < k → (r : ℕ) → Ends u (i + 1) (restOf (term (drop (i + 1) u))) r → (b : Bool) → b ≡ test (sameEffect (effectIn u i) x)
+      → (p : ℕ)
       → p ≡ pick b 1 0 → p ≤ 1 → Tally u a k end x r (j + 1) (n + p)
   unfolding pick
   tally-again h r q b e p d l =
@@ -96,7 +99,8 @@ module _ (u : List ℕ) (a k end : ℕ) (x : Effect) (i j n : ℕ) (t : Tally u 
         small = omega (arith, t .small);
       }
     where
-      go : (c : Bool) → c ≡ test (sameEffect (effectIn u i) x) → p ≡ pick c 1 0 → count x (effectsIn u i (k - j)) ≡ count x (effectIn u i ∷ effectsIn u r (k - (j + 1)))
+      go : (c : Bool) → c ≡ test (sameEffect (effectIn u i) x) → p ≡ pick c 1 0
+          → count x (effectsIn u i (k - j)) ≡ count x (effectIn u i ∷ effectsIn u r (k - (j + 1)))
           → count x (effectsIn u a k) ≡ (n + p) + count x (effectsIn u r (k - (j + 1)))
       go true f g s = elim (sameEffect (effectIn u i) x) [
         | yes y ↦ omega (arith, t .sum, count-here x (effectIn u i) (effectsIn u r (k - (j + 1))) (sym y))
@@ -118,13 +122,16 @@ module _ (u : List ℕ) (a k end : ℕ) (x : Effect) (i j n : ℕ) (t : Tally u 
 pub record Weighing (u : List ℕ) (a k : ℕ) (v : List ℕ) (b l fin i j : ℕ) : Type 0 where
   pub along : Along v fin (l - j) i
   pub few : j ≤ l
-  pub passed : (x : Effect) → 0 < count x (effectsIn v b l) → (count x (effectsIn u a k) ≡ count x (effectsIn v b l)) ⊎ (0 < count x (effectsIn v i (l - j)))
+  pub passed : (x : Effect) → 0 < count x (effectsIn v b l)
+      → (count x (effectsIn u a k) ≡ count x (effectsIn v b l)) ⊎ (0 < count x (effectsIn v i (l - j)))
 
-pub weighing-begin : (u : List ℕ) (a k : ℕ) (v : List ℕ) (b l fin : ℕ) → restOf (effects l (drop b v)) ≡ some (drop fin v) → 0 < b → Weighing u a k v b l fin b 0
+pub weighing-begin : (u : List ℕ) (a k : ℕ) (v : List ℕ) (b l fin : ℕ) → restOf (effects l (drop b v)) ≡ some (drop fin v) → 0 < b
+    → Weighing u a k v b l fin b 0
 weighing-begin u a k v b l fin h lo =
     record { along = record { reads = rw (sub-zero l) h; low = lo }; few = omega arith; passed = λ x c. inr (rw (sub-zero l) c) }
 
-module _ (u : List ℕ) (a k end : ℕ) (v : List ℕ) (b l fin : ℕ) (s : restOf (effects k (drop a u)) ≡ some (drop end u)) (w : restOf (effects l (drop b v)) ≡ some (drop fin v)) where
+module _ (u : List ℕ) (a k end : ℕ) (v : List ℕ) (b l fin : ℕ) (s : restOf (effects k (drop a u)) ≡ some (drop end u))
+    (w : restOf (effects l (drop b v)) ≡ some (drop fin v)) where
   pub bags-differ : (x : Effect) (m n : ℕ) → m ≡ count x (effectsIn u a k) → n ≡ count x (effectsIn v b l) → (m ≡ n → ⊥)
       → false ≡ test (sameEffects (bag (effectsIn u a k)) (bag (effectsIn v b l)))
   bags-differ x m n e f d =
@@ -144,7 +151,8 @@ module _ (u : List ℕ) (a k end : ℕ) (v : List ℕ) (b l fin : ℕ) (s : rest
     pub weighing-end : j < l → (r : ℕ) → Ends v (i + 1) (restOf (term (drop (i + 1) v))) r → At v i (restOf (effectOf (drop i v))) r
     weighing-end h r q = along-end v fin (l - j) i (t .along) (still h) r q
 
-    pub weighing-again : j < l → (r : ℕ) → Ends v (i + 1) (restOf (term (drop (i + 1) v))) r → (m n : ℕ) → m ≡ count (effectIn v i) (effectsIn u a k)
+    pub weighing-again : j < l → (r : ℕ) → Ends v (i + 1) (restOf (term (drop (i + 1) v))) r → (m n : ℕ)
+        → m ≡ count (effectIn v i) (effectsIn u a k)
         → n ≡ count (effectIn v i) (effectsIn v b l) → m ≡ n → Weighing u a k v b l fin r (j + 1)
     weighing-again h r q m n e f d =
         let turn = along-list v fin (l - j) i (t .along) (still h) r q ∙ ap (λ (y : ℕ). effectIn v i ∷ effectsIn v r y) fewer in
@@ -183,7 +191,9 @@ length-same (e ∷ es) fs h =
 
 -- lists of two lengths are never one multiset
 pub bags-lengths : (u : List ℕ) (a k end : ℕ) (v : List ℕ) (b l fin : ℕ) → restOf (effects k (drop a u)) ≡ some (drop end u)
-    → restOf (effects l (drop b v)) ≡ some (drop fin v) → (k ≡ l → ⊥) → false ≡ test (sameEffects (bag (effectsIn u a k)) (bag (effectsIn v b l)))
+    → restOf (effects l (drop b v)) ≡ some (drop fin v) → (k ≡ l → ⊥)
+    → false ≡ test (sameEffects (bag (effectsIn u a k)) (bag (effectsIn v b l)))
 bags-lengths u a k end v b l fin s w d =
     sym (test-no (sameEffects (bag (effectsIn u a k)) (bag (effectsIn v b l)))
-    (λ h. d (sym (list-length u a k end s) ∙ length-same (effectsIn u a k) (effectsIn v b l) (bag-same (effectsIn u a k) (effectsIn v b l) .0 h) ∙ list-length v b l fin w)))
+    (λ h. d (sym (list-length u a k end s) ∙ length-same (effectsIn u a k) (effectsIn v b l) (bag-same (effectsIn u a k) (effectsIn v b l) .0 h)
+    ∙ list-length v b l fin w)))

@@ -82,7 +82,8 @@ pub record First (m : ℕ) (u z : List ℕ) : Type 0 where
   pub others : restOf (effects m behind) ≡ some z
   pub list : valueOr [] (effects (suc m) u) ≡ effect ∷ valueOr [] (effects m behind)
 
-list-ahead : (e : Effect) (r : Read (List Effect)) (z : List ℕ) → restOf (ahead e r) ≡ some z → (restOf r ≡ some z) × (valueOr [] (ahead e r) ≡ e ∷ valueOr [] r)
+list-ahead : (e : Effect) (r : Read (List Effect)) (z : List ℕ) → restOf (ahead e r) ≡ some z
+    → (restOf r ≡ some z) × (valueOr [] (ahead e r) ≡ e ∷ valueOr [] r)
 unfolding restOf ahead then valueOr
 list-ahead e none z h = absurd (let y : _≡_ {A = ℕ} 0 1 = cc in omega arith)
 list-ahead e (some p) z h = (h, refl)
@@ -95,7 +96,14 @@ first-of m u z e = go (effectOf u) refl e
     go none d h = absurd (let y : _≡_ {A = ℕ} 0 1 = cc in omega arith)
     go (some p) d h =
         let (r, l) = list-ahead (p .0) (effects m (p .1)) z h in
-        record { effect = p .0; behind = p .1; reads = d; others = r; list = ap (λ (o : Read Effect). valueOr [] (then o (λ q. ahead (q .0) (effects m (q .1))))) d ∙ l }
+        record {
+          effect = p .0;
+          behind = p .1;
+          reads = d;
+          others = r;
+          list = ap
+              (λ (o : Read Effect). valueOr [] (then o (λ q. ahead (q .0) (effects m (q .1))))) d ∙ l;
+        }
 
 -- an effect's word, and its term behind it
 pub record Word (u v : List ℕ) : Type 0 where

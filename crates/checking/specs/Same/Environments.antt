@@ -25,7 +25,8 @@ value-last : (f c : ℕ) (u : List ℕ) → c ≡ 1 → valueOr [] (entries (suc
 unfolding entries valueOr
 value-last f c u e = rw e
 
-value-after : (a : Entry) (r : Read Environment) (z : List ℕ) → restOf r ≡ some z → valueOr [] (after (λ (E : Environment). a ∷ E) r) ≡ a ∷ valueOr [] r
+value-after : (a : Entry) (r : Read Environment) (z : List ℕ) → restOf r ≡ some z
+    → valueOr [] (after (λ (E : Environment). a ∷ E) r) ≡ a ∷ valueOr [] r
 unfolding restOf after then valueOr
 value-after a none z h = absurd (let y : _≡_ {A = ℕ} 0 1 = cc in omega arith)
 value-after a (some p) z h = refl
@@ -36,7 +37,8 @@ unfolding entries then restOf valueOr
 value-entry f c x u v z e h r = rw e (go (typeAt u) h)
   where
     go : (o : Read Ty) → restOf o ≡ some v
-        → valueOr [] (then o (λ q. after (λ (E : Environment). (x ⦂ q .0) ∷ E) (entries f (q .1)))) ≡ (x ⦂ valueOr Ty.Un o) ∷ valueOr [] (entries f v)
+        → valueOr [] (then o (λ q. after (λ (E : Environment). (x ⦂ q .0) ∷ E) (entries f (q .1)))) ≡ (x ⦂ valueOr Ty.Un o) ∷ valueOr []
+        (entries f v)
     go none k = absurd (let y : _≡_ {A = ℕ} 0 1 = cc in omega arith)
     go (some q) k =
         let s : v ≡ q .1 = cc in
@@ -56,7 +58,8 @@ pub along-begin : (w : List ℕ) (a end : ℕ) → At w a (restOf (environmentAt
 unfolding environmentAt
 along-begin w a end h = record { fuel = length (drop a w); enough = omega (arith, length-drop a w); reads = h .rest }
 
-pub begin-list : (w : List ℕ) (a end : ℕ) (h : At w a (restOf (environmentAt (drop a w))) end) → listOf w end a (along-begin w a end h) ≡ environmentIn w a
+pub begin-list : (w : List ℕ) (a end : ℕ) (h : At w a (restOf (environmentAt (drop a w))) end)
+    → listOf w end a (along-begin w a end h) ≡ environmentIn w a
 unfolding listOf along-begin environmentIn environmentAt
 begin-list w a end h = refl
 
@@ -97,7 +100,8 @@ module _ (w : List ℕ) (end i : ℕ) (t : Along w end i) where
     | yes l ↦ l
     | no l ↦
         let f : drop (suc i) w ≡ [] = drop-of-length-le w {i = suc i} (omega arith) in
-        absurd (some-not _ (t .reads) (ap restOf reading ∙ ap (λ (u : List ℕ). restOf (entries (suc (t .fuel - 1)) (getD w i 0 ∷ u))) f ∙ entries-cut (t .fuel - 1) _ e))
+        absurd (some-not _ (t .reads) (ap restOf reading ∙ ap (λ (u : List ℕ). restOf (entries (suc (t .fuel - 1)) (getD w i 0 ∷ u))) f
+        ∙ entries-cut (t .fuel - 1) _ e))
   ]
 
   entry : getD w i 0 ≡ 2 → entries (t .fuel) (drop i w) ≡ entries (suc (t .fuel - 1)) (getD w i 0 ∷ getD w (i + 1) 0 ∷ drop (i + 2) w)
@@ -208,7 +212,8 @@ module _ (u : List ℕ) (a e : ℕ) (v : List ℕ) (b f i j : ℕ) (t : Pairing 
         let y = along-list v f j (t .right) (sym d ∙ two) s (pairing-right-type s k) in
         unequal (λ g. n (names-of (sym x ∙ g ∙ y)))
       where
-        names-of : {E F : Environment} {T U : Ty} → (getD u (i + 1) 0 ⦂ T) ∷ E ≡ (getD v (j + 1) 0 ⦂ U) ∷ F → getD u (i + 1) 0 ≡ getD v (j + 1) 0
+        names-of : {E F : Environment} {T U : Ty} → (getD u (i + 1) 0 ⦂ T) ∷ E ≡ (getD v (j + 1) 0 ⦂ U) ∷ F
+            → getD u (i + 1) 0 ≡ getD v (j + 1) 0
         names-of z = cc
 
     pub pairing-types : (r : ℕ) → Ends u (i + 2) (restOf (typeAt (drop (i + 2) u))) r → (s : ℕ) → Ends v (j + 2) (restOf (typeAt (drop (j + 2) v))) s
@@ -219,7 +224,8 @@ module _ (u : List ℕ) (a e : ℕ) (v : List ℕ) (b f i j : ℕ) (t : Pairing 
         let y = along-list v f j (t .right) (sym d ∙ two) s (pairing-right-type s k) in
         unequal (λ g. clash (m ∙ test-yes (sameType (typeIn u (i + 2)) (typeIn v (j + 2))) (types-of (sym x ∙ g ∙ y))) (not-true _ n))
       where
-        types-of : {E F : Environment} → (getD u (i + 1) 0 ⦂ typeIn u (i + 2)) ∷ E ≡ (getD v (j + 1) 0 ⦂ typeIn v (j + 2)) ∷ F → typeIn u (i + 2) ≡ typeIn v (j + 2)
+        types-of : {E F : Environment} → (getD u (i + 1) 0 ⦂ typeIn u (i + 2)) ∷ E ≡ (getD v (j + 1) 0 ⦂ typeIn v (j + 2)) ∷ F
+            → typeIn u (i + 2) ≡ typeIn v (j + 2)
         types-of z = cc
 
     pub pairing-again : (r : ℕ) → Ends u (i + 2) (restOf (typeAt (drop (i + 2) u))) r → (s : ℕ) → Ends v (j + 2) (restOf (typeAt (drop (j + 2) v))) s

@@ -66,9 +66,11 @@ unfolding Spelled ahead then allTermWords
 spelled-ahead M ws u none e h l v d = absurd (let z : _≡_ {A = ℕ} 0 1 = cc in omega arith)
 spelled-ahead M ws u (some p) e h l v d =
     rw (firsts (M ∷ p .0) l (p .1) v d, seconds (M ∷ p .0) l (p .1) v d)
-    (ap (λ (k : List ℕ). k ++ u) (sym e) ∙ ap (λ (k : List ℕ). termWords M ++ k) (h (p .0) (p .1) refl) ∙ sym (append-assoc (termWords M) (allTermWords (p .0)) (p .1)))
+    (ap (λ (k : List ℕ). k ++ u) (sym e) ∙ ap (λ (k : List ℕ). termWords M ++ k) (h (p .0) (p .1) refl)
+    ∙ sym (append-assoc (termWords M) (allTermWords (p .0)) (p .1)))
 
-spelled-joined : (c : ℕ) (f : Term → Term → Term) (m : ℕ) (u : List ℕ) (r : Read (List Term)) → ((A B : Term) → termWords (f A B) ≡ c ∷ (termWords A ++ termWords B))
+spelled-joined : (c : ℕ) (f : Term → Term → Term) (m : ℕ) (u : List ℕ) (r : Read (List Term))
+    → ((A B : Term) → termWords (f A B) ≡ c ∷ (termWords A ++ termWords B))
     → Counted (suc (suc m)) r → Spelled r u → Spelled (after (joined f) r) (c ∷ u)
 unfolding Spelled after then joined allTermWords
 spelled-joined c f m u none g k h l v d = absurd (let z : _≡_ {A = ℕ} 0 1 = cc in omega arith)
@@ -106,7 +108,8 @@ terms-spelled (suc (suc (suc (suc zero))) ∷ []) (suc m) = none-spelled (4 ∷ 
 terms-spelled (suc (suc (suc (suc zero))) ∷ k ∷ u) (suc m) = spelled-ahead (Term.bound k) (4 ∷ k ∷ []) u (terms u m) refl (terms-spelled u m)
 terms-spelled (suc (suc (suc (suc (suc c)))) ∷ u) (suc m) = none-spelled (suc (suc (suc (suc (suc c)))) ∷ u)
 
-one-spelled : (u : List ℕ) (r : Read (List Term)) → Counted 1 r → Spelled r u → (M : Term) (v : List ℕ) → only r ≡ some (M, v) → u ≡ termWords M ++ v
+one-spelled : (u : List ℕ) (r : Read (List Term)) → Counted 1 r → Spelled r u → (M : Term) (v : List ℕ) → only r ≡ some (M, v)
+    → u ≡ termWords M ++ v
 unfolding Spelled only then allTermWords
 one-spelled u none c h M v e = absurd (let z : _≡_ {A = ℕ} 0 1 = cc in omega arith)
 one-spelled u (some q) c h M v e = go (q .0) (q .1) (c (q .0) (q .1) refl) (h (q .0) (q .1) refl) e
@@ -134,7 +137,8 @@ term-run w a e b =
     let s = term-spelled (drop a w) (valueOr (Term.bound 0) (term (drop a w))) (drop e w) r in
     let n : length (termWords (valueOr (Term.bound 0) (term (drop a w)))) ≡ e - a =
     lengths (length w) a e (length (drop a w)) (length (drop e w)) (length (termWords (valueOr (Term.bound 0) (term (drop a w)))))
-    (length-drop a w) (length-drop e w) (ap length s ∙ length-append (termWords (valueOr (Term.bound 0) (term (drop a w)))) (drop e w)) (b .after) (b .inside) in
+    (length-drop a w) (length-drop e w) (ap length s ∙ length-append (termWords (valueOr (Term.bound 0) (term (drop a w)))) (drop e w)) (b .after)
+    (b .inside) in
     ap (take (e - a)) s ∙ take-at (termWords (valueOr (Term.bound 0) (term (drop a w)))) (drop e w) (e - a) n
 
 pub run-term : (w : List ℕ) (a e : ℕ) → At w a (restOf (term (drop a w))) e → run w a (e - a) ≡ termWords (termIn w a)
@@ -158,7 +162,8 @@ module _ (u v : List ℕ) (a b n k : ℕ) (t : Runs u v a b n k) where
   turn : k < n → sameWords (run u a n) (run v b n)
       ≡ sameWords (getD u (a + k) 0 ∷ run u (a + (k + 1)) (n - (k + 1))) (getD v (b + k) 0 ∷ run v (b + (k + 1)) (n - (k + 1)))
   turn h =
-      t .same ∙ ap (λ (l : List ℕ). sameWords l (run v (b + k) (n - k))) (go u a) ∙ ap (sameWords (getD u (a + k) 0 ∷ run u (a + (k + 1)) (n - (k + 1)))) (go v b)
+      t .same ∙ ap (λ (l : List ℕ). sameWords l (run v (b + k) (n - k))) (go u a)
+      ∙ ap (sameWords (getD u (a + k) 0 ∷ run u (a + (k + 1)) (n - (k + 1)))) (go v b)
     where
       go : (w : List ℕ) (x : ℕ) → run w (x + k) (n - k) ≡ getD w (x + k) 0 ∷ run w (x + (k + 1)) (n - (k + 1))
       go w x =

@@ -45,7 +45,8 @@ leaf-closed (Term.cipher M N) =
 
 -- ---- what was read, with one in front and with the first two put together
 module _ (p : ℕ → ℕ → Bool) where
-  leaves-ahead : (M : Term) (r : Read (List Term)) (z : List ℕ) → restOf r ≡ some z → anyLeaves p (valueOr [] (ahead M r)) ≡ (anyLeaf p M || anyLeaves p (valueOr [] r))
+  leaves-ahead : (M : Term) (r : Read (List Term)) (z : List ℕ) → restOf r ≡ some z
+      → anyLeaves p (valueOr [] (ahead M r)) ≡ (anyLeaf p M || anyLeaves p (valueOr [] r))
   unfolding restOf ahead then valueOr anyLeaves
   leaves-ahead M none z h = absurd (let y : _≡_ {A = ℕ} 0 1 = cc in omega arith)
   leaves-ahead M (some q) z h = refl
@@ -88,7 +89,8 @@ module _ (p : ℕ → ℕ → Bool) where
     pub few : due ≤ i + 1
     pub same : anyLeaf p (termIn w a) ≡ anyLeaves p (valueOr [] (terms (drop i w) due))
 
-  one-term : (r : Read (List Term)) → Counted 1 r → (z : List ℕ) → restOf r ≡ some z → anyLeaf p (valueOr (Term.bound 0) (only r)) ≡ anyLeaves p (valueOr [] r)
+  one-term : (r : Read (List Term)) → Counted 1 r → (z : List ℕ) → restOf r ≡ some z
+      → anyLeaf p (valueOr (Term.bound 0) (only r)) ≡ anyLeaves p (valueOr [] r)
   unfolding restOf valueOr only then anyLeaves
   one-term none c z e = absurd (let y : _≡_ {A = ℕ} 0 1 = cc in omega arith)
   one-term (some q) c z e = go (q .0) (q .1) (c (q .0) (q .1) refl)
@@ -142,7 +144,8 @@ module _ (p : ℕ → ℕ → Bool) where
       | no l ↦
           let f : drop (suc i) w ≡ [] = drop-of-length-le w {i = suc i} (omega arith) in
           absurd (some-not _ (t .reads)
-          (ap restOf (reading h) ∙ ap (λ (u : List ℕ). restOf (terms (getD w i 0 ∷ u) (suc (due - 1)))) f ∙ terms-cut (getD w i 0) (due - 1) (sym e ∙ one)))
+          (ap restOf (reading h) ∙ ap (λ (u : List ℕ). restOf (terms (getD w i 0 ∷ u) (suc (due - 1)))) f
+          ∙ terms-cut (getD w i 0) (due - 1) (sym e ∙ one)))
     ]
 
     rest-leaf : (h : 0 < due) (n : ℕ) → n ≡ termTurn (getD w i 0) → (one : n ≡ 1)
@@ -236,7 +239,8 @@ module _ (w : List ℕ) (a end x i due : ℕ) (t : Along (isName x) w a end i du
   pub name-found : 0 < due → (b : Bool) → b ≡ isName x (getD w i 0) (getD w (i + 1) 0) → b ≡ true → true ≡ occurs x (termIn w a)
   name-found h b e d = found (isName x) w a end i due t (name-turn x) h (sym e ∙ d) ∙ leaf-occurs x (termIn w a)
 
-  pub name-again : 0 < due → (b : Bool) → b ≡ isName x (getD w i 0) (getD w (i + 1) 0) → b ≡ false → (n : ℕ) → n ≡ termTurn (getD w i 0) → n ≤ 2
+  pub name-again : 0 < due → (b : Bool) → b ≡ isName x (getD w i 0) (getD w (i + 1) 0) → b ≡ false → (n : ℕ) → n ≡ termTurn (getD w i 0)
+      → n ≤ 2
       → Along (isName x) w a end (i + 3 - n) (due + 2 * n - 3)
   name-again h b e d n k l = again (isName x) w a end i due t h (sym e ∙ d) n k l
 
@@ -262,7 +266,8 @@ module _ (w : List ℕ) (a end i due : ℕ) (t : Along isBound w a end i due) wh
   unfolding isBound
   closed-found h e = ap not (found isBound w a end i due t bound-turn h (eq-eqb (getD w i 0) 4 e)) ∙ leaf-closed (termIn w a)
 
-  pub closed-again : 0 < due → (getD w i 0 ≡ 4 → ⊥) → (n : ℕ) → n ≡ termTurn (getD w i 0) → n ≤ 2 → Along isBound w a end (i + 3 - n) (due + 2 * n - 3)
+  pub closed-again : 0 < due → (getD w i 0 ≡ 4 → ⊥) → (n : ℕ) → n ≡ termTurn (getD w i 0) → n ≤ 2
+      → Along isBound w a end (i + 3 - n) (due + 2 * n - 3)
   unfolding isBound
   closed-again h d n k l = again isBound w a end i due t h (ne-eqb (getD w i 0) 4 d) n k l
 

@@ -32,7 +32,8 @@ about-word (suc zero) u v e h = about-after Effect.end (λ M. refl) (term u) v h
 about-word (suc (suc zero)) u v e h = about-after Effect.check (λ M. refl) (term u) v h
 about-word (suc (suc (suc c))) u v e h = absurd (let z : _≡_ {A = ℕ} 0 1 = cc in omega arith)
 
-about-term : (w : List ℕ) (i r : ℕ) → i < length w → restOf (effectOf (drop i w)) ≡ some (drop r w) → restOf (term (drop (i + 1) w)) ≡ some (drop r w)
+about-term : (w : List ℕ) (i r : ℕ) → i < length w → restOf (effectOf (drop i w)) ≡ some (drop r w)
+    → restOf (term (drop (i + 1) w)) ≡ some (drop r w)
     → about (effectIn w i) ≡ termIn w (i + 1)
 unfolding effectIn termIn
 about-term w i r l e h =
@@ -80,7 +81,8 @@ module _ (w : List ℕ) (a k end x i j : ℕ) (t : Walk w a k end x i j) where
       → true ≡ mentions x (effectsIn w a k)
   walk-found h r q b e d = sym (turn h r q ∙ or-left _ _ (sym e ∙ d))
 
-  pub walk-again : j < k → (r : ℕ) → Ends w (i + 1) (restOf (term (drop (i + 1) w))) r → (b : Bool) → b ≡ occurs x (termIn w (i + 1)) → b ≡ false
+  pub walk-again : j < k → (r : ℕ) → Ends w (i + 1) (restOf (term (drop (i + 1) w))) r → (b : Bool) → b ≡ occurs x (termIn w (i + 1))
+      → b ≡ false
       → Walk w a k end x r (j + 1)
   walk-again h r q b e d =
       record {

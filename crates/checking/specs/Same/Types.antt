@@ -77,7 +77,8 @@ types-form f t (suc (suc (suc (suc (suc zero))))) [] v z o r = absurd (let y : _
 types-form f t (suc (suc (suc (suc (suc zero))))) (n ∷ u) v z o r =
     let q = rw (plus-zero t) at r in
     rw (plus-zero t)
-    (value-then (effects n u) [] (λ es w. ahead (Ty.nonce (bag es)) (types f t w)) v o ∙ value-ahead (Ty.nonce (bag (valueOr [] (effects n u)))) (types f t v) z q)
+    (value-then (effects n u) [] (λ es w. ahead (Ty.nonce (bag es)) (types f t w)) v o
+    ∙ value-ahead (Ty.nonce (bag (valueOr [] (effects n u)))) (types f t v) z q)
 types-form f t (suc (suc (suc (suc (suc (suc c)))))) u v z o r = absurd (let y : _≡_ {A = ℕ} 0 1 = cc in omega arith)
 
 -- ---- forms
@@ -110,7 +111,8 @@ form-code (suc (suc (suc (suc zero)))) es (T ∷ l) b h = refl
 form-code (suc (suc (suc (suc (suc zero))))) es l b h = refl
 form-code (suc (suc (suc (suc (suc (suc c)))))) es l b h = absurd (omega arith)
 
-form-rest : (c : ℕ) (es fs : List Effect) (l m : List Ty) → Begins c → typeParts c ≤ length l → typeParts c ≤ length m → form c es l ≡ form c fs m → l ≡ m
+form-rest : (c : ℕ) (es fs : List Effect) (l m : List Ty) → Begins c → typeParts c ≤ length l → typeParts c ≤ length m
+    → form c es l ≡ form c fs m → l ≡ m
 unfolding form typeParts joined altered Begins
 form-rest zero es fs l m b h k e = absurd (omega arith)
 form-rest (suc zero) es fs l m b h k e = cc
@@ -169,7 +171,8 @@ one-list (some p) c z e = go (p .0) (p .1) (c (p .0) (p .1) refl)
 
 begin-list : (w : List ℕ) (a end : ℕ) (h : At w a (restOf (typeAt (drop a w))) end) → listOf w end a 1 (along-begin w a end h) ≡ typeIn w a ∷ []
 unfolding listOf along-begin typeIn typeAt
-begin-list w a end h = one-list (types (length (drop a w)) 1 (drop a w)) (types-counted (length (drop a w)) 1 (drop a w)) (drop end w) (sym (rest-type (drop a w)) ∙ h .rest)
+begin-list w a end h = one-list (types (length (drop a w)) 1 (drop a w)) (types-counted (length (drop a w)) 1 (drop a w)) (drop end w)
+    (sym (rest-type (drop a w)) ∙ h .rest)
 
 sums : (due n p : ℕ) → 0 < due → n ≡ p → due - 1 + p ≡ due + n - 1
 sums due n p h e = omega arith
@@ -230,7 +233,8 @@ module _ (w : List ℕ) (end i due : ℕ) (t : Along w end i due) where
   along-own h r (inl n) = absurd (some-not _ (t .reads) (ap restOf (reading h) ∙ types-stop (t .fuel - 1) (due - 1) (drop i w) (n .none)))
   along-own h r (inr b) = b
 
-  pub along-turn : 0 < due → (r : ℕ) → Ends w (i + 1) (typeOwn (drop i w)) r → (n : ℕ) → n ≡ typeParts (getD w i 0) → n ≤ 2 → Turn w end i due t r n
+  pub along-turn : 0 < due → (r : ℕ) → Ends w (i + 1) (typeOwn (drop i w)) r → (n : ℕ) → n ≡ typeParts (getD w i 0) → n ≤ 2
+      → Turn w end i due t r n
   unfolding listOf Begins
   along-turn h r q n e k =
       let b = along-own h r q in
@@ -239,7 +243,8 @@ module _ (w : List ℕ) (end i due : ℕ) (t : Along w end i due) where
       let d = sums due n (typeParts (getD w i 0)) h e in
       let go = types-go (t .fuel - 1) (due - 1) (getD w i 0) (drop (suc i) w) (drop r w) own in
       let whole = reading h ∙ ap (types (suc (t .fuel - 1)) (suc (due - 1))) c in
-      let reads : restOf (types (t .fuel - 1) (due - 1 + typeParts (getD w i 0)) (drop r w)) ≡ some (drop end w) = sym go ∙ sym (ap restOf whole) ∙ t .reads in
+      let reads : restOf (types (t .fuel - 1) (due - 1 + typeParts (getD w i 0)) (drop r w)) ≡ some (drop end w) = sym go ∙ sym (ap restOf whole)
+      ∙ t .reads in
       let formed = types-form (t .fuel - 1) (due - 1) (getD w i 0) (drop (suc i) w) (drop r w) (drop end w) own reads in
       let there : restOf (types (t .fuel - 1) (due + n - 1) (drop r w)) ≡ some (drop end w) = rw d at reads in
       record {
@@ -332,11 +337,13 @@ module _ (u : List ℕ) (a e : ℕ) (v : List ℕ) (b f i j due : ℕ) (t : Pair
   pairing-effects h r q s p same c d g =
       let x = along-turn u e i due (t .left) h r q (typeParts (getD u i 0)) refl (parts-small (getD u i 0)) in
       let y = along-turn v f j due (t .right) h s p (typeParts (getD v j 0)) refl (parts-small (getD v j 0)) in
-      unequal (λ k. effects-clash _ _ (sym (x .list) ∙ k ∙ y .list ∙ ap (λ (m : ℕ). form m (ownEffects (drop j v)) (listOf v f s (due + typeParts (getD v j 0) - 1) (y .next))) (sym same)))
+      unequal (λ k. effects-clash _ _ (sym (x .list) ∙ k ∙ y .list
+      ∙ ap (λ (m : ℕ). form m (ownEffects (drop j v)) (listOf v f s (due + typeParts (getD v j 0) - 1) (y .next))) (sym same)))
     where
       effects-clash : (l m : List Ty) → form (getD u i 0) (ownEffects (drop i u)) l ≡ form (getD u i 0) (ownEffects (drop j v)) m → ⊥
       effects-clash l m k =
-          let differ : ownEffects (drop i u) ≡ ownEffects (drop j v) → ⊥ = λ z. clash (d ∙ test-yes (sameEffects (ownEffects (drop i u)) (ownEffects (drop j v))) z) (not-true _ g) in
+          let differ : ownEffects (drop i u) ≡ ownEffects (drop j v)
+          → ⊥ = λ z. clash (d ∙ test-yes (sameEffects (ownEffects (drop i u)) (ownEffects (drop j v))) z) (not-true _ g) in
           elim (ℕ-discrete (getD u i 0) 5) [
             | yes five ↦
                 differ (form-effects (ownEffects (drop i u)) (ownEffects (drop j v)) l m
@@ -357,11 +364,14 @@ module _ (u : List ℕ) (a e : ℕ) (v : List ℕ) (b f i j due : ℕ) (t : Pair
       record {
         left = x .next;
         right = y .next;
-        to = λ z. form-rest (getD u i 0) _ _ _ _ (x .begins) (x .long) (subst (λ (m : ℕ). typeParts m ≤ length (listOf v f s (due + n - 1) (y .next))) (sym same) (y .long)) (sym (x .list) ∙ t .to z ∙ y .list ∙ to-form);
+        to = λ z. form-rest (getD u i 0) _ _ _ _ (x .begins) (x .long)
+            (subst (λ (m : ℕ). typeParts m ≤ length (listOf v f s (due + n - 1) (y .next))) (sym same) (y .long)) (sym (x .list) ∙ t .to z ∙ y .list
+            ∙ to-form);
         from = λ z. t .from (x .list ∙ ap (form (getD u i 0) (ownEffects (drop i u))) z ∙ sym to-form ∙ sym (y .list));
       }
     where
-      equal-effects : (c ≡ test (sameEffects (ownEffects (drop i u)) (ownEffects (drop j v)))) × (not c ≡ false) → ownEffects (drop i u) ≡ ownEffects (drop j v)
+      equal-effects : (c ≡ test (sameEffects (ownEffects (drop i u)) (ownEffects (drop j v)))) × (not c ≡ false)
+          → ownEffects (drop i u) ≡ ownEffects (drop j v)
       equal-effects z = test-true (sameEffects (ownEffects (drop i u)) (ownEffects (drop j v))) (sym (z .0) ∙ not-false _ (z .1))
 
   pub pairing-done : due ≤ 0 → true ≡ test (sameType (typeIn u a) (typeIn v b))
@@ -369,7 +379,8 @@ module _ (u : List ℕ) (a e : ℕ) (v : List ℕ) (b f i j due : ℕ) (t : Pair
       sym (test-yes (sameType (typeIn u a) (typeIn v b)) (t .from (along-none u e i due (t .left) h ∙ sym (along-none v f j due (t .right) h))))
 
 -- ---- a nonce's own effects
-pub own-no-nonce : (u v : List ℕ) (i j : ℕ) → getD u i 0 ≡ getD v j 0 → (getD u i 0 ≡ 5 → ⊥) → true ≡ test (sameEffects (ownEffects (drop i u)) (ownEffects (drop j v)))
+pub own-no-nonce : (u v : List ℕ) (i j : ℕ) → getD u i 0 ≡ getD v j 0 → (getD u i 0 ≡ 5 → ⊥)
+    → true ≡ test (sameEffects (ownEffects (drop i u)) (ownEffects (drop j v)))
 own-no-nonce u v i j same d =
     sym (test-yes (sameEffects (ownEffects (drop i u)) (ownEffects (drop j v))) (own-not u i d ∙ sym (own-not v j (λ e. d (same ∙ e)))))
 
@@ -378,7 +389,8 @@ unfolding typeOwn
 own-cut c [] v e o = absurd (let q : none ≡ some v = rw e at o in let z : _≡_ {A = ℕ} 0 1 = cc in omega arith)
 own-cut c (n ∷ x) v e o = omega arith
 
-own-list : (c n : ℕ) (x : List ℕ) → c ≡ 5 → (typeOwn (c ∷ n ∷ x) ≡ restOf (effects n x)) × (ownEffects (c ∷ n ∷ x) ≡ bag (valueOr [] (effects n x)))
+own-list : (c n : ℕ) (x : List ℕ) → c ≡ 5 → (typeOwn (c ∷ n ∷ x) ≡ restOf (effects n x)) ×
+    (ownEffects (c ∷ n ∷ x) ≡ bag (valueOr [] (effects n x)))
 unfolding typeOwn ownEffects
 own-list c n x e = (rw e, pick-true (eqb c 5) _ _ (eq-eqb c 5 e))
 
@@ -407,7 +419,8 @@ module _ (w : List ℕ) (i own : ℕ) (l : i < length w) (b : At w (i + 1) (type
       ∙ sym (ap ownEffects words ∙ own-list (getD w i 0) (getD w (i + 1) 0) (drop (i + 2) w) five .1)
 
 pub own-nonces : (u v : List ℕ) (i own j other : ℕ) (l : i < length u) (k : j < length v) (s : At u (i + 1) (typeOwn (drop i u)) own)
-    (t : At v (j + 1) (typeOwn (drop j v)) other) → getD u i 0 ≡ getD v j 0 → getD u i 0 ≡ 5 → (n m : ℕ) → n ≡ getD u (i + 1) 0 → m ≡ getD v (j + 1) 0
+    (t : At v (j + 1) (typeOwn (drop j v)) other) → getD u i 0 ≡ getD v j 0 → getD u i 0 ≡ 5 → (n m : ℕ) → n ≡ getD u (i + 1) 0
+    → m ≡ getD v (j + 1) 0
     → (r : Bool) → r ≡ test (sameEffects (bag (effectsIn u (i + 2) n)) (bag (effectsIn v (j + 2) m)))
     → r ≡ test (sameEffects (ownEffects (drop i u)) (ownEffects (drop j v)))
 own-nonces u v i own j other l k s t same five n m e f r d =

@@ -130,7 +130,8 @@ unfolding follows choose
 follows-instance r Js J e = go (sameJudgements Js (printed Js J r .0)) (sameJudgement J (printed Js J r .1)) e
   where
     go : (d : Dec (Js ≡ printed Js J r .0)) (c : Dec (J ≡ printed Js J r .1)) → choose d (choose c (asks r J) false) false ≡ true → Instance r Js J
-    go (yes p) (yes q) h = subst₂ (λ (Ks : List Judgement) (K : Judgement). Instance r Ks K) (sym p) (sym q) (sound r Js J (subst (λ (K : Judgement). asks r K ≡ true) q h))
+    go (yes p) (yes q) h = subst₂ (λ (Ks : List Judgement) (K : Judgement). Instance r Ks K) (sym p) (sym q)
+        (sound r Js J (subst (λ (K : Judgement). asks r K ≡ true) q h))
     go (yes p) (no q) h = absurd (true≢false (sym h))
     go (no p) (yes q) h = absurd (true≢false (sym h))
     go (no p) (no q) h = absurd (true≢false (sym h))

@@ -233,7 +233,8 @@ lines-hold w (suc n) all j l J e =
     elim (decLt j n) [ yes p ↦ b j p J e | no p ↦ instance-holds w j (λ k m. b k (omega arith)) (all j l) J e ]
 
 -- every line of it holds
-pub all-hold : (w : List ℕ) → ((i : ℕ) → i < lines w → IsInstance w i) → (i : ℕ) → i < lines w → (J : Judgement) → given w i ≡ some J → Holds J
+pub all-hold : (w : List ℕ) → ((i : ℕ) → i < lines w → IsInstance w i) → (i : ℕ) → i < lines w → (J : Judgement) → given w i ≡ some J
+    → Holds J
 unfolding Before
 all-hold w all = lines-hold w (lines w) all
 
@@ -243,12 +244,14 @@ unfolding whole then
 whole-came none a e = absurd (let z : _≡_ {A = ℕ} 0 1 = cc in omega arith)
 whole-came {A} (some p) a e = go (p .0) (p .1) e
   where
-    go : (b : A) (l : List ℕ) → (elim l as (λ _. Option A) [ [] ↦ some b | x ∷ m ↦ none ]) ≡ some a → _≡_ {A = Read A} (some (b, l)) (some (a, []))
+    go : (b : A) (l : List ℕ) → (elim l as (λ _. Option A) [ [] ↦ some b | x ∷ m ↦ none ]) ≡ some a
+        → _≡_ {A = Read A} (some (b, l)) (some (a, []))
     go b [] h = let same : b ≡ a = cc in ap {B = Read A} (λ (c : A). some (c, [])) same
     go b (x ∷ m) h = absurd (let z : _≡_ {A = ℕ} 0 1 = cc in omega arith)
 
 -- it is that a process, spelled behind an environment, has the empty effect
-pub asked-came : (a : List ℕ) (J : Judgement) → asked a ≡ some J → (E : Environment) × (P : Process) × Spells a E P × (J ≡ Judgement.process E P [])
+pub asked-came : (a : List ℕ) (J : Judgement) → asked a ≡ some J
+    → (E : Environment) × (P : Process) × Spells a E P × (J ≡ Judgement.process E P [])
 unfolding asked
 asked-came a J e =
     let ((E, v), p, d) = then-came (environmentAt a) _ J e in

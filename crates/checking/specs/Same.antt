@@ -2,16 +2,14 @@
 use Prim.Native.Nat.{ℕ, zero, suc}
 use mathlib.Core.Bool.{Bool, true, false, _&&_, _||_}
 use mathlib.Core.List.{List, [], _∷_, _++_}
-use mathlib.Core.Option.{Option, none, some}
+use mathlib.Core.Option.{none, some}
 use lib.Dec.{eqb}
 use lib.ListN.{drop}
 use Rattle.words.specs.Choice.{pick, choose}
-use Rattle.typing.specs.Term.{Term, Effect, termWords, effectWords}
+use Rattle.typing.specs.Term.{Term, Effect, termWords}
 use Rattle.typing.specs.Bag.{bag}
 use Rattle.typing.specs.Types.{Ty, Environment}
-use Rattle.typing.specs.Process.{Process}
-use Rattle.typing.specs.Reading.{Read, joined, altered, term, effectOf, effects, typeAt, environmentAt, processAt}
-use Rattle.checking.specs.Behind.{restOf, At}
+use Rattle.typing.specs.Reading.{Read, joined, altered, term, effectOf, effects, typeAt, environmentAt}
 pub mod Laws
 pub mod Effects
 pub mod Bags

@@ -4,9 +4,9 @@ use Prim.Native.Nat.{ℕ}
 use mathlib.Core.Bool.{Bool, true, false, not, _&&_}
 use mathlib.Core.List.{List, [], _∷_}
 use Rattle.words.specs.Choice.{choose}
-use Rattle.typing.specs.Term.{Term, Effect, closed, mentions, Change}
+use Rattle.typing.specs.Term.{Term, Effect, closed, mentions}
 use Rattle.typing.specs.Bag.{insert, plus, minus}
-use Rattle.typing.specs.Types.{Ty, Entry, Environment, _⦂_, changeType, generatable, sameEntry}
+use Rattle.typing.specs.Types.{Ty, Entry, Environment, _⦂_, generatable, sameEntry}
 use Rattle.typing.specs.Process.{Process}
 use Rattle.typing.specs.Judgement.{Judgement, sameJudgement, sameJudgements}
 use Rattle.typing.specs.Rule.{Rule, binding, putting}
@@ -31,14 +31,7 @@ nameOf (Term.bound k) = 0
 nameOf (Term.pair M N) = 0
 nameOf (Term.cipher M N) = 0
 
--- T of (x : T, U), ch(T), symkey(T); U of (x : T, U); es of nonce es
-unfoldable pub inner : Ty → Ty
-inner Ty.Un = Ty.Un
-inner (Ty.pair T U) = T
-inner (Ty.channel T) = T
-inner (Ty.symkey T) = T
-inner (Ty.nonce es) = Ty.Un
-
+-- U of (x : T, U); es of nonce es
 unfoldable pub second : Ty → Ty
 second Ty.Un = Ty.Un
 second (Ty.pair T U) = U

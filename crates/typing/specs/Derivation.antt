@@ -18,7 +18,6 @@ use lib.ListN.{getD, drop}
 use lib.Dec.{ltb, eqb}
 use Rattle.words.specs.Choice.{pick, choose, then}
 use Rattle.words.specs.First.{first, any}
-use Rattle.typing.specs.Term.{Effect}
 use Rattle.typing.specs.Bag.{bag}
 use Rattle.typing.specs.Types.{Environment}
 use Rattle.typing.specs.Process.{Process}

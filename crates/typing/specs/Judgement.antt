@@ -1,6 +1,5 @@
 -- The five judgements. Source 001, definition 8: "E ⊢ ⋄ good environment; E ⊢ T good type; E ⊢ x : T good term of type T; E ⊢ es good
 -- effect; E ⊢ P : es good process effect es".
-use Prim.Native.Nat.{ℕ}
 use mathlib.Core.List.{List}
 use mathlib.Core.Path.{_≡_}
 use Rattle.typing.specs.Term.{Term, Effect, sameTerm}

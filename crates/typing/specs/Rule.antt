@@ -18,12 +18,12 @@
 -- - (x : T, U) binds x in U: where a rule names x beside it, as definition 11's rule for pairs and `split` do, the type is U with x bound.
 -- - Types are equal up to the names that they bind and the order of effects; processes are equal if they have equal parts.
 use Prim.Native.Nat.{ℕ}
-use mathlib.Core.Bool.{Bool, true, false}
+use mathlib.Core.Bool.{true, false}
 use mathlib.Core.List.{List, [], _∷_, List·Memᴰ}
 use mathlib.Core.Path.{_≡_}
 use Rattle.typing.specs.Term.{Term, Effect, closed, mentions, Change}
 use Rattle.typing.specs.Bag.{insert, plus, minus}
-use Rattle.typing.specs.Types.{Ty, Entry, Environment, _⦂_, changeType, generatable}
+use Rattle.typing.specs.Types.{Ty, Environment, _⦂_, changeType, generatable}
 use Rattle.typing.specs.Process.{Process}
 use Rattle.typing.specs.Judgement.{Judgement}
 

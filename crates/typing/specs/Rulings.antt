@@ -2,16 +2,16 @@
 use Prim.Native.Nat.{ℕ}
 use native.Mathlib.Decide.{ℕ-discrete}
 use mathlib.Core.Bool.{Bool, true, false}
-use mathlib.Core.List.{List, [], _∷_, map}
+use mathlib.Core.List.{List, [], _∷_}
 use mathlib.Core.Path.{_≡_, refl}
 use Rattle.words.specs.Choice.{pick, choose}
-use Rattle.typing.specs.Term.{Term, Effect, Change, sameTerm, sameEffect, closed, occurs, about, mentions, atName, atBound, changeTerm, changeEffect, termWords, effectWords}
+use Rattle.typing.specs.Term.{Term, Effect, sameTerm, sameEffect, closed, occurs, about, mentions, atName, atBound, changeTerm, changeEffect, termWords, effectWords}
 use Rattle.typing.specs.Bag.{upTo, insert, plus, bag, remove, minus}
 use Rattle.typing.specs.Types.{Ty, Environment, _⦂_, sameList, sameEffects, sameType, changeType, generatable, sameEntry, sameEnvironment}
 use Rattle.typing.specs.Process.{Process, sameProcess}
 use Rattle.typing.specs.Judgement.{Judgement, sameJudgement, sameJudgements}
 use Rattle.typing.specs.Rule.{Rule}
-use Rattle.typing.specs.Check.{left, right, nameOf, inner, second, promised, entryName, entryType, newest, older, partsOf, environmentOf, termOf, typeOf, effectsOf, processOf, first, rest, printed, stands, asks, follows}
+use Rattle.typing.specs.Check.{left, right, nameOf, second, promised, entryName, entryType, newest, older, partsOf, environmentOf, termOf, typeOf, effectsOf, processOf, first, rest, printed, stands, asks, follows}
 
 -- names: a label, a second one, a key, a channel, a pair; two binders
 abbrev a : ℕ
@@ -285,7 +285,7 @@ rulings =
 
 -- what the definitions say of each
 unfoldable pub computed : List Ruled → List Bool
-unfolding ℕ-discrete pick choose sameTerm sameEffect closed occurs about mentions atName atBound changeTerm changeEffect termWords effectWords upTo insert plus bag remove minus sameList sameEffects sameType changeType generatable sameEntry sameEnvironment sameProcess sameJudgement sameJudgements left right nameOf inner second promised entryName entryType newest older partsOf environmentOf termOf typeOf effectsOf processOf first rest printed stands asks follows
+unfolding ℕ-discrete pick choose sameTerm sameEffect closed occurs about mentions atName atBound changeTerm changeEffect termWords effectWords upTo insert plus bag remove minus sameList sameEffects sameType changeType generatable sameEntry sameEnvironment sameProcess sameJudgement sameJudgements left right nameOf second promised entryName entryType newest older partsOf environmentOf termOf typeOf effectsOf processOf first rest printed stands asks follows
 computed [] = []
 computed (t ∷ ts) = follows (t .rule) (t .premises) (t .conclusion) ∷ computed ts
 

@@ -13,7 +13,7 @@ use Rattle.typing.specs.Bag.{upTo, insert, plus, bag, remove, minus}
 use Rattle.typing.specs.Types.{sameList, sameEffects, sameType, changeType, generatable, sameEntry, sameEnvironment}
 use Rattle.typing.specs.Process.{sameProcess}
 use Rattle.typing.specs.Judgement.{sameJudgement, sameJudgements}
-use Rattle.typing.specs.Check.{left, right, nameOf, inner, second, promised, entryName, entryType, newest, older, partsOf, environmentOf, termOf, typeOf, effectsOf, processOf, first as firstPremise, rest, printed, stands, asks, follows}
+use Rattle.typing.specs.Check.{left, right, nameOf, second, promised, entryName, entryType, newest, older, partsOf, environmentOf, termOf, typeOf, effectsOf, processOf, first as firstPremise, rest, printed, stands, asks, follows}
 use Rattle.typing.specs.Reading.{ahead, joined, altered, after, terms, only, term, effectOf, effects, withEffects, types, typeAt, entries, environmentAt, withTerm, withType, processes, processAt}
 use Rattle.typing.specs.Derivation.{rules, nth, ruleOf, lines, lineWord, effectCount, read, judgement, given, earlier, premisesFrom, byRule, holds, passes, whole, asked, agree, answers, Verdict, crowded, fails, verdict}
 use Rattle.typing.specs.Apart.{binders, names, among, clear, keepsApart}
@@ -267,7 +267,7 @@ trials =
 
 -- what the definitions say of each
 unfoldable pub computed : List Trial → List Verdict
-unfolding ℕ-discrete pick choose then first firstFrom any sameTerm sameEffect closed occurs about mentions atName atBound changeTerm changeEffect termWords effectWords upTo insert plus bag remove minus sameList sameEffects sameType changeType generatable sameEntry sameEnvironment sameProcess sameJudgement sameJudgements left right nameOf inner second promised entryName entryType newest older partsOf environmentOf termOf typeOf effectsOf processOf firstPremise rest printed stands asks follows ahead joined altered after terms only term effectOf effects withEffects types typeAt entries environmentAt withTerm withType processes processAt rules nth ruleOf lines lineWord effectCount read judgement given earlier premisesFrom byRule holds passes whole asked agree answers crowded fails verdict
+unfolding ℕ-discrete pick choose then first firstFrom any sameTerm sameEffect closed occurs about mentions atName atBound changeTerm changeEffect termWords effectWords upTo insert plus bag remove minus sameList sameEffects sameType changeType generatable sameEntry sameEnvironment sameProcess sameJudgement sameJudgements left right nameOf second promised entryName entryType newest older partsOf environmentOf termOf typeOf effectsOf processOf firstPremise rest printed stands asks follows ahead joined altered after terms only term effectOf effects withEffects types typeAt entries environmentAt withTerm withType processes processAt rules nth ruleOf lines lineWord effectCount read judgement given earlier premisesFrom byRule holds passes whole asked agree answers crowded fails verdict
 computed [] = []
 computed (t ∷ ts) = verdict (t .asks) (t .words) ∷ computed ts
 

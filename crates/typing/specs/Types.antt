@@ -7,8 +7,7 @@ use mathlib.Core.Bool.{Bool, true, false}
 use mathlib.Core.List.{List, [], _∷_, map}
 use mathlib.Core.Path.{_≡_, refl}
 use native.Mathlib.Omega.{arith}
-use lib.ListN.{length}
-use Rattle.typing.specs.Term.{Term, Effect, Change, sameEffect, changeEffect}
+use Rattle.typing.specs.Term.{Effect, Change, sameEffect, changeEffect}
 use Rattle.typing.specs.Bag.{bag}
 
 pub data Ty : Type 0 where

@@ -1,5 +1,4 @@
 -- `checking::same_effect` meets its contract: effects are the same exactly if their words are. Assumes nothing.
-use borrow.Author.Needs.{needs}
 use native.Mathlib.Omega.{arith}
 use Rattle.checking.specs.Same.Effects.{effect-lengths, effect-words}
 use Rattle.checking.proofs.same_effect.Statement.{statement}

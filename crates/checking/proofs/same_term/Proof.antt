@@ -1,5 +1,4 @@
 -- `checking::same_term` meets its contract: terms are the same exactly if their words are. Assumes nothing.
-use borrow.Author.Needs.{needs}
 use native.Mathlib.Omega.{arith}
 use Rattle.checking.specs.Same.Laws.{term-lengths, term-words}
 use Rattle.checking.proofs.same_term.Statement.{statement}

@@ -1,5 +1,4 @@
 -- `checking::skip` meets its contract: names take a word each, then the terms, then the types. Assumes nothing.
-use borrow.Author.Needs.{needs}
 use native.Mathlib.Omega.{arith}
 use Rattle.checking.specs.Behind.Laws.{ends-at}
 use Rattle.checking.specs.Behind.Processes.{skip-short, skip-no-terms, skip-done}

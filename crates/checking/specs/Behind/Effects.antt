@@ -1,17 +1,16 @@
 -- Where effects end, one turn at a time. Assumes nothing.
 use Prim.Native.Nat.{ℕ, zero, suc, _+_, _-_, _≤_, _<_}
 use mathlib.Core.List.{List, [], _∷_}
-use mathlib.Core.Logic.{_⊎_, inl, inr}
+use mathlib.Core.Logic.{inr}
 use mathlib.Core.Option.{Option, none, some}
-use mathlib.Core.Path.{_≡_, refl, sym, _∙_, ap, subst}
+use mathlib.Core.Path.{_≡_, refl, _∙_, subst}
 use native.Mathlib.Omega.{arith}
 use native.Mathlib.Numerals.{add-one}
 use lib.ListN.{length, drop, getD, drop-of-length-le}
 use lib.Seq.{drop-cons}
 use Rattle.words.specs.Choice.{then}
-use Rattle.typing.specs.Term.{Effect}
-use Rattle.typing.specs.Reading.{Read, ahead, after, term, effectOf, effects}
-use Rattle.checking.specs.Behind.{restOf, Nothing, At, Ends}
+use Rattle.typing.specs.Reading.{Read, after, term, effectOf, effects}
+use Rattle.checking.specs.Behind.{restOf, Ends}
 use Rattle.checking.specs.Behind.Laws.{rest-ahead, rest-after, ends-none, ends-at, ends-nothing}
 
 -- ---- reading on from what was read

@@ -1,17 +1,16 @@
 -- Where environments end, one turn at a time. Assumes nothing.
 use Prim.Native.Nat.{ℕ, zero, suc, _+_, _-_, _≤_, _<_}
 use mathlib.Core.List.{List, [], _∷_}
-use mathlib.Core.Logic.{_⊎_, inl, inr}
-use mathlib.Core.Option.{Option, none, some}
-use mathlib.Core.Path.{_≡_, refl, sym, _∙_, ap}
+use mathlib.Core.Logic.{inr}
+use mathlib.Core.Option.{none, some}
+use mathlib.Core.Path.{_≡_, refl, _∙_, ap}
 use native.Mathlib.Omega.{arith}
 use native.Mathlib.Numerals.{add-one}
 use lib.ListN.{length, drop, getD, length-drop, drop-of-length-le}
 use lib.Seq.{drop-cons}
-use Rattle.words.specs.Choice.{then}
 use Rattle.typing.specs.Types.{Environment, _⦂_}
-use Rattle.typing.specs.Reading.{Read, after, typeAt, entries, environmentAt}
-use Rattle.checking.specs.Behind.{restOf, Nothing, At, Ends}
+use Rattle.typing.specs.Reading.{after, typeAt, entries, environmentAt}
+use Rattle.checking.specs.Behind.{restOf, Ends}
 use Rattle.checking.specs.Behind.Laws.{rest-after, ends-none, ends-at, ends-nothing}
 use Rattle.checking.specs.Behind.Effects.{then-none, then-some}
 

@@ -1,18 +1,17 @@
 -- Laws of where things end. Assumes nothing.
 use Prim.Native.Nat.{ℕ, zero, suc, _+_, _*_, _-_, _≤_, _<_}
 use mathlib.Core.List.{List, [], _∷_}
-use mathlib.Core.Logic.{_⊎_, inl, inr}
+use mathlib.Core.Logic.{inl, inr}
 use mathlib.Core.Option.{Option, none, some}
-use mathlib.Core.Path.{_≡_, refl, sym, _∙_, ap, subst}
+use mathlib.Core.Path.{_≡_, refl, sym, _∙_, ap}
 use native.Mathlib.Omega.{arith}
 use native.Mathlib.Decide.{ℕ-discrete as decEq}
-use native.Mathlib.Numerals.{add-one}
-use lib.ListN.{length, drop, getD, length-drop, drop-of-length-le}
+use lib.ListN.{length, drop, getD, drop-of-length-le}
 use lib.Seq.{drop-cons}
 use Rattle.words.specs.Choice.{then}
 use Rattle.typing.specs.Term.{Term}
 use Rattle.typing.specs.Reading.{Read, ahead, joined, altered, after, terms, only, term}
-use Rattle.checking.specs.Behind.{restOf, Nothing, At, Ends, termTurn}
+use Rattle.checking.specs.Behind.{restOf, At, Ends, termTurn}
 
 -- ---- restOf
 pub rest-ahead : {A : Type 0} (a : A) (r : Read (List A)) → restOf (ahead a r) ≡ restOf r

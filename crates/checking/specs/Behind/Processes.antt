@@ -1,10 +1,9 @@
 -- Where processes end, one turn at a time. Assumes nothing.
 use Prim.Native.Nat.{ℕ, zero, suc, _+_, _-_, _≤_, _<_}
-use mathlib.Core.Bool.{true, false}
 use mathlib.Core.List.{List, [], _∷_}
-use mathlib.Core.Logic.{_⊎_, inl, inr}
+use mathlib.Core.Logic.{inl, inr}
 use mathlib.Core.Option.{Option, none, some}
-use mathlib.Core.Path.{_≡_, refl, sym, _∙_, ap, subst}
+use mathlib.Core.Path.{_≡_, refl, sym, _∙_, ap}
 use native.Mathlib.Omega.{arith}
 use native.Mathlib.Decide.{decLt}
 use native.Mathlib.Numerals.{add-one}
@@ -17,11 +16,9 @@ use Rattle.words.specs.Choice.Laws.{pick-true, pick-false}
 use Rattle.typing.specs.Term.{Term, Effect}
 use Rattle.typing.specs.Bag.{bag}
 use Rattle.typing.specs.Types.{Ty}
-use Rattle.typing.specs.Process.{Process}
-use Rattle.typing.specs.Reading.{Read, ahead, joined, altered, after, only, term, effects, typeAt, withEffects, withTerm, withType, processes, processAt}
-use Rattle.checking.specs.Behind.{restOf, Nothing, At, Ends, skipName, skipTerm, skipType, skipEffects, times, skips, processOwn, processParts}
+use Rattle.typing.specs.Reading.{Read, after, term, effects, typeAt, withEffects, withTerm, withType, processes, processAt}
+use Rattle.checking.specs.Behind.{restOf, Ends, skipName, skipTerm, skipType, skipEffects, times, skips, processOwn, processParts}
 use Rattle.checking.specs.Behind.Laws.{rest-ahead, rest-after, ends-none, ends-at, ends-nothing, Counted, counted-ahead, counted-joined, counted-altered, counted-none, counted-zero, counted-then, rest-only}
-use Rattle.checking.specs.Behind.Effects.{then-none, then-some}
 
 -- ---- reading on, by what is passed over
 pub then-assoc : {A B C : Type 0} (o : Option A) (f : A → Option B) (g : B → Option C) → then (then o f) g ≡ then o (λ a. then (f a) g)

@@ -1,13 +1,13 @@
 -- Passing over several things, one turn at a time, whatever is passed over. Assumes nothing.
-use Prim.Native.Nat.{ℕ, zero, suc, _+_, _-_, _≤_, _<_}
-use mathlib.Core.List.{List, [], _∷_}
-use mathlib.Core.Logic.{_⊎_, inl, inr}
+use Prim.Native.Nat.{ℕ, suc, _+_, _-_, _≤_, _<_}
+use mathlib.Core.List.{List}
+use mathlib.Core.Logic.{inr}
 use mathlib.Core.Option.{Option, none, some}
-use mathlib.Core.Path.{_≡_, refl, sym, _∙_, ap}
+use mathlib.Core.Path.{_≡_, refl, _∙_, ap}
 use native.Mathlib.Omega.{arith}
 use lib.ListN.{length, drop}
 use Rattle.words.specs.Choice.{then}
-use Rattle.checking.specs.Behind.{restOf, Nothing, At, Ends, times}
+use Rattle.checking.specs.Behind.{Ends, times}
 use Rattle.checking.specs.Behind.Laws.{ends-none, ends-at, ends-nothing}
 
 module _ (skip : List ℕ → Option (List ℕ)) where

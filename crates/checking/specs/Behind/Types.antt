@@ -1,19 +1,17 @@
 -- Where types end, one turn at a time. Assumes nothing.
 use Prim.Native.Nat.{ℕ, zero, suc, _+_, _-_, _≤_, _<_}
 use mathlib.Core.List.{List, [], _∷_}
-use mathlib.Core.Logic.{_⊎_, inl, inr}
+use mathlib.Core.Logic.{inl, inr}
 use mathlib.Core.Option.{Option, none, some}
-use mathlib.Core.Path.{_≡_, refl, sym, _∙_, ap, subst}
+use mathlib.Core.Path.{_≡_, refl, sym, _∙_, ap}
 use native.Mathlib.Omega.{arith}
 use native.Mathlib.Numerals.{add-one}
 use lib.ListN.{length, drop, getD, length-drop, drop-of-length-le}
 use lib.Seq.{drop-cons}
-use Rattle.words.specs.Choice.{then}
-use Rattle.typing.specs.Term.{Effect}
 use Rattle.typing.specs.Bag.{bag}
 use Rattle.typing.specs.Types.{Ty}
-use Rattle.typing.specs.Reading.{Read, ahead, joined, altered, after, only, effects, withEffects, types, typeAt}
-use Rattle.checking.specs.Behind.{restOf, Nothing, At, Ends, typeOwn, typeParts}
+use Rattle.typing.specs.Reading.{joined, altered, after, effects, withEffects, types, typeAt}
+use Rattle.checking.specs.Behind.{restOf, Ends, typeOwn, typeParts}
 use Rattle.checking.specs.Behind.Laws.{rest-ahead, rest-after, ends-none, ends-at, ends-nothing, Counted, counted-ahead, counted-joined, counted-altered, counted-none, counted-zero, counted-then, rest-only}
 use Rattle.checking.specs.Behind.Effects.{then-none, then-some}
 

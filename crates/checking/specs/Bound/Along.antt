@@ -1,28 +1,20 @@
 -- Along a process's words: what is still to come, and the names that it binds. Assumes nothing.
 use Prim.Native.Nat.{ℕ, zero, suc, _+_, _-_, _≤_, _<_}
-use mathlib.Core.Bool.{Bool, true, false, not, _&&_, true≢false, and-assoc}
 use mathlib.Core.List.{List, [], _∷_, _++_}
-use mathlib.Core.Logic.{_⊎_, inl, inr}
-use mathlib.Core.Option.{Option, none, some}
-use mathlib.Core.Path.{_≡_, refl, sym, _∙_, ap, subst}
+use mathlib.Core.Logic.{inl, inr}
+use mathlib.Core.Option.{none, some}
+use mathlib.Core.Path.{_≡_, refl, sym, _∙_, ap}
 use native.Mathlib.Omega.{arith}
 use native.Mathlib.Decide.{decLt}
 use native.Mathlib.Numerals.{add-one}
-use lib.Dec.{eqb, ltb}
 use lib.ListN.{length, drop, take, getD, length-drop, drop-of-length-le}
 use lib.Seq.{drop-cons}
-use borrow.Author.Tests.{eqb-true, eqb-false, eq-eqb, ne-eqb, lt-ltb, le-ltb}
 use Rattle.words.specs.Choice.{pick, then}
-use Rattle.words.specs.Choice.Laws.{pick-true, pick-false}
-use Rattle.typing.specs.Process.{Process}
-use Rattle.typing.specs.Apart.{binders, names, among}
-use Rattle.typing.specs.Reading.{Read, processes, processAt}
-use Rattle.checking.specs.Behind.{restOf, Nothing, At, Ends, skipName, skipTerm, skipType, skipEffects, times, skips, processOwn, processParts}
-use Rattle.checking.specs.Behind.Laws.{ends-none, ends-at}
+use Rattle.typing.specs.Reading.{processes, processAt}
+use Rattle.checking.specs.Behind.{restOf, At, Ends, skipName, times, skips, processOwn, processParts}
 use Rattle.checking.specs.Behind.Processes.{rest-process, processes-empty, processes-own}
-use Rattle.checking.specs.Bound.{allBinders, boundIn, processNames, times-in, bindersAt, nameApart, allApart}
+use Rattle.checking.specs.Bound.{allBinders, boundIn, processNames, bindersAt}
 use Rattle.checking.specs.Bound.Laws.{processes-bound}
-use Rattle.checking.specs.Bound.Names.{times-nil, times-append}
 
 -- a process's names stand behind its first word
 names-there : (c : ℕ) (u v : List ℕ) → processOwn (c ∷ u) ≡ some v → processNames c ≤ length u

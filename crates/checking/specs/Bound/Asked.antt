@@ -1,28 +1,26 @@
 -- The asked process's bound names, one turn at a time. Assumes nothing.
-use Prim.Native.Nat.{ℕ, zero, suc, _+_, _-_, _≤_, _<_}
-use mathlib.Core.Bool.{Bool, true, false, not, _&&_, _||_, true≢false, and-assoc, and-true}
+use Prim.Native.Nat.{ℕ, suc, _+_, _-_, _≤_, _<_}
+use mathlib.Core.Bool.{Bool, true, false, not, _&&_, _||_, and-assoc, and-true}
 use mathlib.Core.List.{List, [], _∷_, _++_}
-use mathlib.Core.Logic.{_⊎_, inl, inr}
+use mathlib.Core.Logic.{inl, inr}
 use mathlib.Core.Option.{Option, none, some}
 use mathlib.Core.Path.{_≡_, refl, sym, _∙_, ap, subst}
 use native.Mathlib.Omega.{arith}
 use native.Mathlib.Decide.{decLt, ℕ-discrete as decEq}
-use native.Mathlib.Numerals.{add-one}
 use lib.Dec.{eqb, ltb}
-use lib.ListN.{length, drop, take, getD, length-drop, drop-of-length-le}
+use lib.ListN.{length, drop, take, getD, drop-of-length-le}
 use lib.Seq.{drop-cons}
-use borrow.Author.Tests.{eqb-true, eqb-false, eq-eqb, ne-eqb, lt-ltb, le-ltb, not-true, not-false}
+use borrow.Author.Tests.{eq-eqb, ne-eqb, lt-ltb, le-ltb, not-true, not-false}
 use Rattle.words.specs.Choice.{pick, then}
 use Rattle.words.specs.Choice.Laws.{pick-true, pick-false, pick-ind, or-left}
-use Rattle.words.specs.First.Laws.{clash}
 use Rattle.typing.specs.Types.{Ty, Environment, _⦂_}
 use Rattle.typing.specs.Process.{Process}
-use Rattle.typing.specs.Apart.{binders, names, among, clear, keepsApart}
+use Rattle.typing.specs.Apart.{binders, names, among, keepsApart}
 use Rattle.typing.specs.Derivation.{holds, whole}
 use Rattle.typing.specs.Reading.{Read, after, typeAt, entries, environmentAt, only, processes, processAt}
-use Rattle.checking.specs.Behind.{restOf, Nothing, At, Ends, processOwn, processParts}
+use Rattle.checking.specs.Behind.{restOf, At, Ends, processOwn, processParts}
 use Rattle.checking.specs.Behind.Laws.{Counted, ends-none, ends-at}
-use Rattle.checking.specs.Behind.Environments.{entries-empty, entries-last, entries-other, entries-cut, entries-no-type, entries-type}
+use Rattle.checking.specs.Behind.Environments.{entries-empty, entries-other, entries-cut, entries-no-type, entries-type}
 use Rattle.checking.specs.Behind.Processes.{processes-counted}
 use Rattle.checking.specs.Bound.{allBinders, boundIn, processNames, times-in, bindersAt, namesIn, nameApart, allApart, Placed}
 use Rattle.checking.specs.Bound.Names.{times-nil, times-append, apart-clear}

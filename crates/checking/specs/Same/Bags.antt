@@ -1,22 +1,20 @@
 -- Multisets compared by counting. Assumes nothing.
-use Prim.Native.Nat.{ℕ, zero, suc, _+_, _-_, _≤_, _<_}
+use Prim.Native.Nat.{ℕ, suc, _+_, _-_, _≤_, _<_}
 use mathlib.Core.Bool.{Bool, true, false, true≢false}
-use mathlib.Core.List.{List, [], _∷_, _++_}
+use mathlib.Core.List.{List, [], _∷_}
 use mathlib.Core.Logic.{_⊎_, inl, inr}
-use mathlib.Core.Option.{Option, none, some}
-use mathlib.Core.Path.{_≡_, refl, sym, _∙_, ap, subst}
+use mathlib.Core.Option.{some}
+use mathlib.Core.Path.{_≡_, refl, sym, _∙_, ap}
 use native.Mathlib.Omega.{arith}
-use native.Mathlib.Decide.{decLt}
 use lib.ListN.{length, drop}
 use Rattle.words.specs.Choice.{pick, choose}
-use Rattle.words.specs.Choice.Laws.{choose-yes, choose-no}
 use Rattle.typing.specs.Term.{Effect, sameEffect}
 use Rattle.typing.specs.Bag.{bag, count, remove}
 use Rattle.typing.specs.Bag.Laws.{count-here, count-other, count-remove, count-none, bag-same}
 use Rattle.typing.specs.Types.{sameEffects}
 use Rattle.typing.specs.Reading.{effectOf, effects, term}
 use Rattle.checking.specs.Behind.{restOf, At, Ends}
-use Rattle.checking.specs.Same.{valueOr, effectIn, effectsIn, test}
+use Rattle.checking.specs.Same.{effectIn, effectsIn, test}
 use Rattle.checking.specs.Same.Laws.{test-yes, test-no}
 use Rattle.checking.specs.Same.Effects.{Along, along-inside, along-end, along-again, along-list, list-none, list-length}
 

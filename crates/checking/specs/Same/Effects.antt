@@ -1,27 +1,25 @@
 -- Effects and multisets of effects, compared by their words. Assumes nothing.
 use Prim.Native.Nat.{ℕ, zero, suc, _+_, _-_, _≤_, _<_}
-use mathlib.Core.Bool.{Bool, true, false, true≢false}
+use mathlib.Core.Bool.{Bool, true, false}
 use mathlib.Core.List.{List, [], _∷_, _++_}
-use mathlib.Core.Logic.{_⊎_, inl, inr}
-use mathlib.Core.Option.{Option, none, some}
-use mathlib.Core.Path.{_≡_, refl, sym, _∙_, ap, subst}
+use mathlib.Core.Logic.{inl, inr}
+use mathlib.Core.Option.{none, some}
+use mathlib.Core.Path.{_≡_, refl, sym, _∙_, ap}
 use native.Mathlib.Omega.{arith}
 use native.Mathlib.Decide.{decLt}
 use native.Mathlib.Numerals.{add-one}
-use lib.ListN.{length, drop, take, getD, length-drop, length-append, drop-of-length-le}
+use lib.ListN.{length, drop, take, getD, length-drop, length-append}
 use lib.Seq.{drop-cons, take-at}
-use Rattle.words.specs.Choice.{choose, then}
+use Rattle.words.specs.Choice.{then}
 use Rattle.words.specs.First.Laws.{clash}
 use Rattle.words.specs.Run.{run, sameWords}
 use Rattle.words.specs.Run.Laws.{run-length, run-take, same-exact}
-use Rattle.typing.specs.Term.{Term, Effect, sameEffect, termWords, effectWords}
-use Rattle.typing.specs.Bag.{bag, count, remove}
-use Rattle.typing.specs.Bag.Laws.{words-effect, count-here, count-other, count-remove, count-none, bag-same}
-use Rattle.typing.specs.Types.{sameEffects}
+use Rattle.typing.specs.Term.{Term, Effect, sameEffect, effectWords}
+use Rattle.typing.specs.Bag.Laws.{words-effect}
 use Rattle.typing.specs.Reading.{Read, ahead, after, term, effectOf, effects}
 use Rattle.typing.specs.Derivation.Laws.{then-came}
-use Rattle.checking.specs.Behind.{restOf, Nothing, At, Ends}
-use Rattle.checking.specs.Behind.Laws.{rest-after, ends-at}
+use Rattle.checking.specs.Behind.{restOf, At, Ends}
+use Rattle.checking.specs.Behind.Laws.{rest-after}
 use Rattle.checking.specs.Same.{valueOr, effectIn, effectsIn, test}
 use Rattle.checking.specs.Same.Laws.{read-value, test-yes, test-no, term-spelled}
 

@@ -1,8 +1,8 @@
 -- Environments compared entry by entry. Assumes nothing.
-use Prim.Native.Nat.{ℕ, zero, suc, _+_, _-_, _≤_, _<_}
-use mathlib.Core.Bool.{Bool, true, false, not, true≢false}
+use Prim.Native.Nat.{ℕ, suc, _+_, _-_, _≤_, _<_}
+use mathlib.Core.Bool.{Bool, true, false, not}
 use mathlib.Core.List.{List, [], _∷_}
-use mathlib.Core.Logic.{_⊎_, inl, inr}
+use mathlib.Core.Logic.{inl, inr}
 use mathlib.Core.Option.{Option, none, some}
 use mathlib.Core.Path.{_≡_, refl, sym, _∙_, ap, subst}
 use native.Mathlib.Omega.{arith}
@@ -14,9 +14,8 @@ use Rattle.words.specs.Choice.{then}
 use Rattle.words.specs.First.Laws.{clash}
 use Rattle.typing.specs.Types.{Ty, Entry, Environment, _⦂_, sameType, sameEnvironment}
 use Rattle.typing.specs.Reading.{Read, after, typeAt, entries, environmentAt}
-use Rattle.checking.specs.Behind.{restOf, Nothing, At, Ends}
-use Rattle.checking.specs.Behind.Laws.{rest-after}
-use Rattle.checking.specs.Behind.Environments.{entries-empty, entries-last, entries-other, entries-cut, entries-no-type, entries-type}
+use Rattle.checking.specs.Behind.{restOf, At, Ends}
+use Rattle.checking.specs.Behind.Environments.{entries-empty, entries-other, entries-cut, entries-no-type, entries-type}
 use Rattle.checking.specs.Same.{valueOr, typeIn, environmentIn, test}
 use Rattle.checking.specs.Same.Laws.{test-yes, test-no, test-true}
 

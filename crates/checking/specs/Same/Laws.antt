@@ -2,25 +2,24 @@
 use Prim.Native.Nat.{ℕ, zero, suc, _+_, _-_, _≤_, _<_}
 use mathlib.Core.Bool.{Bool, true, false, true≢false}
 use mathlib.Core.List.{List, [], _∷_, _++_, append-assoc}
-use mathlib.Core.Logic.{_⊎_, inl, inr}
-use mathlib.Core.Option.{Option, none, some}
-use mathlib.Core.Path.{_≡_, refl, sym, _∙_, ap, subst}
+use mathlib.Core.Option.{none, some}
+use mathlib.Core.Path.{_≡_, refl, sym, _∙_, ap}
 use native.Mathlib.Omega.{arith}
 use lib.Dec.{eqb}
-use lib.ListN.{length, drop, take, getD, length-drop, length-append, drop-of-length-le}
-use lib.Seq.{drop-cons, take-at}
-use borrow.Author.Tests.{eqb-true, eqb-false, eq-eqb, ne-eqb}
+use lib.ListN.{length, drop, take, getD, length-drop, length-append}
+use lib.Seq.{take-at}
+use borrow.Author.Tests.{eq-eqb, ne-eqb}
 use Rattle.words.specs.Choice.{pick, choose, then}
 use Rattle.words.specs.Choice.Laws.{pick-true, pick-false, choose-yes, choose-no}
 use Rattle.words.specs.First.Laws.{clash}
 use Rattle.words.specs.Run.{run, sameWords}
 use Rattle.words.specs.Run.Laws.{run-more, run-length, run-take, same-exact}
-use Rattle.typing.specs.Term.{Term, Effect, sameTerm, sameEffect, termWords, effectWords}
+use Rattle.typing.specs.Term.{Term, sameTerm, termWords}
 use Rattle.typing.specs.Bag.Laws.{words-term}
-use Rattle.typing.specs.Reading.{Read, ahead, joined, after, terms, only, term, effectOf, effects}
+use Rattle.typing.specs.Reading.{Read, ahead, joined, after, terms, only, term}
 use Rattle.checking.specs.Behind.{restOf, At}
-use Rattle.checking.specs.Behind.Laws.{Counted, rest-only, terms-counted}
-use Rattle.checking.specs.Same.{valueOr, termIn, effectIn, effectsIn, test, allTermWords}
+use Rattle.checking.specs.Behind.Laws.{Counted, terms-counted}
+use Rattle.checking.specs.Same.{valueOr, termIn, test, allTermWords}
 
 -- ---- what was read, from what is behind it
 pub read-value : {A : Type 0} (a : A) (r : Read A) (v : List ℕ) → restOf r ≡ some v → r ≡ some (valueOr a r, v)

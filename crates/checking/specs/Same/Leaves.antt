@@ -1,23 +1,21 @@
 -- The leaves of a term, one turn at a time. Assumes nothing.
 use Prim.Native.Nat.{ℕ, zero, suc, _+_, _*_, _-_, _≤_, _<_}
-use mathlib.Core.Bool.{Bool, true, false, not, _&&_, _||_, true≢false, or-assoc, or-false}
+use mathlib.Core.Bool.{Bool, true, false, not, _&&_, _||_, or-assoc, or-false}
 use mathlib.Core.List.{List, [], _∷_}
-use mathlib.Core.Logic.{_⊎_, inl, inr}
 use mathlib.Core.Option.{Option, none, some}
-use mathlib.Core.Path.{_≡_, refl, sym, _∙_, ap, subst}
+use mathlib.Core.Path.{_≡_, refl, sym, _∙_, ap}
 use native.Mathlib.Omega.{arith}
 use native.Mathlib.Decide.{decLt, ℕ-discrete}
 use lib.Dec.{eqb}
-use lib.ListN.{length, drop, getD, length-drop, drop-of-length-le}
+use lib.ListN.{length, drop, getD, drop-of-length-le}
 use lib.Seq.{drop-cons}
 use borrow.Author.Tests.{eqb-true, eq-eqb, ne-eqb}
 use Rattle.words.specs.Choice.{then}
-use Rattle.words.specs.Choice.Laws.{or-left}
 use Rattle.typing.specs.Term.{Term, closed, occurs}
 use Rattle.typing.specs.Check.Laws.{both}
 use Rattle.typing.specs.Reading.{Read, ahead, joined, after, terms, only, term}
-use Rattle.checking.specs.Behind.{restOf, At, Ends, termTurn}
-use Rattle.checking.specs.Behind.Laws.{Counted, terms-counted, rest-term, turn-small, terms-nothing, terms-two, terms-one, terms-cut, terms-empty, due-more, due-less, few-more, few-less}
+use Rattle.checking.specs.Behind.{restOf, At, termTurn}
+use Rattle.checking.specs.Behind.Laws.{Counted, terms-counted, rest-term, terms-nothing, terms-two, terms-one, terms-cut, terms-empty, due-more, due-less, few-more, few-less}
 use Rattle.checking.specs.Same.{valueOr, termIn, anyLeaf, anyLeaves, isName, isBound}
 
 -- ---- what the tests are about

@@ -1,10 +1,9 @@
 -- The names of several effects, one turn at a time. Assumes nothing.
 use Prim.Native.Nat.{ℕ, zero, suc, _+_, _-_, _≤_, _<_}
 use mathlib.Core.Bool.{Bool, true, false, _||_}
-use mathlib.Core.List.{List, [], _∷_}
-use mathlib.Core.Logic.{_⊎_, inl, inr}
-use mathlib.Core.Option.{Option, none, some}
-use mathlib.Core.Path.{_≡_, refl, sym, _∙_, ap, subst}
+use mathlib.Core.List.{List, _∷_}
+use mathlib.Core.Option.{none, some}
+use mathlib.Core.Path.{_≡_, refl, sym, _∙_, ap}
 use native.Mathlib.Omega.{arith}
 use native.Mathlib.Numerals.{add-one}
 use lib.ListN.{length, drop, getD}
@@ -13,7 +12,7 @@ use Rattle.words.specs.Choice.{then}
 use Rattle.words.specs.Choice.Laws.{or-left}
 use Rattle.typing.specs.Term.{Term, Effect, about, occurs, mentions}
 use Rattle.typing.specs.Reading.{Read, after, term, effectOf, effects}
-use Rattle.checking.specs.Behind.{restOf, Nothing, At, Ends}
+use Rattle.checking.specs.Behind.{restOf, At, Ends}
 use Rattle.checking.specs.Same.{valueOr, termIn, effectIn, effectsIn}
 use Rattle.checking.specs.Same.Effects.{Along, along-inside, along-end, along-again, along-list, along-term, list-none}
 

@@ -1,13 +1,10 @@
 -- An entry of an environment is looked for, one entry at a time. Assumes nothing.
-use Prim.Native.Nat.{ℕ, zero, suc, _+_, _-_, _≤_, _<_}
+use Prim.Native.Nat.{ℕ, _+_, _≤_, _<_}
 use mathlib.Core.Bool.{Bool, true, false}
 use mathlib.Core.List.{List, [], _∷_}
-use mathlib.Core.Logic.{_⊎_, inl, inr}
 use mathlib.Core.Path.{_≡_, refl, sym, _∙_, ap}
 use native.Mathlib.Omega.{arith}
-use native.Mathlib.Decide.{ℕ-discrete}
 use lib.ListN.{length, drop, getD}
-use Rattle.words.specs.Choice.{choose}
 use Rattle.words.specs.Choice.Laws.{choose-yes, choose-no}
 use Rattle.words.specs.First.Laws.{clash}
 use Rattle.typing.specs.Types.{Ty, Entry, Environment, _⦂_, sameType, sameEntry}

@@ -1,13 +1,12 @@
 -- Types compared word by word, and nonces' effects as multisets. Assumes nothing.
 use Prim.Native.Nat.{ℕ, zero, suc, _+_, _-_, _≤_, _<_}
-use mathlib.Core.Bool.{Bool, true, false, not, true≢false}
-use mathlib.Core.List.{List, [], _∷_, _++_}
-use mathlib.Core.Logic.{_⊎_, inl, inr}
+use mathlib.Core.Bool.{Bool, true, false, not}
+use mathlib.Core.List.{List, [], _∷_}
+use mathlib.Core.Logic.{inl, inr}
 use mathlib.Core.Option.{Option, none, some}
 use mathlib.Core.Path.{_≡_, refl, sym, _∙_, ap, subst}
 use native.Mathlib.Omega.{arith}
 use native.Mathlib.Decide.{decLt, ℕ-discrete}
-use native.Mathlib.Numerals.{add-one}
 use lib.Dec.{eqb}
 use lib.ListN.{length, drop, getD, length-drop, drop-of-length-le}
 use lib.Seq.{drop-cons}
@@ -18,9 +17,9 @@ use Rattle.typing.specs.Term.{Effect}
 use Rattle.typing.specs.Bag.{bag}
 use Rattle.typing.specs.Types.{Ty, sameType, sameEffects}
 use Rattle.typing.specs.Reading.{Read, ahead, joined, altered, after, only, effects, withEffects, types, typeAt}
-use Rattle.checking.specs.Behind.{restOf, Nothing, At, Ends, typeOwn, typeParts}
-use Rattle.checking.specs.Behind.Laws.{Counted, ends-at, rest-ahead, rest-after}
-use Rattle.checking.specs.Behind.Types.{types-counted, types-go, types-stop, rest-type, empty, types-zero}
+use Rattle.checking.specs.Behind.{restOf, At, Ends, typeOwn, typeParts}
+use Rattle.checking.specs.Behind.Laws.{Counted}
+use Rattle.checking.specs.Behind.Types.{types-counted, types-go, types-stop, rest-type, empty}
 use Rattle.checking.specs.Same.{valueOr, effectsIn, typeIn, test, ownEffects, form}
 use Rattle.checking.specs.Same.Laws.{read-value, test-yes, test-no, test-true}
 use Rattle.words.specs.First.Laws.{clash}

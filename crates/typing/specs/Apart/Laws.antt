@@ -1,23 +1,20 @@
 -- The test holds exactly where the bound names are apart (`apart-exact`). Assumes nothing.
 use Prim.Native.Nat.{ℕ}
-use mathlib.Core.Bool.{Bool, true, false, not, _&&_, _||_, true≢false}
+use mathlib.Core.Bool.{Bool, true, false, not, true≢false}
 use mathlib.Core.List.{List, [], _∷_, List·Memᴰ, List·Memᴰ·head, List·Memᴰ·tail}
 use mathlib.Core.Logic.{_↔_}
 use mathlib.Core.Path.{_≡_, refl, sym, ap}
-use native.Mathlib.Omega.{arith}
 use lib.Dec.{eqb}
 use borrow.Author.Tests.{eqb-true, eq-eqb, not-true}
 use Rattle.words.specs.Choice.{then}
 use Rattle.words.specs.Choice.Laws.{or-cases, or-left, or-right}
 use Rattle.words.specs.First.Laws.{clash}
 use Rattle.words.specs.Run.{All, NoRepeat}
-use Rattle.typing.specs.Types.{Environment}
-use Rattle.typing.specs.Process.{Process}
 use Rattle.typing.specs.Check.Laws.{both, and-both}
-use Rattle.typing.specs.Reading.{Read, environmentAt, processAt}
-use Rattle.typing.specs.Derivation.{holds, whole, Spells}
+use Rattle.typing.specs.Reading.{environmentAt, processAt}
+use Rattle.typing.specs.Derivation.{holds, whole}
 use Rattle.typing.specs.Derivation.Laws.{then-came, holds-came, whole-came}
-use Rattle.typing.specs.Apart.{binders, names, Apart, among, clear, keepsApart, KeepsApart}
+use Rattle.typing.specs.Apart.{binders, names, among, clear, keepsApart, KeepsApart}
 
 among-member : (x : ℕ) (l : List ℕ) → among x l ≡ true → List·Memᴰ x l
 unfolding among

@@ -1,16 +1,16 @@
 -- Multisets of effects are what their name says: + adds up how often each effect stands there, − is the cut-off difference, and two lists
 -- are one multiset exactly if each effect stands in them equally often. Assumes nothing.
-use Prim.Native.Nat.{ℕ, zero, suc, _+_, _-_, _≤_, _<_}
-use mathlib.Core.Bool.{Bool, true, false, true≢false}
+use Prim.Native.Nat.{ℕ, suc, _+_, _-_, _<_}
+use mathlib.Core.Bool.{true, false, true≢false}
 use mathlib.Core.List.{List, [], _∷_, _++_, append-assoc}
 use mathlib.Core.Logic.{_↔_}
 use mathlib.Core.Path.{_≡_, refl, sym, _∙_, ap, subst}
 use native.Mathlib.Omega.{arith}
 use native.Mathlib.Decide.{decLt}
 use lib.Dec.{ltb, eqb}
-use borrow.Author.Tests.{ltb-true, ltb-false, lt-ltb, le-ltb, eqb-true, eqb-false, eq-eqb, ne-eqb}
-use Rattle.words.specs.Choice.{pick, choose}
-use Rattle.words.specs.Choice.Laws.{pick-true, pick-false, pick-ind, choose-yes, choose-no, choose-ind}
+use borrow.Author.Tests.{lt-ltb, le-ltb, eq-eqb, ne-eqb}
+use Rattle.words.specs.Choice.{choose}
+use Rattle.words.specs.Choice.Laws.{pick-true, pick-false, pick-ind, choose-yes, choose-no}
 use Rattle.words.specs.First.Laws.{clash}
 use Rattle.typing.specs.Term.{Term, Effect, sameEffect, termWords, effectWords}
 use Rattle.typing.specs.Bag.{upTo, insert, plus, bag, remove, minus, count}

@@ -1,5 +1,4 @@
 -- The test holds exactly of the rules' instances. Assumes nothing.
-use Prim.Native.Nat.{ℕ}
 use mathlib.Core.Bool.{Bool, true, false, not, _&&_, true≢false}
 use mathlib.Core.List.{List, [], _∷_, List·Memᴰ, List·Memᴰ·head, List·Memᴰ·tail}
 use mathlib.Core.Path.{_≡_, refl, sym, subst, subst₂}
@@ -10,7 +9,7 @@ use Rattle.words.specs.Choice.Laws.{choose-yes}
 use Rattle.typing.specs.Types.{Entry, Environment, sameEntry}
 use Rattle.typing.specs.Judgement.{Judgement, sameJudgement, sameJudgements}
 use Rattle.typing.specs.Rule.{Rule, Instance}
-use Rattle.typing.specs.Check.{left, right, nameOf, inner, second, promised, entryName, entryType, newest, older, partsOf, environmentOf, termOf, typeOf, effectsOf, processOf, first, rest, printed, asks, stands, follows}
+use Rattle.typing.specs.Check.{left, right, nameOf, second, promised, entryName, entryType, newest, older, partsOf, environmentOf, termOf, typeOf, effectsOf, processOf, first, rest, printed, asks, stands, follows}
 
 -- ---- tests
 pub both : (a b : Bool) → (a && b) ≡ true → (a ≡ true) × (b ≡ true)
@@ -49,7 +48,7 @@ member-stands a (b ∷ E) (List·Memᴰ·tail m) = go (sameEntry a b) (member-st
 -- ---- a rule as it is written out is an instance, if what it asks holds
 sound : (r : Rule) (Js : List Judgement) (J : Judgement) → asks r (printed Js J r .1) ≡ true
     → Instance r (printed Js J r .0) (printed Js J r .1)
-unfolding left right nameOf inner second promised entryName entryType newest older partsOf environmentOf termOf typeOf effectsOf processOf first rest printed asks
+unfolding left right nameOf second promised entryName entryType newest older partsOf environmentOf termOf typeOf effectsOf processOf first rest printed asks
 sound Rule.empty Js J e = Instance.empty
 sound Rule.entry Js J e = Instance.entry
 sound Rule.effect-none Js J e = Instance.effect-none
@@ -90,7 +89,7 @@ pub record Written (r : Rule) (Js : List Judgement) (J : Judgement) : Type 0 whe
   pub asked : asks r J ≡ true
 
 complete : {r : Rule} {Js : List Judgement} {J : Judgement} → Instance r Js J → Written r Js J
-unfolding left right nameOf inner second promised entryName entryType newest older partsOf environmentOf termOf typeOf effectsOf processOf first rest printed asks
+unfolding left right nameOf second promised entryName entryType newest older partsOf environmentOf termOf typeOf effectsOf processOf first rest printed asks
 complete Instance.empty = record { premises = refl; conclusion = refl; asked = refl }
 complete Instance.entry = record { premises = refl; conclusion = refl; asked = refl }
 complete Instance.effect-none = record { premises = refl; conclusion = refl; asked = refl }

@@ -1,15 +1,15 @@
 -- A line passes exactly if it is an instance of its rule (`line-exact`); each verdict is given exactly when (`refused-exact`,
 -- `bad-exact`, `another-exact`, `safe-exact`); what is safe holds (`safe-holds`). Assumes nothing.
-use Prim.Native.Nat.{ℕ, zero, suc, _+_, _-_, _≤_, _<_}
+use Prim.Native.Nat.{ℕ, zero, suc, _-_, _≤_, _<_}
 use mathlib.Core.Bool.{Bool, true, false, not, true≢false}
 use mathlib.Core.List.{List, [], _∷_}
-use mathlib.Core.Logic.{_↔_, _⊎_, inl, inr}
+use mathlib.Core.Logic.{_↔_, inl, inr}
 use mathlib.Core.Option.{Option, none, some}
 use mathlib.Core.Path.{_≡_, refl, sym, _∙_, ap, subst}
 use native.Mathlib.Omega.{arith}
 use native.Mathlib.Decide.{decLt}
 use lib.Dec.{ltb, eqb}
-use borrow.Author.Tests.{ltb-true, ltb-false, lt-ltb, le-ltb, eqb-true, eqb-false, eq-eqb, ne-eqb, not-true, not-false}
+use borrow.Author.Tests.{ltb-true, ltb-false, lt-ltb, le-ltb, eqb-false, ne-eqb, not-true, not-false}
 use Rattle.words.specs.Choice.{pick, choose, then}
 use Rattle.words.specs.Choice.Laws.{pick-true, pick-false, pick-ind, choose-yes}
 use Rattle.words.specs.First.{first, any}
@@ -17,11 +17,10 @@ use Rattle.words.specs.First.Laws.{clash, first-holds, first-fails, first-at, a
 use Rattle.typing.specs.Judgement.{Judgement, sameJudgement}
 use Rattle.typing.specs.Types.{Environment}
 use Rattle.typing.specs.Process.{Process}
-use Rattle.typing.specs.Rule.{Rule, Instance, Holds, AllHold}
+use Rattle.typing.specs.Rule.{Holds, AllHold}
 use Rattle.typing.specs.Reading.{Read, environmentAt, processAt}
-use Rattle.typing.specs.Check.{follows}
 use Rattle.typing.specs.Check.Laws.{follows-instance, instance-follows}
-use Rattle.typing.specs.Derivation.{Kind, Numbered, ruleOf, lines, lineWord, effectCount, judgement, given, earlier, premisesFrom, IsInstance, byRule, holds, passes, whole, asked, Spells, agree, answers, Verdict, mostLines, mostEffects, crowded, fails, verdict, Within, Answers, IsSafe, IsBad, IsAnother, ManyLines, ManyEffects, Right}
+use Rattle.typing.specs.Derivation.{ruleOf, lines, lineWord, effectCount, judgement, given, earlier, premisesFrom, IsInstance, byRule, holds, passes, whole, asked, Spells, agree, answers, Verdict, mostLines, mostEffects, crowded, fails, verdict, Within, Answers, Right}
 
 -- ---- then
 -- where a value comes out, one went in

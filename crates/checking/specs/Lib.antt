@@ -1,4 +1,1 @@
-pub mod Behind
-pub mod Bound
-pub mod Same
 pub mod Large

@@ -1,7 +1,7 @@
 -- The names of several effects, one turn at a time. Assumes nothing.
 use Prim.Native.Nat.{ℕ, zero, suc, _+_, _-_, _≤_, _<_}
-use mathlib.Core.Bool.{Bool, true, false, _||_}
-use mathlib.Core.List.{List, _∷_}
+use mathlib.Core.Bool.{Bool, true, false, _||_, or-assoc, or-false}
+use mathlib.Core.List.{List, [], _∷_}
 use mathlib.Core.Option.{none, some}
 use mathlib.Core.Path.{_≡_, refl, sym, _∙_, ap}
 use native.Mathlib.Omega.{arith}
@@ -9,8 +9,9 @@ use native.Mathlib.Numerals.{add-one}
 use lib.ListN.{length, drop, getD}
 use lib.Seq.{drop-cons}
 use Rattle.words.specs.Choice.{then}
-use Rattle.words.specs.Choice.Laws.{or-left}
-use Rattle.typing.specs.Term.{Term, Effect, about, occurs, mentions}
+use Rattle.words.specs.Choice.Laws.{pick-ind, or-left}
+use Rattle.typing.specs.Term.{Term, Effect, about, occurs, mentions, effectWords}
+use Rattle.typing.specs.Bag.{upTo, insert, plus, bag}
 use Rattle.typing.specs.Reading.{Read, after, term, effectOf, effects}
 use Rattle.spans.specs.Behind.{restOf, At, Ends}
 use Rattle.alike.specs.Same.{valueOr, termIn, effectIn, effectsIn}
@@ -95,3 +96,30 @@ module _ (w : List ℕ) (a k end x i j : ℕ) (t : Walk w a k end x i j) where
   walk-done h =
       let z : k - j ≡ 0 = omega arith in
       sym (t .same ∙ ap (λ (m : ℕ). mentions x (effectsIn w i m)) z ∙ ap (mentions x) (list-none w i))
+
+-- ---- a multiset has the names of its list
+or-swap : (a b c : Bool) → (a || (b || c)) ≡ (b || (a || c))
+or-swap true true c = refl
+or-swap true false c = refl
+or-swap false true c = refl
+or-swap false false c = refl
+
+mentions-insert : (x : ℕ) (e : Effect) (es : List Effect) → mentions x (insert e es) ≡ (occurs x (about e) || mentions x es)
+unfolding mentions insert
+mentions-insert x e [] = refl
+mentions-insert x e (f ∷ es) =
+    let h = mentions-insert x e es in
+    pick-ind (λ (l : List Effect). mentions x l ≡ (occurs x (about e) || (occurs x (about f) || mentions x es)))
+    (upTo (effectWords e) (effectWords f)) (e ∷ f ∷ es) (f ∷ insert e es) (λ _. refl)
+    (λ _. ap (λ (b : Bool). occurs x (about f) || b) h ∙ or-swap (occurs x (about f)) (occurs x (about e)) (mentions x es))
+
+mentions-plus : (x : ℕ) (es fs : List Effect) → mentions x (plus es fs) ≡ (mentions x es || mentions x fs)
+unfolding mentions plus
+mentions-plus x [] fs = refl
+mentions-plus x (e ∷ es) fs =
+    mentions-insert x e (plus es fs) ∙ ap (λ (b : Bool). occurs x (about e) || b) (mentions-plus x es fs)
+    ∙ sym (or-assoc (occurs x (about e)) (mentions x es) (mentions x fs))
+
+pub mentions-bag : (x : ℕ) (es : List Effect) → mentions x (bag es) ≡ mentions x es
+unfolding mentions bag
+mentions-bag x es = mentions-plus x es [] ∙ or-false (mentions x es)

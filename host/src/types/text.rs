@@ -1,13 +1,15 @@
 //! Processes as people write them: entries `name x : T`, then the process. Binders are renamed apart as they are read,
 //! so that what is asked keeps its bound names apart.
 //!
-//!     # a handshake with a fixed label
-//!     name net : Un
-//!     name a : Un
-//!     name k : symkey(nonce [end a])
+//! ```text
+//! # a handshake with a fixed label
+//! name net : Un
+//! name a : Un
+//! name k : symkey(nonce [end a])
 //!
-//!     new (n : Un); out net n; inp net z : Un; decrypt z (k) to m : nonce [end a]; check n = m; end a; stop
-//!     | inp net x : Un; begin a; cast x is y : nonce [end a]; out net {y}k; stop
+//! new (n : Un); out net n; inp net z : Un; decrypt z (k) to m : nonce [end a]; check n = m; end a; stop
+//! | inp net x : Un; begin a; cast x is y : nonce [end a]; out net {y}k; stop
+//! ```
 
 use super::tree::{Effect, Effects, Environment, Process, Term, Type};
 

@@ -21,8 +21,8 @@ pub record HalfOf (b : List ℕ) (p r : ℕ) : Type 0 where
   pub half : 3 ≤ kind b r
   pub part : entry b (rowFirst b r) ≡ p
 
--- once the first i rows are passed: the table l names for each of them its partner among them, and s for each row a half of it among
--- them; the number of rows where there is none
+-- once the first i rows are passed: the table l names for each of them its partner, and s for each row a half of it among the first i.
+-- Where either has the number of rows, there is none among the first i.
 pub record PartnersBefore (b : List ℕ) (i : ℕ) (l s : List ℕ) : Type 0 where
   pub within : i ≤ rows b
   pub size : length l ≡ 1024

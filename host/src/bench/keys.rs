@@ -106,6 +106,7 @@ fn different(random: &mut Random, count: usize) -> Book {
 mod tests {
     use super::*;
     use crate::book::{self, ATOM, MOST_POOL};
+    use crate::narration::narrate;
 
     /// The keys of the rows that are compared.
     fn keys(book: &Book) -> Vec<u32> {
@@ -134,6 +135,16 @@ mod tests {
         assert!(book.words()[6] <= MOST_POOL);
         // No row repeats another.
         assert_eq!(book::read(&book.words()), Ok(book));
+    }
+
+    /// The trials of rows that differ: in one book two rows share a key, twice, in the other none.
+    #[test]
+    fn the_trials_have_the_keys_they_say() {
+        let keyed = |text: &str| keys(&narrate(text).expect("a narration"));
+        let equal = keyed(include_str!("../../../books/trial-equal-keys.narration"));
+        assert_eq!((equal.len(), equal[0], equal[2]), (4, equal[1], equal[3]));
+        let permuted = keyed(include_str!("../../../books/trial-permuted-parts.narration"));
+        assert_eq!((permuted.len(), HashSet::<u32>::from_iter(permuted).len()), (8, 8));
     }
 
     #[test]

@@ -10,15 +10,16 @@ use Rattle.words.specs.Overlay.{Wrote}
 use Rattle.octets.specs.Octets.{wordsIn, bytesOfAll}
 use Rattle.octets.specs.Octets.Laws.{words-length}
 use Rattle.book.specs.declared.Refusal.{Refusal}
-use Rattle.book.specs.Said.{Said, said}
+use Rattle.book.specs.Said.{Said, said, readingSays}
 use Rattle.book.specs.Layout.{parties}
 use Rattle.translation.specs.declared.Answer.{Answer}
 use Rattle.translation.specs.declared.Answer.the-variants.{Written, Refused}
 use Rattle.translation.specs.Listing.{listing}
 use Rattle.translation.specs.Outcome.{Outcome, answerSays, translationSays, laid, came}
 use Rattle.translation.specs.Outcome.Laws.{came-refused, came-written, laid-keeps, laid-lays}
-use Rattle.translator.specs.declared.Plan.{Plan}
-use Rattle.translator.specs.Plan.{Planned}
+use Rattle.translator.specs.declared.Findings.{Findings}
+use Rattle.translator.specs.Surveyed.{Surveyed, fitted}
+use Rattle.translator.specs.Surveyed.Laws.{fitted-says}
 use Rattle.playing.specs.Rehearsal.{eventsDone, rehearsalSays, rehearsal}
 use Rattle.playing.specs.Rehearsal.Laws.{exactly-played, played-says, done-length}
 use Rattle.editor.specs.Bytes.{translated, rehearsed}
@@ -44,17 +45,17 @@ two-bounds (Small.two lv lw) = (refl, lv, lw)
 pub packed-came : {o : Outcome} {new : List ℕ} {n : ℕ} (r : Answer) → came r new ≡ o → n ≡ pack (answerSays r) → returned n new ≡ packed o
 packed-came {new = new} r e f = ap (λ k. returned k new) f ∙ ap packed e
 
--- ---- the plan is carried out on bytes
-module _ {b : List ℕ} {room : ℕ} {plan : Plan} (out : List ℕ) (p : Planned b room plan) (e : room ≡ length out / 4) where
-  says : answerSays (plan .answer) ≡ translationSays b (wordsIn out)
-  says = p .says (wordsIn out) (words-length out ∙ sym e)
+-- ---- the survey's findings are carried out on bytes
+module _ {b : List ℕ} {r : Findings} (out : List ℕ) (s : Surveyed b r) {n : ℕ} {a : Answer} (d : n ≡ length out / 4)
+    (e : answerSays a ≡ fitted (readingSays (r .reading)) (r .end) n) where
+  pub refused-came : {f : Refusal} → a ≡ Refused f → came (Refused f) out ≡ translated b out
+  refused-came {f} k =
+      came-refused _ out (bytesOfAll (listing b)) f (sym (sym (ap answerSays k) ∙ e ∙ fitted-says s (wordsIn out) (d ∙ sym (words-length out))))
 
-  pub refused-came : {f : Refusal} → plan .answer ≡ Refused f → came (Refused f) out ≡ translated b out
-  refused-came {f} k = came-refused _ out (bytesOfAll (listing b)) f (sym (sym (ap answerSays k) ∙ says))
-
-  pub written-came : {n r : ℕ} {new : List ℕ} → plan .answer ≡ Written n → Wrote (bytesOfAll (listing b)) out 0 new r
-      → came (Written n) new ≡ translated b out
-  written-came {n} {new = new} k w = came-written _ out (bytesOfAll (listing b)) new n (sym (sym (ap answerSays k) ∙ says)) (w .list)
+  pub written-came : {i j : ℕ} {new : List ℕ} → a ≡ Written i → Wrote (bytesOfAll (listing b)) out 0 new j
+      → came (Written i) new ≡ translated b out
+  written-came {i} {new = new} k w =
+      came-written _ out (bytesOfAll (listing b)) new i (sym (sym (ap answerSays k) ∙ e ∙ fitted-says s (wordsIn out) (d ∙ sym (words-length out)))) (w .list)
 
 -- ---- a rehearsal keeps the length of what it is lent
 pub rehearsed-length : (b ms lent new : List ℕ) (answer : Answer) → came answer new ≡ rehearsal b ms lent → length new ≡ length lent

@@ -18,7 +18,7 @@ use Rattle.translation.specs.Listing.Laws.{program-append}
 use Rattle.translation.specs.Steps.{before}
 use Rattle.translation.specs.Steps.Laws.{before-none}
 use Rattle.translation.specs.Long.{stepWords}
-use Rattle.translation.specs.Long.Laws.{step-within}
+use Rattle.translation.specs.Long.Laws.{step-within, all-within, pairs-length}
 use Rattle.holding.specs.View.{rowOf, view}
 use Rattle.holding.specs.Doing.{Doing}
 use Rattle.holding.specs.Doing.Laws.{doing-none, doing-as}
@@ -50,7 +50,7 @@ pub record Flushed (b : List ℕ) (p i : ℕ) (log₀ log out₀ : List ℕ) (a 
   pub valid : Valid b
   pub within : i ≤ steps b
   pub count : ℕ
-  pub along : Along b p i 0 log₀ log 0 [] [] (standing d count)
+  pub along : Along b p i log₀ log 0 [] [] (standing d count)
   pub wrote : Wrote (bytesOfAll (programWords (rowOf b) (before b p i .events))) out₀ a out next
   pub size : length step ≡ stepWords
   pub long : length (d .entries) ≡ 1024
@@ -58,7 +58,7 @@ pub record Flushed (b : List ℕ) (p i : ℕ) (log₀ log out₀ : List ℕ) (a 
 -- steps in which the party has no part add nothing
 module _ {b : List ℕ} {p i j : ℕ} (valid : Valid b) (idle : IdleUntil b p i j) {log₀ log out₀ : List ℕ} {a : ℕ} {out : List ℕ} {next : ℕ}
     {d : Dictionary} {step : List ℕ} where
-  skip : {c : ℕ} → Along b p i 0 log₀ log 0 [] [] (standing d c) → Wrote (bytesOfAll (programWords (rowOf b) (before b p i .events))) out₀ a out next
+  skip : {c : ℕ} → Along b p i log₀ log 0 [] [] (standing d c) → Wrote (bytesOfAll (programWords (rowOf b) (before b p i .events))) out₀ a out next
       → length step ≡ stepWords → length (d .entries) ≡ 1024 → Flushed b p j log₀ log out₀ a out next d step
   skip {c} g w l m =
       let same = before-skip b p idle in
@@ -86,9 +86,22 @@ module _ {b : List ℕ} {p i : ℕ} (h : i < steps b) {log₀ log out₀ : List 
     {step : List ℕ} (g : Flushed b p i log₀ log out₀ a out next d step) where
   -- ---- a step more can be done
   pub flushed-ready : {ps : List ℕ} → Partners b ps → ActReady b ps p i (standing d 0)
-  flushed-ready partners = record { valid = g .valid; partners = partners; step = h; size = g .long; fits = along-fits b p i (g .along) (g .valid) h }
+  flushed-ready partners =
+      let kept = g .along .keeps .next in
+      let pairs = pairs-length (rowOf b) (before b p i .stored) in
+      let stored = all-within b (g .valid) (rowOf b) p i (g .within) .stored in
+      record {
+        valid = g .valid;
+        partners = partners;
+        step = h;
+        size = g .long;
+        fits = along-fits b p i (g .along) (g .valid) h;
+        low = omega arith;
+        room = omega arith;
+      }
 
-  module _ {l logAfter stepAfter : List ℕ} {y : Received} {t : ℕ} (w : Acting b l p i (standing d 0) log logAfter step stepAfter y t)
+  module _ {l logAfter stepAfter : List ℕ} {y : Received} {ahead more t : ℕ}
+      (w : Acting b l p i (standing d 0) log logAfter step stepAfter y ahead more t)
     where
       -- the step's words stand in front of the buffer
       abbrev did : Did

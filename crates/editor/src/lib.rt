@@ -13,7 +13,8 @@ use octets::load;
 use octets::put_words;
 use receiving::Dictionary;
 use translation::Answer;
-use translator::prepare;
+use translator::fit;
+use translator::survey;
 use walking::act;
 use walking::next_own;
 use words::narrow;
@@ -161,14 +162,15 @@ fn write_listing(
 fn translate_words(book: &[u32], out: &mut [u8]) -> Answer
     ensures { λ r. ⌜ came r (now (out .exit)) ≡ translated (now (book .entry)) (now (out .entry)) ⌝ }
 {
-    let plan = prepare(book, out.len() / 4);
-    let answer = plan.answer;
+    let all = survey(book);
+    let reading = all.reading;
+    let answer = fit(reading, all.end, out.len() / 4);
     match answer {
         Answer::Refused(why) => Answer::Refused(why),
         Answer::Written(n) => {
-            let since = plan.since;
-            let partners = plan.partners;
-            let heads = plan.heads;
+            let since = all.since;
+            let partners = all.partners;
+            let heads = all.heads;
             write_listing(book, &since, &partners, &heads, out);
             Answer::Written(n)
         }

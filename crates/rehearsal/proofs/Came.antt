@@ -15,23 +15,25 @@ use Rattle.book.specs.Layout.{parties}
 use Rattle.book.specs.Headed.Laws.{valid-headed}
 use Rattle.book.specs.declared.Refusal.{Refusal}
 use Rattle.book.specs.declared.Refusal.the-variants.{Move, Room}
-use Rattle.book.specs.declared.Reading.{Reading}
 use Rattle.book.specs.declared.Reading.the-variants as reading
 use Rattle.book.specs.Said.{readingSays}
 use Rattle.translation.specs.declared.Answer.the-variants.{Written, Refused}
-use Rattle.translation.specs.Outcome.{acceptance, came, Plays}
-use Rattle.translation.specs.Outcome.Laws.{accepted-plays}
+use Rattle.translation.specs.Outcome.{came, Plays}
+use Rattle.walking.specs.Placed.{Placed}
+use Rattle.translator.specs.declared.Findings.{Findings}
+use Rattle.translator.specs.Surveyed.{Surveyed}
+use Rattle.translator.specs.Surveyed.Laws.{surveyed-plays}
 use Rattle.playing.specs.Rehearsal.{eventsDone, mostMoves, rehearsal}
 use Rattle.playing.specs.Rehearsal.Laws.{done-length}
 use Rattle.playing.specs.Rehearsal.Came.{rehearsal-refused-came, long-came, move-came, rehearsal-room-came, played-came}
 
 -- ---- the book's own answer
-pub refused : (b ms out : List ℕ) (r : Reading) (f : Refusal) → readingSays r ≡ acceptance b → r ≡ reading.Refused f
-    → came (Refused f) out ≡ rehearsal b ms out
-refused b ms out r f d k = rehearsal-refused-came b ms out f (sym (ap readingSays k) ∙ d)
+module _ {b : List ℕ} {r : Findings} (s : Surveyed b r) where
+  pub refused : (ms out : List ℕ) (f : Refusal) → r .reading ≡ reading.Refused f → came (Refused f) out ≡ rehearsal b ms out
+  refused ms out f k = rehearsal-refused-came b ms out f (sym (ap readingSays k) ∙ s .says)
 
-pub accepted : (b : List ℕ) (r : Reading) → readingSays r ≡ acceptance b → r ≡ reading.Accepted → Plays b
-accepted b r d k = accepted-plays b .0 (sym d ∙ ap readingSays k)
+  pub accepted : r .reading ≡ reading.Accepted → Plays b × Placed b (r .sends) (r .receives) (r .ends)
+  accepted k = let z = ap (λ x. readingSays x .number) k in (surveyed-plays s z, s .placed z)
 
 -- ---- refusal 11: a schedule that is too long
 pub long : {b : List ℕ} (ms out : List ℕ) → Plays b → {r : ℕ} → r ≡ mostMoves → mostMoves < length ms

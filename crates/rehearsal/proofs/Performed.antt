@@ -16,7 +16,7 @@ use Rattle.translation.specs.Places.{placesOf}
 use Rattle.playing.specs.Rehearsal.{eventsDone}
 use Rattle.playing.specs.Counting.{waitsFor, waits, ticked, tickedAll}
 use Rattle.playing.specs.Counting.Laws.{done-counted}
-use Rattle.placing.specs.Placed.{Placed}
+use Rattle.walking.specs.Placed.{Placed}
 use Rattle.rehearsal.specs.Kept.{places, counts}
 
 module _ {b x y z : List ℕ} (g : Placed b x y z) where

@@ -7,9 +7,8 @@ use book::parties;
 use book::step_receiver;
 use book::step_sender;
 use book::steps;
-use placing::place;
 use translation::Answer;
-use translator::accept;
+use translator::survey;
 use words::narrow;
 use words::put;
 use words::wide;
@@ -24,6 +23,7 @@ ghost use Rattle.words.specs.Overlay.{Wrote};
 ghost use Rattle.book.specs.Layout.{parties as partiesOf, steps as stepsOf};
 ghost use Rattle.book.specs.Valid.{Valid};
 ghost use Rattle.translation.specs.Outcome.{came, Plays};
+ghost use Rattle.walking.specs.Placed.{Placed};
 ghost use Rattle.playing.specs.Rehearsal.{eventsDone, rehearsal};
 ghost use Rattle.playing.specs.Counting.{waitsFor, waits as waitsAt, ticked, tickedAll};
 ghost use Rattle.rehearsal.specs.Kept.{places, counts};
@@ -141,23 +141,33 @@ fn write_counts(done: &[u32; 16], q: u32, out: &mut [u32]) -> usize
     at
 }
 
-// The events done by each party under a schedule whose moves all name parties.
-fn perform(book: &[u32], schedule: &[u32], out: &mut [u32]) -> usize
-    requires { ⌜ Plays (now book) × All (λ q. q < partiesOf (now book)) (now schedule) ⌝ }
+// The events done by each party under a schedule whose moves all name parties, by the places of the events.
+fn perform(
+    book: &[u32],
+    sends: &[u32; 64],
+    receives: &[u32; 64],
+    ends: &[u32; 16],
+    schedule: &[u32],
+    out: &mut [u32],
+) -> usize
+    requires { ⌜ Plays (now book) × Placed (now book) (now sends) (now receives) (now ends) × All (λ q. q < partiesOf (now book)) (now schedule) ⌝ }
     ensures { λ r. ⌜ Wrote (eventsDone (now (book .entry)) (now (schedule .entry))) (now (out .entry)) 0 (now (out .exit)) r ⌝ }
 {
-    let mut sends = [0u32; 64];
-    let mut receives = [0u32; 64];
-    let mut ends = [0u32; 16];
-    place(book, &mut sends, &mut receives, &mut ends);
     let mut done = [0u32; 16];
-    play(book, &sends, &receives, &ends, schedule, &mut done);
+    play(book, sends, receives, ends, schedule, &mut done);
     write_counts(&done, parties(book), out)
 }
 
 // Refusals 11 and 12 of an accepted book, or the output.
-fn rehearse_accepted(book: &[u32], schedule: &[u32], out: &mut [u32]) -> Answer
-    requires { ⌜ Plays (now book) ⌝ }
+fn rehearse_accepted(
+    book: &[u32],
+    sends: &[u32; 64],
+    receives: &[u32; 64],
+    ends: &[u32; 16],
+    schedule: &[u32],
+    out: &mut [u32],
+) -> Answer
+    requires { ⌜ Plays (now book) × Placed (now book) (now sends) (now receives) (now ends) ⌝ }
     ensures { λ r. ⌜ came r (now (out .exit)) ≡ rehearsal (now (book .entry)) (now (schedule .entry)) (now (out .entry)) ⌝ }
 {
     if Limit::MOVES < schedule.len() {
@@ -172,7 +182,7 @@ fn rehearse_accepted(book: &[u32], schedule: &[u32], out: &mut [u32]) -> Answer
     if out.len() < n {
         return Answer::Refused(Refusal::Room(n));
     }
-    let written = perform(book, schedule, out);
+    let written = perform(book, sends, receives, ends, schedule, out);
     Answer::Written(written)
 }
 
@@ -180,8 +190,15 @@ fn rehearse_accepted(book: &[u32], schedule: &[u32], out: &mut [u32]) -> Answer
 pub fn rehearse(book: &[u32], schedule: &[u32], out: &mut [u32]) -> Answer
     ensures { λ r. ⌜ came r (now (out .exit)) ≡ rehearsal (now (book .entry)) (now (schedule .entry)) (now (out .entry)) ⌝ }
 {
-    match accept(book) {
+    let all = survey(book);
+    let reading = all.reading;
+    match reading {
         Reading::Refused(why) => Answer::Refused(why),
-        Reading::Accepted => rehearse_accepted(book, schedule, out),
+        Reading::Accepted => {
+            let sends = all.sends;
+            let receives = all.receives;
+            let ends = all.ends;
+            rehearse_accepted(book, &sends, &receives, &ends, schedule, out)
+        }
     }
 }

@@ -1,5 +1,5 @@
 -- Making the atoms of a row, of a list of rows, and sending a step's messages: what the code leaves behind. Assumes nothing.
-use Prim.Native.Nat.{ℕ, _+_, _-_, _<_}
+use Prim.Native.Nat.{ℕ, _+_, _-_, _*_, _/_, _≤_, _<_}
 use mathlib.Core.List.{List, [], _∷_}
 use mathlib.Core.Path.{_≡_, refl, sym, ap, _∙_}
 use native.Mathlib.Omega.{arith}
@@ -14,11 +14,13 @@ use Rattle.book.specs.Span.{entry, Span}
 use Rattle.translation.specs.Dictionary.{Dictionary}
 use Rattle.translation.specs.Build.{build, buildAll}
 use Rattle.translation.specs.Listing.{eventWords, programWords}
+use Rattle.translation.specs.Long.{stepSize}
+use Rattle.translation.specs.Long.Laws.{news-words}
 use Rattle.claims.specs.Since.{takenIn}
 use Rattle.holding.specs.View.{rowOf, view}
 use Rattle.holding.specs.AtRow.{imagesAt}
 use Rattle.sending.specs.declared.Made.{Made}
-use Rattle.sending.specs.Sending.{Making, making, allMaking, orTaken, firstIn, Makes, Sends}
+use Rattle.sending.specs.Sending.{Making, making, allMaking, orTaken, firstIn, SendReady, Makes, Sends}
 use Rattle.sending.specs.Sending.Laws.{nothing, both, making-held, making-atom, making-parts, one-set, making-none, making-more, first-append, news-append, sent-words}
 
 -- ---- one row, of which the code reads the entry at w
@@ -89,15 +91,31 @@ more-makes b l e s f n x h d u w =
 pub bound-span : (b : List ℕ) (bound f n : ℕ) → bound ≡ rows b → Span b (rows b) f n → Span b bound f n
 bound-span b bound f n d s = rw d s
 
--- the SEND stands at w, which is the place behind the NEWs
-pub sends : {b l : List ℕ} (e : List ℕ) {s : ℕ} (f : ℕ) {n c a w : ℕ} {after o p q t : List ℕ} {m : Made} {i z : ℕ} → c ≡ n
+-- each NEW took two words
+pub record News (b e : List ℕ) (f n a : ℕ) (m : Made) : Type 0 where
+  pub words : m .at ≡ a + 2 * length (buildAll (terms (table b) (listAt b f n)) (view b e) .made)
+  pub few : length (buildAll (terms (table b) (listAt b f n)) (view b e) .made) ≤ stepSize
+
+pub news : {b l e : List ℕ} {s f n a : ℕ} {after o p : List ℕ} {m : Made} → SendReady b f n e a
     → Makes b l s (allMaking (buildAll (terms (table b) (listAt b f n)) (view b e))) (record { at = a; taken = 0 }) after o p m
-    → Wrote (2 ∷ s ∷ c ∷ []) p w q i → w ≡ m .at → Wrote (imagesAt b after f n) q i t z
-    → Sends b l s (buildAll (terms (table b) (listAt b f n)) (view b e)) a after o t (record { at = z; taken = m .taken })
-sends {b} e {s} f {n} {after = after} d x y g z =
+    → News b e f n a m
+news {b} {e = e} {f = f} {n = n} ready x =
+    let few = ready .few in
+    let low = ready .low in
+    let next = x .wrote .next in
+    let words = news-words (rowOf b) (buildAll (terms (table b) (listAt b f n)) (view b e) .made) in
+    record { words = omega arith; few = few }
+
+-- the SEND stands at w, which is the place behind the NEWs
+pub sends : {b l e : List ℕ} {s f n c a w k : ℕ} {after o p q t : List ℕ} {m : Made} {i z : ℕ} → SendReady b f n e a → c ≡ n
+    → Makes b l s (allMaking (buildAll (terms (table b) (listAt b f n)) (view b e))) (record { at = a; taken = 0 }) after o p m
+    → Wrote (2 ∷ s ∷ c ∷ []) p w q i → w ≡ m .at → Wrote (imagesAt b after f n) q i t z → k ≡ (m .at - a) / 2
+    → Sends b l s (buildAll (terms (table b) (listAt b f n)) (view b e)) a after o t (record { at = z; made = k; taken = m .taken })
+sends {b} {e = e} {s = s} {f = f} {n = n} {after = after} ready d x y g z dk =
     record {
       holds = x .holds;
       wrote = wrote-as (wrote-then (x .wrote) (wrote-then (rw g at y) z)) (sent-words b after s f n (view b e) (x .holds) ∙ rw d);
+      made = let many = news ready x .words in omega arith;
       found = x .found;
       size = x .size;
     }

@@ -1,22 +1,28 @@
 -- Sending as the code does it: the atoms of a step's messages are made first, each with its NEW, then one SEND is written with the
 -- messages' images. What is made and written is `buildAll`'s and `sent`'s; of the atoms made, the first that is taken is noted, since
 -- "making a taken atom is refusal 10" and its place is the "first such row in building order" (document 01).
-use Prim.Native.Nat.{ℕ, _+_}
+use Prim.Native.Nat.{ℕ, _+_, _*_, _≤_}
 use mathlib.Core.Bool.{Bool}
 use mathlib.Core.List.{List, [], _∷_, map}
 use mathlib.Core.Path.{_≡_}
 use lib.Dec.{eqb}
 use lib.ListN.{length}
 use Rattle.words.specs.Choice.{pick}
-use Rattle.words.specs.Overlay.{Wrote}
+use Rattle.words.specs.Overlay.{cap, Wrote}
+use Rattle.terms.specs.Table.{terms}
+use Rattle.book.specs.Layout.{rows, table, listAt}
+use Rattle.book.specs.Span.{Span}
+use Rattle.book.specs.Valid.{Valid}
 use Rattle.translation.specs.Dictionary.{Dictionary}
-use Rattle.translation.specs.Build.{Built, AllBuilt}
+use Rattle.translation.specs.Build.{Built, AllBuilt, buildAll}
+use Rattle.translation.specs.Long.{stepSize}
 use Rattle.translation.specs.Receive.{Event}
 use Rattle.translation.specs.Program.{sent}
 use Rattle.translation.specs.Listing.{programWords}
 use Rattle.holding.specs.View.{rowOf, view}
 use Rattle.claims.specs.Since.{takenIn}
 use Rattle.sending.specs.declared.Made.{Made}
+use Rattle.sending.specs.declared.Sent.{Sent}
 pub mod Laws
 
 -- ---- what building leaves, whatever the images: the dictionary, and the atoms made
@@ -48,9 +54,19 @@ pub record Makes (b l : List ℕ) (s : ℕ) (g : Making) (m : Made) (e out outAf
   pub found : r .taken ≡ firstIn (takenIn l s) (m .taken) (g .made)
   pub size : length e ≡ 1024
 
+-- what sending is handed: n messages, which stand at f in the pool, and the entries e. As many atoms as a step can make may be made, and
+-- the place a is so low that their NEWs are counted.
+pub record SendReady (b : List ℕ) (f n : ℕ) (e : List ℕ) (a : ℕ) : Type 0 where
+  pub valid : Valid b
+  pub span : Span b (rows b) f n
+  pub size : length e ≡ 1024
+  pub few : length (buildAll (terms (table b) (listAt b f n)) (view b e) .made) ≤ stepSize
+  pub low : a + 2 * stepSize ≤ cap
+
 -- the messages were sent, the first word at a
-pub record Sends (b l : List ℕ) (s : ℕ) (g : AllBuilt) (a : ℕ) (e out outAfter : List ℕ) (r : Made) : Type 0 where
+pub record Sends (b l : List ℕ) (s : ℕ) (g : AllBuilt) (a : ℕ) (e out outAfter : List ℕ) (r : Sent) : Type 0 where
   pub holds : view b e ≡ g .dictionary
   pub wrote : Wrote (programWords (rowOf b) (sent s g .events)) out a outAfter (r .at)
+  pub made : r .made ≡ length (g .made)
   pub found : r .taken ≡ firstIn (takenIn l s) 0 (g .made)
   pub size : length e ≡ 1024

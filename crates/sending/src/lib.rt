@@ -1,5 +1,5 @@
 // Figure 3's S: what a party does to send a step's messages. `send` writes a NEW for each atom that has to be made, in building
-// order, then the SEND with its images; `make_list` does the making alone. Both tell the first taken atom that would be made.
+// order, then the SEND with its images, and tells how many atoms were made and the first of them that is taken.
 use book::ByRow;
 use book::Code;
 use book::Kind;
@@ -23,11 +23,18 @@ ghost use Rattle.translation.specs.Build.{build, buildAll};
 ghost use Rattle.holding.specs.View.{view};
 ghost use Rattle.book.specs.Span.{Span};
 ghost use Rattle.claims.specs.Since.{takenIn};
-ghost use Rattle.sending.specs.Sending.{making, allMaking, orTaken, Makes, Sends};
+ghost use Rattle.sending.specs.Sending.{making, allMaking, orTaken, SendReady, Makes, Sends};
 
 // Where the next word goes, and one more than the row of the first taken atom that was made (0 if none was).
-pub struct Made {
+struct Made {
+    at: usize,
+    taken: u32,
+}
+
+// What sending left: where the next word goes, how many atoms were made, and one more than the row of the first taken one.
+pub struct Sent {
     pub at: usize,
+    pub made: u32,
     pub taken: u32,
 }
 
@@ -93,7 +100,7 @@ fn make(
 }
 
 // The same for a list of rows below a bound.
-pub fn make_list(
+fn make_list(
     book: &[u32],
     since: &ByRow,
     entries: &mut ByRow,
@@ -142,8 +149,8 @@ pub fn send(
     n: usize,
     out: &mut [u32],
     at: usize,
-) -> Made
-    requires { ⌜ Valid (now book) × Span (now book) (rowsOf (now book)) first n × (length (now entries) ≡ 1024) ⌝ }
+) -> Sent
+    requires { ⌜ SendReady (now book) first n (now entries) at ⌝ }
     ensures { λ r. ⌜ Sends (now (book .entry)) (now (since .entry)) step (buildAll (terms (table (now (book .entry))) (listAt (now (book .entry)) first n)) (view (now (book .entry)) (now (entries .entry)))) at (now (entries .exit)) (now (out .entry)) (now (out .exit)) r ⌝ }
 {
     let bound = rows(book);
@@ -160,8 +167,9 @@ pub fn send(
     );
     let next = put3(out, m.at, Code::SEND, step, narrow(n));
     let end = write_images(book, entries, bound, first, n, out, next);
-    Made {
+    Sent {
         at: end,
+        made: narrow((m.at - at) / 2),
         taken: m.taken,
     }
 }

@@ -1,6 +1,6 @@
 -- What translating says, and what comes of it: refusals 1 to 9 are the reader's; of a valid book refusal 10 comes next, then refusal
 -- 12, and then the output. Assumes nothing.
-use Prim.Native.Nat.{ℕ, _-_, _≤_, _<_}
+use Prim.Native.Nat.{ℕ, _-_, _<_}
 use mathlib.Core.List.{List, [], _∷_, _++_}
 use mathlib.Core.Path.{_≡_, refl, sym, ap, _∙_}
 use native.Mathlib.Omega.{arith}
@@ -9,7 +9,7 @@ use Rattle.words.specs.First.Laws.{first-at, first-end}
 use Rattle.words.specs.Overlay.{Wrote}
 use Rattle.book.specs.Layout.{parties, steps}
 use Rattle.book.specs.declared.Refusal.{Refusal}
-use Rattle.book.specs.declared.Refusal.the-variants.{Taken, Room}
+use Rattle.book.specs.declared.Refusal.the-variants.{Taken}
 use Rattle.book.specs.declared.Reading.{Reading}
 use Rattle.book.specs.declared.Reading.the-variants as reading
 use Rattle.book.specs.Said.{Said, said, accepted, refusalSays, readingSays}
@@ -21,18 +21,15 @@ use Rattle.book.specs.Valid.Laws.{nine, reading-lines, valid-keep, accepted-val
 use Rattle.translation.specs.Narration.{narration}
 use Rattle.translation.specs.Taken.{unplayable, firstTaken}
 use Rattle.translation.specs.Listing.{listing}
-use Rattle.translation.specs.Outcome.{takenLine, acceptance, translationSays, outcome, answerSays, came, Plays}
-use Rattle.translation.specs.Outcome.Laws.{book-first, came-refused, came-written, accepted-plays, exactly-12, written-says}
+use Rattle.translation.specs.Outcome.{takenLine, acceptance, translationSays, outcome, answerSays, came}
+use Rattle.translation.specs.Outcome.Laws.{came-refused, came-written}
+use Rattle.translation.specs.declared.Answer.{Answer}
 use Rattle.translation.specs.declared.Answer.the-variants.{Written, Refused}
 use Rattle.translator.specs.Among.{FoundAmong}
 use Rattle.translator.specs.Among.Laws.{found-none, found-one}
-use Rattle.translator.specs.Plan.{Planned}
-use Rattle.translator.specs.declared.Plan.{Plan}
-
--- a refusal that is the book's
-refusal-says : (b out : List ℕ) (f : Refusal) → readingSays (reading.Refused f) ≡ acceptance b → refusalSays f ≡ translationSays b out
-unfolding translationSays
-refusal-says b out f e = e ∙ sym (book-first b _ _ (λ z. refusal-number f (ap (λ (x : Said). x .number) e ∙ z)))
+use Rattle.translator.specs.Surveyed.{Surveyed, fitted}
+use Rattle.translator.specs.Surveyed.Laws.{fitted-says}
+use Rattle.translator.specs.declared.Findings.{Findings}
 
 -- ---- the reader's answer
 module _ (b : List ℕ) (r : Reading) (f : Refusal) (d : readingSays r ≡ verdict b) (k : r ≡ reading.Refused f) where
@@ -48,9 +45,6 @@ module _ (b : List ℕ) (r : Reading) (f : Refusal) (d : readingSays r ≡ verdi
   pub refused-accept : readingSays (reading.Refused f) ≡ acceptance b
   unfolding acceptance verdict
   refused-accept = says-why ∙ sym (firstOf-stop (readingTable b) (takenLine b ∷ []) accepted accepted refl refused)
-
-  pub refused-says : (out : List ℕ) → refusalSays f ≡ translationSays b out
-  refused-says out = refusal-says b out f refused-accept
 
 pub accepted-book : (b : List ℕ) (r : Reading) → readingSays r ≡ verdict b → r ≡ reading.Accepted → Valid b
 accepted-book b r d k = accepted-valid b .0 (sym d ∙ ap readingSays k)
@@ -85,28 +79,14 @@ module _ {b : List ℕ} (v : Valid b) where
         let on = scan-on 10 (steps b) (unplayable (narration b)) place [] accepted (steps b) nowhere (omega arith) in
         sym (passes _ accepted ∙ on ∙ firstOf-none accepted)
 
-    pub taken-says : (out : List ℕ) → (t ≡ 0 → ⊥) → refusalSays (Taken s (t - 1)) ≡ translationSays b out
-    taken-says out z = refusal-says b out (Taken s (t - 1)) (taken-accept z)
-
-    -- ---- refusal 12 and the output: nothing was found, and the output has n words
-    module _ (z : t ≡ 0) {n : ℕ} (m : n ≡ length (listing b)) (out : List ℕ) where
-      -- it was accepted, so it plays
-      plays : Plays b
-      plays = accepted-plays b .0 (sym (none-accept z))
-
-      pub room-says : length out < n → refusalSays (Room n) ≡ translationSays b out
-      room-says h = sym (exactly-12 b out (n ∷ []) .1 (plays, omega arith, ap (λ i. i ∷ []) m))
-
-      pub length-says : n ≤ length out → said 0 (n ∷ []) ≡ translationSays b out
-      length-says h = ap (λ i. said 0 (i ∷ [])) m ∙ sym (written-says b out plays (omega arith))
-
--- ---- the plan is carried out: what it says came of the call
-module _ {b : List ℕ} {room : ℕ} {plan : Plan} (p : Planned b room plan) (out : List ℕ) (e : length out ≡ room) where
-  pub refused-came : {f : Refusal} → plan .answer ≡ Refused f → came (Refused f) out ≡ outcome b out
+-- ---- the survey's findings are carried out: what a translation says came of the call
+module _ {b : List ℕ} {r : Findings} (s : Surveyed b r) (out : List ℕ) {n : ℕ} {a : Answer} (d : n ≡ length out)
+    (e : answerSays a ≡ fitted (readingSays (r .reading)) (r .end) n) where
+  pub refused-came : {f : Refusal} → a ≡ Refused f → came (Refused f) out ≡ outcome b out
   unfolding outcome
-  refused-came {f} k = came-refused (translationSays b out) out (listing b) f (sym (sym (ap answerSays k) ∙ p .says out e))
+  refused-came {f} k = came-refused (translationSays b out) out (listing b) f (sym (sym (ap answerSays k) ∙ e ∙ fitted-says s out d))
 
-  pub written-came : {n r : ℕ} {new : List ℕ} → plan .answer ≡ Written n → Wrote (listing b) out 0 new r → came (Written n) new ≡ outcome b out
+  pub written-came : {i j : ℕ} {new : List ℕ} → a ≡ Written i → Wrote (listing b) out 0 new j → came (Written i) new ≡ outcome b out
   unfolding outcome
-  written-came {n} {new = new} k w =
-      came-written (translationSays b out) out (listing b) new n (sym (sym (ap answerSays k) ∙ p .says out e)) (w .list)
+  written-came {i} {new = new} k w =
+      came-written (translationSays b out) out (listing b) new i (sym (sym (ap answerSays k) ∙ e ∙ fitted-says s out d)) (w .list)

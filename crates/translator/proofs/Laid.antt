@@ -3,11 +3,15 @@ use Prim.Native.Nat.{ℕ, _+_, _≤_, _<_}
 use mathlib.Core.List.{List}
 use mathlib.Core.Path.{_≡_}
 use native.Mathlib.Omega.{arith}
-use Rattle.words.specs.Overlay.{Wrote}
+use Rattle.words.specs.Overlay.{cap, Wrote}
 use Rattle.words.specs.Overlay.Laws.{wrote-then, wrote-none, wrote-as}
 use Rattle.words.specs.Run.{values}
 use Rattle.book.specs.Layout.{parties}
+use Rattle.book.specs.Valid.{Valid}
+use Rattle.book.specs.Headed.Laws.{few-parties}
 use Rattle.translation.specs.Listing.{bodies, partWords}
+use Rattle.translation.specs.Long.{mostPart, mostListing}
+use Rattle.translation.specs.Long.Laws.{bodies-short}
 use Rattle.translator.specs.Parts.{programsTo, bodiesOf}
 use Rattle.translator.specs.Parts.Laws.{bodies-more}
 
@@ -19,6 +23,15 @@ pub record Laid (b : List ℕ) (n q : ℕ) (old : List ℕ) (at : ℕ) (new : Li
 pub bodies-start : {b : List ℕ} {n : ℕ} {old : List ℕ} {at : ℕ} → Laid b n 0 old at old at
 unfolding values bodies
 bodies-start = record { few = omega arith; wrote = wrote-none }
+
+-- the next program is so low that it is counted
+pub bodies-low : {b : List ℕ} {n q : ℕ} {old new : List ℕ} {at next : ℕ} → Valid b → n ≡ parties b → q < n → at ≤ mostListing
+    → Laid b n q old at new next → next + mostPart ≤ cap
+bodies-low {b} {q = q} v e l low h =
+    let short = bodies-short b v q (omega arith) in
+    let few = few-parties b v in
+    let next = h .wrote .next in
+    omega arith
 
 -- one party's program more
 pub bodies-on : {b : List ℕ} {n q : ℕ} {old new later : List ℕ} {at next r : ℕ} → q < n → Laid b n q old at new next

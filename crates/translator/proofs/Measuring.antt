@@ -1,5 +1,5 @@
--- What `write_heads` knows in its loop over the parties: the heads so far, where the last program ends, and the first step found.
--- Assumes nothing.
+-- What `write_heads` knows in its loop over the parties: the heads so far, where the last program ends, the places of the events, and the
+-- first step found. Assumes nothing.
 use Prim.Native.Nat.{ℕ, _+_, _*_, _≤_, _<_}
 use mathlib.Core.List.{List, [], _∷_, _++_}
 use mathlib.Core.Path.{_≡_, refl, sym, ap, ap₂, _∙_}
@@ -12,81 +12,120 @@ use Rattle.book.specs.Layout.{parties, steps}
 use Rattle.translation.specs.Listing.{heads, bodies, partWords}
 use Rattle.translation.specs.Long.{mostPart}
 use Rattle.translation.specs.Long.Laws.{listing-length}
-use Rattle.walking.specs.Found.{FoundBefore}
+use Rattle.book.specs.Valid.{Valid}
+use Rattle.walking.specs.declared.Measured.{Measured}
+use Rattle.walking.specs.Walking.{Measures}
 use Rattle.translator.specs.Among.{FoundAmong}
 use Rattle.translator.specs.Among.Laws.{among-none, among-all, among-stays, among-sooner}
 use Rattle.translator.specs.Parts.{programsTo}
-use Rattle.translator.specs.Survey.{WroteHeads}
+use Rattle.translator.specs.Surveyed.{Lists, WroteHeads}
 use Rattle.translator.specs.Parts.Laws.{length-more, heads-more}
+use Rattle.translator.proofs.Placing.{PartiesNoted, parties-start, parties-on, parties-end}
 
--- of the first q of n parties: while nothing is found, the heads and the length are those of the programs; the numbers fit in any case
-pub record Measuring (b : List ℕ) (n q : ℕ) (old : List ℕ) (at : ℕ) (new : List ℕ) (next end step taken : ℕ) : Type 0 where
+-- of the first q of n parties: while nothing is found, the heads, the length and the places are those of the programs; the numbers fit in
+-- any case
+pub record Measuring (b : List ℕ) (n q : ℕ) (old : List ℕ) (at : ℕ) (new : List ℕ) (next : ℕ) (x y z : List ℕ) (end step taken : ℕ) : Type 0 where
+  pub valid : Valid b
   pub few : q ≤ n
   pub same : length new ≡ length old
   pub low : end ≤ 1 + 2 * parties b + mostPart * q
+  pub lists : Lists x y z
   pub wrote : taken ≡ 0 → Wrote (heads (1 + 2 * parties b) (programsTo b q)) old at new next
   pub ends : taken ≡ 0 → end ≡ 1 + 2 * parties b + length (bodies (programsTo b q))
+  pub placed : taken ≡ 0 → PartiesNoted b q x y z
   pub found : FoundAmong b q step taken
 
 module _ {b : List ℕ} {n : ℕ} (e : n ≡ parties b) where
   -- nothing is written, and nobody was asked: every step is still free
-  pub heads-start : {old : List ℕ} {at end s : ℕ} → end ≡ 1 + 2 * n → s ≡ steps b → Measuring b n 0 old at old at end s 0
+  pub heads-start : {old x y z : List ℕ} {at end s : ℕ} → Valid b → Lists x y z → end ≡ 1 + 2 * n → s ≡ steps b
+      → Measuring b n 0 old at old at x y z end s 0
   unfolding values heads bodies
-  heads-start h d =
+  heads-start v lists h d =
       record {
+        valid = v;
         few = omega arith;
         same = refl;
         low = omega arith;
-        wrote = λ z. wrote-none;
-        ends = λ z. omega arith;
+        lists = lists;
+        wrote = λ u. wrote-none;
+        ends = λ u. omega arith;
+        placed = λ u. parties-start;
         found = rw d among-none;
       }
 
-  -- party q has w words, and its head was written; of the steps before `step` it has the find (s, t)
-  module _ {q : ℕ} {old new later : List ℕ} {at next end step taken w s t f g r : ℕ} (l : q < n)
-      (h : Measuring b n q old at new next end step taken) (k : FoundBefore b q step s t)
-      (d : t ≡ 0 → step ≡ steps b → w ≡ length (partWords b q)) (m : w ≤ mostPart) (i : f ≡ end) (j : g ≡ w)
+  -- party q was measured, and its head and the place of its END were written
+  module _ {q : ℕ} {old new later x y z xAfter yAfter zAfter : List ℕ} {at next end step taken f g i r o : ℕ} {w : Measured} (l : q < n)
+      (h : Measuring b n q old at new next x y z end step taken) (m : Measures b q step x xAfter y yAfter w)
+      (di : i ≡ q) (c : Wrote (w .events ∷ []) z i zAfter o) (df : f ≡ end) (dg : g ≡ w .words)
       (p : Wrote (f ∷ g ∷ []) new next later r) where
-    -- it has none
-    pub heads-on : {x y : ℕ} → t ≡ 0 → x ≡ step → y ≡ taken → Measuring b n (q + 1) old at later r (end + w) x y
-    heads-on {x} {y} z xe ye =
-        let lengths = wrote-length p in
-        let same-so-far = h .same in
-        let low-so-far = h .low in
-        let o = 1 + 2 * parties b in
-        let words : y ≡ 0 → w ≡ length (partWords b q) = λ u. d z (among-all (h .found) (sym ye ∙ u)) in
-        let head : y ≡ 0 → heads o (programsTo b (q + 1)) ≡ heads o (programsTo b q) ++ f ∷ g ∷ [] =
-        λ u. heads-more b q o ∙ ap₂ (λ m k. heads o (programsTo b q) ++ m ∷ k ∷ []) (sym (i ∙ h .ends (sym ye ∙ u))) (sym (j ∙ words u)) in
-        let more = length-more b q in
+    lists-on : Lists xAfter yAfter zAfter
+    lists-on =
         record {
-          few = omega arith;
-          same = omega arith;
-          low = omega arith;
-          wrote = λ u. wrote-as (wrote-then (h .wrote (sym ye ∙ u)) p) (head u);
-          ends = λ u. let a = h .ends (sym ye ∙ u) in let v = words u in omega arith;
-          found = rw (xe, ye) (among-stays (h .found) k z);
+          sends = m .sends-size ∙ h .lists .sends;
+          receives = m .receives-size ∙ h .lists .receives;
+          ends = wrote-length c ∙ h .lists .ends;
         }
 
-    -- it has one, and there is no output
-    pub heads-off : {x y : ℕ} → (t ≡ 0 → ⊥) → x ≡ s → y ≡ t → Measuring b n (q + 1) old at later r (end + w) x y
-    heads-off {x} {y} z xe ye =
+    -- it makes no taken atom
+    pub heads-on : {s t : ℕ} → w .taken ≡ 0 → s ≡ step → t ≡ taken
+        → Measuring b n (q + 1) old at later r xAfter yAfter zAfter (end + w .words) s t
+    heads-on {s} {t} z0 se te =
         let lengths = wrote-length p in
         let same-so-far = h .same in
         let low-so-far = h .low in
+        let few = m .few in
+        let begins = 1 + 2 * parties b in
+        let all : t ≡ 0 → step ≡ steps b = λ u. among-all (h .found) (sym te ∙ u) in
+        let words : t ≡ 0 → w .words ≡ length (partWords b q) = λ u. m .words z0 (all u) in
+        let head : t ≡ 0 → heads begins (programsTo b (q + 1)) ≡ heads begins (programsTo b q) ++ f ∷ g ∷ [] =
+        λ u. heads-more b q begins
+        ∙ ap₂ (λ j k. heads begins (programsTo b q) ++ j ∷ k ∷ []) (sym (df ∙ h .ends (sym te ∙ u))) (sym (dg ∙ words u)) in
+        let more = length-more b q in
         record {
+          valid = h .valid;
           few = omega arith;
           same = omega arith;
           low = omega arith;
-          wrote = λ u. absurd (z (sym ye ∙ u));
-          ends = λ u. absurd (z (sym ye ∙ u));
-          found = rw (xe, ye) (among-sooner (h .found) k z);
+          lists = lists-on;
+          wrote = λ u. wrote-as (wrote-then (h .wrote (sym te ∙ u)) p) (head u);
+          ends = λ u. let so-far = h .ends (sym te ∙ u) in let here = words u in omega arith;
+          placed = λ u. parties-on (h .valid) (omega arith) (h .lists) (h .placed (sym te ∙ u)) (m .noted z0 (all u)) di c;
+          found = rw (se, te) (among-stays (h .found) (m .found) z0);
+        }
+
+    -- it makes one, and there is no output
+    pub heads-off : {s t : ℕ} → (w .taken ≡ 0 → ⊥) → s ≡ w .step → t ≡ w .taken
+        → Measuring b n (q + 1) old at later r xAfter yAfter zAfter (end + w .words) s t
+    heads-off {s} {t} some se te =
+        let lengths = wrote-length p in
+        let same-so-far = h .same in
+        let low-so-far = h .low in
+        let few = m .few in
+        record {
+          valid = h .valid;
+          few = omega arith;
+          same = omega arith;
+          low = omega arith;
+          lists = lists-on;
+          wrote = λ u. absurd (some (sym te ∙ u));
+          ends = λ u. absurd (some (sym te ∙ u));
+          placed = λ u. absurd (some (sym te ∙ u));
+          found = rw (se, te) (among-sooner (h .found) (m .found) some);
         }
 
   -- over all parties
-  pub heads-end : {q : ℕ} {old new : List ℕ} {at next end step taken : ℕ} → n ≤ q → Measuring b n q old at new next end step taken
-      → WroteHeads b old at new next end step taken
+  pub heads-end : {q : ℕ} {old new x y z : List ℕ} {at next end step taken : ℕ} → n ≤ q
+      → Measuring b n q old at new next x y z end step taken
+      → WroteHeads b old at new next x y z end step taken × Lists x y z
   heads-end {q} l h =
       let f = h .few in
-      let z : q ≡ parties b = omega arith in
-      let all = ap (λ k. 1 + 2 * parties b + length (bodies (programsTo b k))) z ∙ sym (listing-length b) in
-      record { wrote = λ u. rw z at (h .wrote u); ends = λ u. h .ends u ∙ all; found = rw z at (h .found) }
+      let all : q ≡ parties b = omega arith in
+      let length-all = ap (λ k. 1 + 2 * parties b + length (bodies (programsTo b k))) all ∙ sym (listing-length b) in (
+        record {
+          wrote = λ u. rw all at (h .wrote u);
+          ends = λ u. h .ends u ∙ length-all;
+          placed = λ u. parties-end (h .valid) (rw all at (h .placed u));
+          found = rw all at (h .found);
+        },
+        h .lists,
+      )

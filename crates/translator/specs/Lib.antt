@@ -1,5 +1,4 @@
 pub mod Among
 pub mod Parts
-pub mod Plan
 pub mod Ready
-pub mod Survey
+pub mod Surveyed

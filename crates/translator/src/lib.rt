@@ -1,6 +1,7 @@
-// The translator. `translate` answers, for any words and any lent words, the first refusal of 1 to 10 and 12 that applies, or
-// leaves the listing; no other lent word changes. `prepare` answers the same for so much room, with what writing takes; `accept` answers
-// refusals 1 to 10, with no buffer.
+// The translator. `survey` tells of any words refusals 1 to 10 and, where there is none, all that one walk through each party's steps
+// leaves: the tables, the listing's heads and length, and where the programs' events stand. `translate` answers, for any words and any
+// lent words, the first refusal of 1 to 10 and 12 that applies, or leaves the listing; no other lent word changes. `fit` is what a
+// translation answers for so much room; `accept` answers refusals 1 to 10, with no buffer.
 use book::ByRow;
 use book::Reading;
 use book::Refusal;
@@ -18,15 +19,16 @@ use words::put_all;
 use words::put2;
 use words::wide;
 ghost use mathlib.Core.Path.{_≡_};
+ghost use Prim.Native.Nat.{_≤_};
 ghost use Rattle.words.specs.Overlay.{Wrote};
 ghost use Rattle.book.specs.Valid.{Valid};
 ghost use Rattle.book.specs.Said.{readingSays};
 ghost use Rattle.translation.specs.Listing.{listing};
-ghost use Rattle.translation.specs.Outcome.{acceptance, outcome, came};
+ghost use Rattle.translation.specs.Long.{mostListing};
+ghost use Rattle.translation.specs.Outcome.{acceptance, outcome, answerSays, came};
 ghost use Rattle.translator.specs.Parts.{HeadsIn, bodiesOf};
-ghost use Rattle.translator.specs.Plan.{Planned};
 ghost use Rattle.translator.specs.Ready.{Ready, Writable};
-ghost use Rattle.translator.specs.Survey.{WroteHeads, Survey};
+ghost use Rattle.translator.specs.Surveyed.{Lists, WroteHeads, Surveyed, fitted};
 
 // Behind the heads: where the next word goes, where the last program ends, and the first step at which a taken atom would be made.
 struct Heads {
@@ -36,27 +38,34 @@ struct Heads {
     taken: u32,
 }
 
-// What is known before anything is written: the heads, where the last program ends, and that step.
-struct Surveyed {
-    heads: [u32; 32],
-    end: usize,
-    step: u32,
-    taken: u32,
-}
-
-// What a translation answers, with what writing the output takes where it is accepted.
-pub struct Plan {
-    pub answer: Answer,
+// What is known of any words before anything is written: refusals 1 to 10 or, where there is none, the tables of claims and of partners,
+// the heads, where the last program ends, and the places of each step's SEND and RECEIVE and of each party's END.
+pub struct Findings {
+    pub reading: Reading,
     pub since: ByRow,
     pub partners: ByRow,
     pub heads: [u32; 32],
+    pub end: usize,
+    pub sends: [u32; 64],
+    pub receives: [u32; 64],
+    pub ends: [u32; 16],
 }
 
-// Offset and count of each party's program; the first begins behind them. Where a party would make a taken atom there is no output, so
-// what is written then says nothing, and the parties that follow are asked about the steps before alone.
-fn write_heads(book: &[u32], since: &ByRow, partners: &ByRow, out: &mut [u32], at: usize) -> Heads
-    requires { ⌜ Ready (now book) (now since) (now partners) ⌝ }
-    ensures { λ r. ⌜ WroteHeads (now (book .entry)) (now (out .entry)) at (now (out .exit)) (r .at) (r .end) (r .step) (r .taken) ⌝ }
+// Offset and count of each party's program; the first begins behind them. The places of its events are noted on the way. Where a party
+// would make a taken atom there is no output, so what is written then says nothing, and the parties that follow are asked about the steps
+// before alone.
+fn write_heads(
+    book: &[u32],
+    since: &ByRow,
+    partners: &ByRow,
+    out: &mut [u32],
+    at: usize,
+    sends: &mut [u32],
+    receives: &mut [u32],
+    ends: &mut [u32],
+) -> Heads
+    requires { ⌜ Ready (now book) (now since) (now partners) × Lists (now sends) (now receives) (now ends) ⌝ }
+    ensures { λ r. ⌜ WroteHeads (now (book .entry)) (now (out .entry)) at (now (out .exit)) (r .at) (now (sends .exit)) (now (receives .exit)) (now (ends .exit)) (r .end) (r .step) (r .taken) × Lists (now (sends .exit)) (now (receives .exit)) (now (ends .exit)) ⌝ }
 {
     let n = parties(book);
     let mut next = at;
@@ -66,7 +75,8 @@ fn write_heads(book: &[u32], since: &ByRow, partners: &ByRow, out: &mut [u32], a
     let mut taken = 0;
     let mut party = 0;
     while party < n {
-        let part = measure(book, since, partners, party, step);
+        let part = measure(book, since, partners, party, step, sends, receives);
+        put(ends, wide(party), part.events);
         next = put2(out, next, narrow(end), narrow(part.words));
         end += part.words;
         if part.taken != 0 {
@@ -85,7 +95,7 @@ fn write_heads(book: &[u32], since: &ByRow, partners: &ByRow, out: &mut [u32], a
 
 // The programs, in party order.
 fn write_bodies(book: &[u32], since: &ByRow, partners: &ByRow, out: &mut [u32], at: usize) -> usize
-    requires { ⌜ Writable (now book) (now since) (now partners) ⌝ }
+    requires { ⌜ Writable (now book) (now since) (now partners) × (at ≤ mostListing) ⌝ }
     ensures { λ r. ⌜ Wrote (bodiesOf (now (book .entry))) (now (out .entry)) at (now (out .exit)) r ⌝ }
 {
     let n = parties(book);
@@ -115,83 +125,85 @@ fn write_listing(
     write_bodies(book, since, partners, out, next)
 }
 
-// The first taken atom or, where there is none, the heads and the output's length, with nothing written to the output.
-fn survey(book: &[u32], since: &ByRow, partners: &ByRow) -> Surveyed
-    requires { ⌜ Ready (now book) (now since) (now partners) ⌝ }
-    ensures { λ r. ⌜ Survey (now (book .entry)) (r .heads) (r .end) (r .step) (r .taken) ⌝ }
-{
-    let mut heads = [0u32; 32];
-    let all = write_heads(book, since, partners, &mut heads, 0);
-    Surveyed {
-        heads,
-        end: all.end,
-        step: all.step,
-        taken: all.taken,
-    }
-}
-
-// Refusals 10 and 12, or the output's length.
-fn prepare_valid(book: &[u32], room: usize) -> Plan
+// Refusal 10 or, where there is none, all that is known before anything is written.
+fn survey_valid(book: &[u32]) -> Findings
     requires { ⌜ Valid (now book) ⌝ }
-    ensures { λ r. ⌜ Planned (now (book .entry)) room r ⌝ }
+    ensures { λ r. ⌜ Surveyed (now (book .entry)) r ⌝ }
 {
     let since = claims(book);
     let partners = partners(book);
-    let all = survey(book, &since, &partners);
-    let heads = all.heads;
+    let mut heads = [0u32; 32];
+    let mut sends = [0u32; 64];
+    let mut receives = [0u32; 64];
+    let mut ends = [0u32; 16];
+    let all = write_heads(
+        book,
+        &since,
+        &partners,
+        &mut heads,
+        0,
+        &mut sends,
+        &mut receives,
+        &mut ends,
+    );
+    let end = all.end;
     if all.taken != 0 {
-        let answer = Answer::Refused(Refusal::Taken(all.step, all.taken - 1));
-        return Plan {
-            answer,
+        let reading = Reading::Refused(Refusal::Taken(all.step, all.taken - 1));
+        return Findings {
+            reading,
             since,
             partners,
             heads,
+            end,
+            sends,
+            receives,
+            ends,
         };
     }
-    if room < all.end {
-        let answer = Answer::Refused(Refusal::Room(all.end));
-        return Plan {
-            answer,
-            since,
-            partners,
-            heads,
-        };
-    }
-    let answer = Answer::Written(all.end);
-    Plan {
-        answer,
+    let reading = Reading::Accepted;
+    Findings {
+        reading,
         since,
         partners,
         heads,
+        end,
+        sends,
+        receives,
+        ends,
     }
 }
 
-// Refusal 10, or acceptance.
-fn accept_valid(book: &[u32]) -> Reading
-    requires { ⌜ Valid (now book) ⌝ }
-    ensures { λ r. ⌜ readingSays r ≡ acceptance (now (book .entry)) ⌝ }
-{
-    let since = claims(book);
-    let partners = partners(book);
-    let all = survey(book, &since, &partners);
-    if all.taken != 0 {
-        return Reading::Refused(Refusal::Taken(all.step, all.taken - 1));
-    }
-    Reading::Accepted
-}
-
-// What a translation of any words answers, where there is room for so many words; the steps are walked once.
-pub fn prepare(book: &[u32], room: usize) -> Plan
-    ensures { λ r. ⌜ Planned (now (book .entry)) room r ⌝ }
+// The survey of any words; each party's steps are walked once.
+pub fn survey(book: &[u32]) -> Findings
+    ensures { λ r. ⌜ Surveyed (now (book .entry)) r ⌝ }
 {
     match read(book) {
-        Reading::Refused(why) => Plan {
-            answer: Answer::Refused(why),
+        Reading::Refused(why) => Findings {
+            reading: Reading::Refused(why),
             since: [0u32; 1024],
             partners: [0u32; 1024],
             heads: [0u32; 32],
+            end: 0,
+            sends: [0u32; 64],
+            receives: [0u32; 64],
+            ends: [0u32; 16],
         },
-        Reading::Accepted => prepare_valid(book, room),
+        Reading::Accepted => survey_valid(book),
+    }
+}
+
+// What a translation answers where there is room for so many words: the book's refusal, refusal 12, or the output's length.
+pub fn fit(reading: Reading, end: usize, room: usize) -> Answer
+    ensures { λ r. ⌜ answerSays r ≡ fitted (readingSays reading) end room ⌝ }
+{
+    match reading {
+        Reading::Refused(why) => Answer::Refused(why),
+        Reading::Accepted => {
+            if room < end {
+                return Answer::Refused(Refusal::Room(end));
+            }
+            Answer::Written(end)
+        }
     }
 }
 
@@ -199,14 +211,15 @@ pub fn prepare(book: &[u32], room: usize) -> Plan
 pub fn translate(book: &[u32], out: &mut [u32]) -> Answer
     ensures { λ r. ⌜ came r (now (out .exit)) ≡ outcome (now (book .entry)) (now (out .entry)) ⌝ }
 {
-    let plan = prepare(book, out.len());
-    let answer = plan.answer;
+    let all = survey(book);
+    let reading = all.reading;
+    let answer = fit(reading, all.end, out.len());
     match answer {
         Answer::Refused(why) => Answer::Refused(why),
         Answer::Written(n) => {
-            let since = plan.since;
-            let partners = plan.partners;
-            let heads = plan.heads;
+            let since = all.since;
+            let partners = all.partners;
+            let heads = all.heads;
             write_listing(book, &since, &partners, &heads, out);
             Answer::Written(n)
         }
@@ -217,8 +230,6 @@ pub fn translate(book: &[u32], out: &mut [u32]) -> Answer
 pub fn accept(book: &[u32]) -> Reading
     ensures { λ r. ⌜ readingSays r ≡ acceptance (now (book .entry)) ⌝ }
 {
-    match read(book) {
-        Reading::Refused(why) => Reading::Refused(why),
-        Reading::Accepted => accept_valid(book),
-    }
+    let all = survey(book);
+    all.reading
 }

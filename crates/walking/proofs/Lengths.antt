@@ -1,28 +1,29 @@
 -- How far the places of a walk get: behind what was written and behind what was stored. Assumes nothing.
-use Prim.Native.Nat.{ℕ, _*_, _≤_}
+use Prim.Native.Nat.{ℕ, _+_, _*_, _≤_}
 use native.Mathlib.Omega.{arith}
 use mathlib.Core.List.{List}
 use mathlib.Core.Path.{_≡_}
 use lib.ListN.{length}
+use Rattle.words.specs.Overlay.{cap}
 use Rattle.book.specs.Layout.{steps}
 use Rattle.book.specs.Headed.Laws.{valid-headed}
 use Rattle.book.specs.Valid.{Valid}
 use Rattle.translation.specs.Listing.{programWords}
 use Rattle.translation.specs.Steps.{before}
-use Rattle.translation.specs.Long.{mostPlaceholders, mostEvents}
+use Rattle.translation.specs.Long.{mostPlaceholders, mostEvents, mostPart}
 use Rattle.translation.specs.Long.Laws.{all-within, pairs-length, stored-few}
 use Rattle.holding.specs.View.{rowOf}
 use Rattle.receiving.specs.declared.Received.{Received}
 use Rattle.walking.specs.declared.Passed.{Passed}
 use Rattle.walking.specs.Walking.{Along, Walking}
 
--- ---- the book is small
--- ---- the places are lengths, counted from 0
+-- ---- the places are lengths
 module _ {b : List ℕ} (v : Valid b) (p : ℕ) {i : ℕ} {log logAfter out outAfter : List ℕ} {x : Received} (h : i ≤ steps b) where
-  pub ends-at : {k : ℕ} → Along b p i k log logAfter 0 out outAfter x → x .at ≡ length (programWords (rowOf b) (before b p i .events))
-  ends-at g = let n = g .wrote .next in let w = all-within b v (rowOf b) p i h .words in omega arith
+  pub ends-at : {a : ℕ} → a + mostPart ≤ cap → Along b p i log logAfter a out outAfter x
+      → x .at ≡ a + length (programWords (rowOf b) (before b p i .events))
+  ends-at l g = let n = g .wrote .next in let w = all-within b v (rowOf b) p i h .words in omega arith
 
-  pub ends-kept : {a : ℕ} → Along b p i 0 log logAfter a out outAfter x → x .dictionary .kept ≡ 2 * length (before b p i .stored)
+  pub ends-kept : {a : ℕ} → Along b p i log logAfter a out outAfter x → x .dictionary .kept ≡ 2 * length (before b p i .stored)
   ends-kept g =
       let n = g .keeps .next in
       let w = all-within b v (rowOf b) p i h .stored in
@@ -34,10 +35,10 @@ pub record FewPlaces (r : Passed) : Type 0 where
   pub words : r .at ≤ mostEvents
   pub kept : r .kept ≤ 2 * mostPlaceholders
 
-pub few-places : {b : List ℕ} {p upto : ℕ} {log logAfter out outAfter : List ℕ} {r : Passed} → Valid b
-    → Walking b p upto 0 log logAfter 0 out outAfter r → FewPlaces r
+pub few-places : {b : List ℕ} {p upto : ℕ} {log logAfter out outAfter x xAfter y yAfter : List ℕ} {r : Passed} → Valid b
+    → Walking b p upto log logAfter 0 out outAfter x xAfter y yAfter r → FewPlaces r
 few-places {b} {p} v g =
-    let e = ends-at v p (g .within) (g .along) in
+    let e = ends-at v p (g .within) (omega arith) (g .along) in
     let k = ends-kept v p (g .within) (g .along) in
     let w = all-within b v (rowOf b) p (g .far) (g .within) in
     let ww = w .words in
@@ -45,8 +46,8 @@ few-places {b} {p} v g =
     record { words = omega arith; kept = omega arith }
 
 -- a log of 2,048 words has room for all pairs
-pub few-pairs : {b : List ℕ} {p upto a : ℕ} {log logAfter out outAfter : List ℕ} {r : Passed} → Valid b
-    → Walking b p upto 0 log logAfter a out outAfter r → r .kept ≤ 2048
+pub few-pairs : {b : List ℕ} {p upto a : ℕ} {log logAfter out outAfter x xAfter y yAfter : List ℕ} {r : Passed} → Valid b
+    → Walking b p upto log logAfter a out outAfter x xAfter y yAfter r → r .kept ≤ 2048
 few-pairs {b} {p} v g =
     let k = ends-kept v p (g .within) (g .along) in
     let s = stored-few b v p (g .far) (g .within) in

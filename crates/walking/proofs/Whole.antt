@@ -17,36 +17,57 @@ use Rattle.receiving.specs.Receiving.{standing}
 use Rattle.walking.specs.declared.Passed.{Passed}
 use Rattle.walking.specs.Walk.{Unrefused}
 use Rattle.walking.specs.Found.Laws.{found-unrefused}
-use Rattle.walking.specs.Walking.{Along, Walking}
+use Rattle.walking.specs.Walking.{Along, Walking, Measures}
+use Rattle.walking.specs.Placed.Laws.{end-place}
 use Rattle.walking.specs.Walking.Laws.{part-words}
-use Rattle.walking.proofs.Lengths.{ends-at, ends-kept, few-pairs}
+use Rattle.walking.proofs.Lengths.{ends-at, ends-kept, few-places, few-pairs}
 
 module _ {b : List ℕ} (v : Valid b) {p : ℕ} (h : p < parties b) where
   -- ---- measured: the words of the events, two of END, and two for each pair
-  pub measured : {upto : ℕ} {log logAfter out outAfter : List ℕ} {r : Passed} → Walking b p upto 0 log logAfter 0 out outAfter r
+  measured-words : {upto : ℕ} {log logAfter out outAfter x xAfter y yAfter : List ℕ} {r : Passed}
+      → Walking b p upto log logAfter 0 out outAfter x xAfter y yAfter r
       → r .taken ≡ 0 → upto ≡ steps b → r .at + 2 + r .kept ≡ length (partWords b p)
-  measured {log = log} {logAfter = logAfter} {out = out} {outAfter = outAfter} {r = r} g z e =
-      let w : Along b p (steps b) 0 log logAfter 0 out outAfter (standing (g .entries) (g .next) (r .kept) (r .at)) = rw (g .whole z e) at (g .along) in
-      let a = ends-at v p (omega arith) w in
+  measured-words {log = log} {logAfter = logAfter} {out = out} {outAfter = outAfter} {r = r} g z e =
+      let w : Along b p (steps b) log logAfter 0 out outAfter (standing (g .entries) (g .next) (r .kept) (r .at)) = rw (g .whole z e) at (g .along) in
+      let a = ends-at v p (omega arith) (omega arith) w in
       let k = ends-kept v p (omega arith) w in
       let l = part-length b p h in
       omega arith
 
+  pub measured : {upto : ℕ} {log logAfter out outAfter x xAfter y yAfter : List ℕ} {r : Passed}
+      → Walking b p upto log logAfter 0 out outAfter x xAfter y yAfter r
+      → Measures b p upto x xAfter y yAfter (record { words = r .at + 2 + r .kept; events = r .events; step = r .step; taken = r .taken })
+  measured {upto} {x = x} {xAfter = xAfter} {y = y} {yAfter = yAfter} {r = r} g =
+      let few = few-places v g in
+      let words = few .words in
+      let kept = few .kept in
+      record {
+        words = measured-words g;
+        few = omega arith;
+        noted = λ z e. record {
+          noted = rw (g .whole z e) at (g .noted);
+          ends = g .events ∙ ap (λ k. length (before b p k .events)) (g .whole z e) ∙ sym (end-place b v p h);
+        };
+        sends-size = g .noted .sends .size;
+        receives-size = g .noted .receives .size;
+        found = g .found;
+      }
+
   -- ---- written: the events, END's first words, and the pairs behind them
   logged : {log logAfter out outAfter : List ℕ} {a : ℕ} {x : Received} → length log ≡ 2048 → x .dictionary .kept ≤ 2048
-      → Along b p (steps b) 0 log logAfter a out outAfter x → take (x .dictionary .kept) logAfter ≡ pairWords (rowOf b) (before b p (steps b) .stored)
+      → Along b p (steps b) log logAfter a out outAfter x → take (x .dictionary .kept) logAfter ≡ pairWords (rowOf b) (before b p (steps b) .stored)
   logged {logAfter = logAfter} l f g =
       let n = pairs-length (rowOf b) (before b p (steps b) .stored) in
       let k = ends-kept v p (omega arith) g in
       ap (λ i. take i logAfter) (k ∙ sym n) ∙ wrote-take (g .keeps) (omega arith)
 
-  pub programmed : {upto : ℕ} {log logAfter out middle between outAfter : List ℕ} {a i m j : ℕ} {r : Passed}
-      → length log ≡ 2048 → upto ≡ steps b → Unrefused b p (steps b) → Walking b p upto 0 log logAfter a out middle r
+  pub programmed : {upto : ℕ} {log logAfter out middle between outAfter x xAfter y yAfter : List ℕ} {a i m j : ℕ} {r : Passed}
+      → length log ≡ 2048 → upto ≡ steps b → Unrefused b p (steps b) → Walking b p upto log logAfter a out middle x xAfter y yAfter r
       → m ≡ r .kept / 2 → Wrote (6 ∷ m ∷ []) middle (r .at) between i
       → Wrote (take (r .kept) logAfter) between i outAfter j → Wrote (partWords b p) out a outAfter j
-  programmed {log = log} {logAfter = logAfter} {out = out} {middle = middle} {a = a} {r = r} l q x g d w f =
-      let t : Along b p (steps b) 0 log logAfter a out middle (standing (g .entries) (g .next) (r .kept) (r .at)) =
-      rw (g .whole (found-unrefused x (rw q at (g .found))) q) at (g .along) in
+  programmed {log = log} {logAfter = logAfter} {out = out} {middle = middle} {a = a} {r = r} l q u g d w f =
+      let t : Along b p (steps b) log logAfter a out middle (standing (g .entries) (g .next) (r .kept) (r .at)) =
+      rw (g .whole (found-unrefused u (rw q at (g .found))) q) at (g .along) in
       let k = ends-kept v p (omega arith) t in
       let pairs : r .kept / 2 ≡ length (before b p (steps b) .stored) = omega arith in
       let parts = wrote-then (t .wrote) (wrote-then (rw (d ∙ pairs) at w) (wrote-as f (sym (logged l (few-pairs v g) t)))) in

@@ -1,3 +1,5 @@
 pub mod Walk
 pub mod Found
+pub mod Placed
+pub mod Noted
 pub mod Walking

@@ -1,6 +1,7 @@
-// A party's way through the steps of a valid book, by the tables of its claims and of its partners. `walk` writes its events up to a step, or to the first at which it would make
-// a taken atom; `measure` counts its program's words and finds that step; `write_program` writes the program of a party that
-// makes no taken atom; `act` and `next_own` are a walk's parts: one step, and the way to the next.
+// A party's way through its own steps of a valid book, by the tables of claims and of partners. There is one walk, and it leaves all that
+// can be asked of a party: its events' words, what it stores, and where its SENDs and RECEIVEs stand. Who wants less lends less: `measure`
+// counts the words and notes the places, `write_program` writes the words. `act` and `next_own` are the walk's parts: one step, and the way
+// to the next.
 use book::ByRow;
 use book::Code;
 use book::rows;
@@ -14,38 +15,39 @@ use receiving::Dictionary;
 use receiving::receive_messages;
 use sending::send;
 use words::narrow;
+use words::put;
 use words::put_all;
 use words::put2;
 use words::put4;
+use words::wide;
 ghost use mathlib.Core.Path.{_≡_};
 ghost use Prim.Native.Nat.{_≤_, _<_};
-ghost use lib.ListN.{length};
 ghost use Rattle.words.specs.Overlay.{Wrote};
-ghost use Rattle.book.specs.Layout.{parties as partiesOf, steps as stepsOf};
+ghost use Rattle.book.specs.Layout.{steps as stepsOf};
 ghost use Rattle.book.specs.Valid.{Valid};
 ghost use Rattle.translation.specs.Listing.{partWords};
-ghost use Rattle.holding.specs.Partners.{Partners};
-ghost use Rattle.claims.specs.Claims.{Claims};
-ghost use Rattle.walking.specs.Walk.{Unrefused, IdleUntil};
-ghost use Rattle.walking.specs.Found.{FoundBefore};
-ghost use Rattle.translation.specs.Long.{mostPart};
 ghost use Rattle.receiving.specs.Receiving.{standing};
-ghost use Rattle.walking.specs.Walking.{ActReady, Acting, WalkReady, Walking};
+ghost use Rattle.walking.specs.Walk.{Unrefused, IdleUntil};
+ghost use Rattle.walking.specs.Noted.{notedBy, NotedStep};
+ghost use Rattle.walking.specs.Walking.{ActReady, Acting, WalkReady, Walking, Measures};
 
-// What a step left: the next placeholder, the places of the next stored pair and of the next word, and one more than the first taken
-// atom that the party would make there (0 if there is none).
+// What a step left: the next placeholder, the places of the next stored pair and of the next word, the events ahead of its SEND or
+// RECEIVE and all its events, and one more than the first taken atom that the party would make there (0 if there is none).
 pub struct Acted {
     pub next: u32,
     pub kept: usize,
     pub at: usize,
+    pub ahead: u32,
+    pub events: u32,
     pub taken: u32,
 }
 
-// What the steps left: the places of the next stored pair and of the next word, and the first step of its own at which the party would
-// make a taken atom.
+// What the steps left: the places of the next stored pair and of the next word, the number of events, and the first step of its own at
+// which the party would make a taken atom.
 pub struct Passed {
     pub kept: usize,
     pub at: usize,
+    pub events: u32,
     pub step: u32,
     pub taken: u32,
 }
@@ -65,7 +67,7 @@ pub fn act(
     at: usize,
 ) -> Acted
     requires { ⌜ ActReady (now book) (now partners) party step (standing (now entries) next kept at) ⌝ }
-    ensures { λ r. ⌜ Acting (now (book .entry)) (now (since .entry)) party step (standing (now (entries .entry)) next kept at) (now (log .entry)) (now (log .exit)) (now (out .entry)) (now (out .exit)) (standing (now (entries .exit)) (r .next) (r .kept) (r .at)) (r .taken) ⌝ }
+    ensures { λ r. ⌜ Acting (now (book .entry)) (now (since .entry)) party step (standing (now (entries .entry)) next kept at) (now (log .entry)) (now (log .exit)) (now (out .entry)) (now (out .exit)) (standing (now (entries .exit)) (r .next) (r .kept) (r .at)) (r .ahead) (r .events) (r .taken) ⌝ }
 {
     let first = step_first(book, step);
     let n = step_count(book, step);
@@ -75,6 +77,8 @@ pub fn act(
             next,
             kept,
             at: sent.at,
+            ahead: sent.made,
+            events: sent.made + 1,
             taken: sent.taken,
         };
     }
@@ -93,10 +97,13 @@ pub fn act(
             out,
             last,
         );
+        let stored = narrow((there.kept - kept) / 2);
         return Acted {
             next: there.next,
             kept: there.kept,
             at: there.at,
+            ahead: 0,
+            events: 1 + (there.next - next) - stored,
             taken: 0,
         };
     }
@@ -104,8 +111,31 @@ pub fn act(
         next,
         kept,
         at,
+        ahead: 0,
+        events: 0,
         taken: 0,
     }
+}
+
+// The place in the party's program of a step that it does, into a list of places by step.
+fn note_own(places: &mut [u32], who: u32, party: u32, step: u32, place: u32)
+    ensures { λ r. ⌜ now (places .exit) ≡ notedBy who party step place (now (places .entry)) ⌝ }
+{
+    if who != party {
+        return;
+    }
+    put(places, wide(step), place);
+}
+
+// A step's place, as its sender's or its receiver's.
+fn note(book: &[u32], party: u32, step: u32, place: u32, sends: &mut [u32], receives: &mut [u32])
+    requires { ⌜ Valid (now book) × (step < stepsOf (now book)) ⌝ }
+    ensures { λ r. ⌜ NotedStep (now (book .entry)) party step place (now (sends .entry)) (now (sends .exit)) (now (receives .entry)) (now (receives .exit)) ⌝ }
+{
+    let sender = step_sender(book, step);
+    let receiver = step_receiver(book, step);
+    note_own(sends, sender, party, step, place);
+    note_own(receives, receiver, party, step, place);
 }
 
 // The first step from `from` on that the party sends or receives, or the number of steps: a party's dictionary is not handed on
@@ -128,25 +158,28 @@ pub fn next_own(book: &[u32], party: u32, from: u32) -> u32
     i
 }
 
-// The steps before `upto`, for one party: its events' words go to `out`, what it stores to `log`. The walk ends with the first step
-// at which the party would make a taken atom, for such a book is refused.
+// The steps before `upto`, for one party: its events' words go to `out`, what it stores to `log`, the places of its SENDs and RECEIVEs to
+// `sends` and `receives`, by step. The walk ends with the first step at which the party would make a taken atom, for such a book is
+// refused.
 pub fn walk(
     book: &[u32],
     since: &ByRow,
     partners: &ByRow,
     party: u32,
     upto: u32,
-    kept: usize,
     log: &mut [u32],
     out: &mut [u32],
     at: usize,
+    sends: &mut [u32],
+    receives: &mut [u32],
 ) -> Passed
-    requires { ⌜ WalkReady (now book) (now since) (now partners) party upto ⌝ }
-    ensures { λ r. ⌜ Walking (now (book .entry)) party upto kept (now (log .entry)) (now (log .exit)) at (now (out .entry)) (now (out .exit)) r ⌝ }
+    requires { ⌜ WalkReady (now book) (now since) (now partners) party upto at ⌝ }
+    ensures { λ r. ⌜ Walking (now (book .entry)) party upto (now (log .entry)) (now (log .exit)) at (now (out .entry)) (now (out .exit)) (now (sends .entry)) (now (sends .exit)) (now (receives .entry)) (now (receives .exit)) r ⌝ }
 {
     let entries = start(book, party);
-    let mut held = Dictionary::new(entries, kept);
+    let mut held = Dictionary::new(entries, 0);
     let mut last = at;
+    let mut events = 0;
     let mut i = next_own(book, party, 0);
     while i < upto {
         let next = held.next;
@@ -164,13 +197,16 @@ pub fn walk(
             out,
             last,
         );
+        note(book, party, i, events + acted.ahead, sends, receives);
         held.next = acted.next;
         held.kept = acted.kept;
         last = acted.at;
+        events += acted.events;
         if acted.taken != 0 {
             return Passed {
                 kept: held.kept,
                 at: last,
+                events,
                 step: i,
                 taken: acted.taken,
             };
@@ -180,23 +216,34 @@ pub fn walk(
     Passed {
         kept: held.kept,
         at: last,
+        events,
         step: upto,
         taken: 0,
     }
 }
 
-// A party's program, measured: how many words it has, and the first step at which the party would make a taken atom.
+// A party's program, measured: how many words it has, how many events before its END, and the first step at which the party would make
+// a taken atom.
 pub struct Measured {
     pub words: usize,
+    pub events: u32,
     pub step: u32,
     pub taken: u32,
 }
 
-// The walk with nothing lent to write to. Steps from `upto` on are not looked at: all are before it, or a smaller one is refused
+// The walk with nothing lent for words. Steps from `upto` on are not looked at: all are before it, or a smaller one is refused
 // already and nobody asks for the words.
-pub fn measure(book: &[u32], since: &ByRow, partners: &ByRow, party: u32, upto: u32) -> Measured
-    requires { ⌜ WalkReady (now book) (now since) (now partners) party upto ⌝ }
-    ensures { λ r. ⌜ (r .taken ≡ 0 → upto ≡ stepsOf (now (book .entry)) → r .words ≡ length (partWords (now (book .entry)) party)) × (r .words ≤ mostPart) × FoundBefore (now (book .entry)) party upto (r .step) (r .taken) ⌝ }
+pub fn measure(
+    book: &[u32],
+    since: &ByRow,
+    partners: &ByRow,
+    party: u32,
+    upto: u32,
+    sends: &mut [u32],
+    receives: &mut [u32],
+) -> Measured
+    requires { ⌜ WalkReady (now book) (now since) (now partners) party upto 0 ⌝ }
+    ensures { λ r. ⌜ Measures (now (book .entry)) party upto (now (sends .entry)) (now (sends .exit)) (now (receives .entry)) (now (receives .exit)) r ⌝ }
 {
     let mut log = [0u32; 1];
     let mut out = [0u32; 1];
@@ -206,13 +253,15 @@ pub fn measure(book: &[u32], since: &ByRow, partners: &ByRow, party: u32, upto: 
         partners,
         party,
         upto,
-        0,
         &mut log[0..0],
         &mut out[0..0],
         0,
+        sends,
+        receives,
     );
     Measured {
         words: passed.at + 2 + passed.kept,
+        events: passed.events,
         step: passed.step,
         taken: passed.taken,
     }
@@ -228,20 +277,23 @@ pub fn write_program(
     out: &mut [u32],
     at: usize,
 ) -> usize
-    requires { ⌜ Valid (now book) × Claims (now book) (now since) × Partners (now book) (now partners) × (party < partiesOf (now book)) × Unrefused (now book) party (stepsOf (now book)) ⌝ }
+    requires { ⌜ WalkReady (now book) (now since) (now partners) party (stepsOf (now book)) at × Unrefused (now book) party (stepsOf (now book)) ⌝ }
     ensures { λ r. ⌜ Wrote (partWords (now (book .entry)) party) (now (out .entry)) at (now (out .exit)) r ⌝ }
 {
     let mut log = [0u32; 2048];
+    let mut places = [0u32; 1];
+    let mut others = [0u32; 1];
     let events = walk(
         book,
         since,
         partners,
         party,
         steps(book),
-        0,
         &mut log,
         out,
         at,
+        &mut places[0..0],
+        &mut others[0..0],
     );
     let stored = events.kept;
     let pairs = put2(out, events.at, Code::END, narrow(stored / 2));

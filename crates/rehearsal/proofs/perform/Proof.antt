@@ -13,17 +13,15 @@ returns c =
     let after-write-counts : tie.After-write-counts = search in
     let after-parties : tie.After-parties = search in
     let after-play : tie.After-play = search in
-    let after-place : tie.After-place = search in
     let start : tie.Start = search in
-    let (plays, named) = start .pre in
-    performed (after-place .place .ensures) plays _ named (after-play .play .ensures)
+    let (plays, placed, named) = start .pre in
+    performed placed plays _ named (after-play .play .ensures)
     (after-parties .parties .ensures) (after-write-counts .write-counts .ensures)
 
 pub perform-spec : {M : Type 1} → statement M
 perform-spec =
     tie.close
     (tie.spec
-    (λ c κs. search needs)  -- place-requires
     (λ c κs. search needs)  -- play-requires
     (λ c κs. search valid-headed)  -- parties-requires
     (λ c κs. omega (arith, few-parties))  -- write-counts-requires

@@ -14,7 +14,7 @@ returns : tie.Need-returns
 returns c =
     let then1 : tie.Then1 = search in
     let start : tie.Start = search in
-    long (start .args .schedule .now) _ (start .pre) (c .narrow .ensures) (then1 .if1 .taken)
+    long (start .args .schedule .now) _ (start .pre .0) (c .narrow .ensures) (then1 .if1 .taken)
 
 -- there is no bad move: all name a party
 module _ (c : tie.Else2) where
@@ -28,6 +28,13 @@ module _ (c : tie.Else2) where
       named (start .args .book .now) (start .args .schedule .now) (after-parties .parties .ensures)
       (after-first-bad .first-bad .ensures) (c .if2 .left)
 
+-- the book plays, and its events stand where the lists say
+perform-requires : tie.Need-perform-requires
+perform-requires c κs =
+    let else2 : tie.Else2 = search in
+    let here : tie.Start = search in
+    (here .pre .0, here .pre .1, names else2)
+
 pub rehearse-accepted-spec : {M : Type 1} → statement M
 rehearse-accepted-spec =
     tie.close
@@ -40,6 +47,6 @@ rehearse-accepted-spec =
     (λ c. search bad)  -- returns-2
     (λ c κs. search needs)  -- wide-requires
     (λ c. let all = names (search) in search short)  -- returns-3
-    (λ c κs. (search needs, names (search)))  -- perform-requires
+    perform-requires
     (λ c. search needs)  -- same-length
     (λ c. let all = names (search) in search told))  -- returns-4

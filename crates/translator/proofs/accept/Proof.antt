@@ -1,17 +1,14 @@
--- `translator::accept` meets its contract: the reader's refusal is given first, and an accepted book is valid.
--- Assumes nothing.
-use Rattle.translator.proofs.Came.{refused-accept, accepted-book}
+-- `translator::accept` meets its contract: it is what the survey says first. Assumes nothing.
 use borrow.Author.Needs.{needs}
 use Rattle.translator.proofs.accept.Statement.{statement}
 use Rattle.translator.proofs.accept.Tie as tie
+
+returns : tie.Need-returns
+returns c = let after-survey : tie.After-survey = search in after-survey .survey .ensures .says
 
 pub accept-spec : {M : Type 1} → statement M
 accept-spec =
     tie.close
     (tie.spec
-    (λ c κs. search needs)  -- read-requires
-    (λ c. search needs)  -- enum-known-why
-    (λ c. search needs)  -- enum-told
-    (λ c κs. search accepted-book)  -- accept-valid-requires
-    (λ c. search refused-accept)  -- returns
-    (λ c. search needs))  -- returns-2
+    (λ c κs. search needs)  -- survey-requires
+    returns)

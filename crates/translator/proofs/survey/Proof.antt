@@ -1,27 +1,33 @@
--- `translator::survey` meets its contract: what `write_heads` laid into the 32 words is read from them.
--- Assumes nothing.
-use mathlib.Core.Path.{refl}
-use Rattle.translator.proofs.Listing.{heads-found}
+-- `translator::survey` meets its contract: the reader's refusal is given first, and an accepted book is valid. Assumes
+-- nothing.
 use borrow.Author.Needs.{needs}
+use Rattle.book.specs.Said.Laws.{refusal-number}
+use Rattle.translator.proofs.Came.{refused-accept, accepted-book}
 use Rattle.translator.proofs.survey.Statement.{statement}
 use Rattle.translator.proofs.survey.Tie as tie
 
--- where nothing is found, the heads are there
+-- the reader refuses
 returns : tie.Need-returns
 returns c =
-    let after-write-heads : tie.After-write-heads = search in
+    let after-why : tie.After-why = search in
+    let after-read : tie.After-read = search in
     let start : tie.Start = search in
-    let laid = after-write-heads .write-heads .ensures in
+    let why = after-why .why .given .0 .0 in
     record {
-      heads = λ none. heads-found (start .pre .valid) refl (laid .wrote none);
-      ends = laid .ends;
-      found = laid .found;
+      says = refused-accept (start .args .book .now) _ why (after-read .read .ensures) (after-why .why .given .1);
+      writable = λ z. absurd (refusal-number why z);
+      heads = λ z. absurd (refusal-number why z);
+      ends = λ z. absurd (refusal-number why z);
+      placed = λ z. absurd (refusal-number why z);
     }
 
 pub survey-spec : {M : Type 1} → statement M
 survey-spec =
     tie.close
     (tie.spec
-    (λ c. search needs)  -- slice-aggregate-write-heads
-    (λ c κs. search needs)  -- write-heads-requires
-    returns)
+    (λ c κs. search needs)  -- read-requires
+    (λ c. search needs)  -- enum-known-why
+    (λ c. search needs)  -- enum-told
+    (λ c κs. search accepted-book)  -- survey-valid-requires
+    returns
+    (λ c. search needs))  -- returns-2

@@ -6,7 +6,7 @@ use borrow.Author.Needs.{needs}
 use Rattle.words.specs.Overlay.Laws.{wrote-length}
 use Rattle.book.specs.Layout.{parties}
 use Rattle.book.specs.Headed.Laws.{valid-headed}
-use Rattle.translator.proofs.Laid.{Laid, bodies-start, bodies-on, bodies-end}
+use Rattle.translator.proofs.Laid.{Laid, bodies-start, bodies-low, bodies-on, bodies-end}
 use Rattle.translator.proofs.write_bodies.Statement.{statement}
 use Rattle.translator.proofs.write_bodies.Tie as tie
 
@@ -19,10 +19,23 @@ abbrev μ-loop : tie.MeasureT-loop
 -- nobody would make a taken atom, so neither would this party
 write-program-requires : tie.Need-write-program-requires Inv-loop μ-loop
 write-program-requires c κs =
+    let in-loop : tie.In-loop Inv-loop μ-loop = search in
     let at-loop : tie.At-loop Inv-loop μ-loop = search in
+    let after-parties : tie.After-parties Inv-loop μ-loop = search in
     let start : tie.Start Inv-loop μ-loop = search in
-    let l : at-loop .loop .party < parties (start .args .book .now) = omega arith in
-    (start .pre .valid, start .pre .claims, start .pre .partners, l, start .pre .nobody _ l)
+    let (writable, low) = start .pre in
+    let l : at-loop .loop .party < parties (start .args .book .now) = omega arith in (
+      record {
+        valid = writable .valid;
+        claims = writable .claims;
+        partners = writable .partners;
+        party = l;
+        within = omega arith;
+        low = bodies-low (writable .valid) (after-parties .parties .ensures) (in-loop .loop-test .taken) low
+            (at-loop .loop .inv);
+      },
+      writable .nobody _ l,
+    )
 
 pub write-bodies-spec : {M : Type 1} → statement M
 write-bodies-spec =

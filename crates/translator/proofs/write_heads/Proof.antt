@@ -6,59 +6,87 @@ use Prim.Native.Nat.{_+_, _-_, _*_}
 use native.Mathlib.Omega.{arith}
 use borrow.Author.Needs.{needs}
 use Rattle.book.specs.Headed.Laws.{valid-headed, few-parties}
-use Rattle.walking.specs.Found.{FoundBefore}
 use Rattle.translator.specs.Among.Laws.{among-within}
 use Rattle.translator.proofs.Measuring.{Measuring, heads-start, heads-on, heads-off, heads-end}
 use Rattle.translator.proofs.write_heads.Statement.{statement}
 use Rattle.translator.proofs.write_heads.Tie as tie
 
 abbrev Inv-loop : tie.InvT-loop
-Inv-loop book since partners out₀ at n next₀ end₀ all step₀ taken₀ party₀ out next end step taken party =
-    Measuring book n party out₀ at out next end step taken
+Inv-loop book since partners out₀ at sends₀ receives₀ ends₀ n next₀ end₀ all step₀ taken₀ party₀ out sends receives ends next end step taken party =
+    Measuring book n party out₀ at out next sends receives ends end step taken
 
 abbrev μ-loop : tie.MeasureT-loop
-μ-loop book since partners out₀ at n next₀ end₀ all step₀ taken₀ party₀ out next end step taken party = n - party
+μ-loop book since partners out₀ at sends₀ receives₀ ends₀ n next₀ end₀ all step₀ taken₀ party₀ out sends receives ends next end step taken party =
+    n - party
+
+-- a place or a need of `write_heads`, by its name
+abbrev in-heads : (tie.InvT-loop → tie.MeasureT-loop → Type 0) → Type 0
+in-heads P = P Inv-loop μ-loop
 
 -- the first program begins behind the number of parties and two words for each
-loop-holds : tie.Need-loop-holds Inv-loop μ-loop
+loop-holds : in-heads tie.Need-loop-holds
 loop-holds c =
-    let after-wide : tie.After-wide Inv-loop μ-loop = search in
-    let after-parties : tie.After-parties Inv-loop μ-loop = search in
+    let after-wide : in-heads tie.After-wide = search in
+    let after-parties : in-heads tie.After-parties = search in
+    let start : in-heads tie.Start = search in
     let begins = ap (λ n. 1 + 2 * n) (after-wide .wide .ensures .0) in
-    heads-start (after-parties .parties .ensures) begins (c .steps .ensures)
+    heads-start (after-parties .parties .ensures) (start .pre .0 .valid) (start .pre .1) begins (c .steps .ensures)
+
+-- what is walked through is lent nothing to write to
+measure-requires : in-heads tie.Need-measure-requires
+measure-requires c κs =
+    let in-loop : in-heads tie.In-loop = search in
+    let at-loop : in-heads tie.At-loop = search in
+    let after-parties : in-heads tie.After-parties = search in
+    let start : in-heads tie.Start = search in
+    let (ready, lists) = start .pre in
+    record {
+      valid = ready .valid;
+      claims = ready .claims;
+      partners = ready .partners;
+      party = omega arith;
+      within = among-within (at-loop .loop .inv .found);
+      low = omega arith;
+    }
 
 -- the party has a find among the steps before the one found so far, or has none
-loop-again : tie.Need-loop-again Inv-loop μ-loop
+loop-again : in-heads tie.Need-loop-again
 loop-again c =
-    let put : tie.After-put2 Inv-loop μ-loop = search in
-    let count : tie.After-narrow2 Inv-loop μ-loop = search in
-    let offset : tie.After-narrow Inv-loop μ-loop = search in
-    let part : tie.After-measure Inv-loop μ-loop = search in
-    let in-loop : tie.In-loop Inv-loop μ-loop = search in
-    let at-loop : tie.At-loop Inv-loop μ-loop = search in
-    let after-parties : tie.After-parties Inv-loop μ-loop = search in
-    let start : tie.Start Inv-loop μ-loop = search in
+    let put : in-heads tie.After-put2 = search in
+    let count : in-heads tie.After-narrow2 = search in
+    let offset : in-heads tie.After-narrow = search in
+    let ended : in-heads tie.After-put = search in
+    let place : in-heads tie.After-wide2 = search in
+    let part : in-heads tie.After-measure = search in
+    let in-loop : in-heads tie.In-loop = search in
+    let at-loop : in-heads tie.At-loop = search in
+    let after-parties : in-heads tie.After-parties = search in
     let all = after-parties .parties .ensures in
     let inside = in-loop .loop-test .taken in
     let so-far = at-loop .loop .inv in
-    let found : FoundBefore (start .args .book .now) (at-loop .loop .party) (at-loop .loop .step)
-    (part .measure .result .step) (part .measure .result .taken) = part .measure .ensures .2 in
-    let words = part .measure .ensures .0 in
-    let low = part .measure .ensures .1 in
+    let measured = part .measure .ensures in
     let head = put .put2 .ensures in
     elim (c .if1 .came) [
-      | inl j ↦ heads-off all inside so-far found words low (offset .narrow .ensures) (count .narrow2 .ensures) head
-          (j .0 .taken) (j .1) (j .2)
-      | inr j ↦ heads-on all inside so-far found words low (offset .narrow .ensures) (count .narrow2 .ensures) head
-          (j .0 .left) (j .1) (j .2)
+      | inl j ↦ heads-off all inside so-far measured (place .wide2 .ensures .0) (ended .put .ensures) (offset .narrow .ensures)
+          (count .narrow2 .ensures) head (j .0 .taken) (j .1) (j .2)
+      | inr j ↦ heads-on all inside so-far measured (place .wide2 .ensures .0) (ended .put .ensures) (offset .narrow .ensures)
+          (count .narrow2 .ensures) head (j .0 .left) (j .1) (j .2)
     ]
 
 -- the loop ends behind the last party
-returns : tie.Need-returns Inv-loop μ-loop
+returns : in-heads tie.Need-returns
 returns c =
-    let at-loop : tie.At-loop Inv-loop μ-loop = search in
-    let after-parties : tie.After-parties Inv-loop μ-loop = search in
+    let at-loop : in-heads tie.At-loop = search in
+    let after-parties : in-heads tie.After-parties = search in
     heads-end (after-parties .parties .ensures) (c .loop-test .left) (at-loop .loop .inv)
+
+-- the lists are as long as they were
+module _ (c : in-heads tie.After-loop) where
+  abbrev start : in-heads tie.Start
+  start = search
+
+  abbrev at-loop : in-heads tie.At-loop
+  at-loop = search
 
 pub write-heads-spec : {M : Type 1} → statement M
 write-heads-spec =
@@ -72,13 +100,18 @@ write-heads-spec =
     (λ c. omega arith)  -- add-end
     (λ c κs. search valid-headed)  -- steps-requires
     loop-holds
-    (λ c κs. search (among-within, needs))  -- measure-requires
+    measure-requires
+    (λ c κs. search needs)  -- wide-requires-2
+    (λ c κs. search needs)  -- put-requires
     (λ c κs. omega (arith, few-parties))  -- narrow-requires
     (λ c κs. omega (arith, few-parties))  -- narrow-requires-2
     (λ c κs. search needs)  -- put2-requires
     (λ c. omega (arith, few-parties))  -- add-end-2
-    (λ c. search needs)  -- add-party
+    (λ c. let in-loop : in-heads tie.In-loop = search in omega (arith, few-parties))  -- add-party
     (λ c. search needs)  -- loop-less
     loop-again
     (λ c. search needs)  -- same-length
+    (λ c. let here = start (search) .pre .1 .sends in let there = at-loop (search) .loop .inv .lists .sends in omega arith)  -- same-length-2
+    (λ c. let here = start (search) .pre .1 .receives in let there = at-loop (search) .loop .inv .lists .receives in omega arith)  -- same-length-3
+    (λ c. let here = start (search) .pre .1 .ends in let there = at-loop (search) .loop .inv .lists .ends in omega arith)  -- same-length-4
     returns)

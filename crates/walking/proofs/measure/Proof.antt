@@ -15,11 +15,8 @@ few c = search few-places
 returns : tie.Need-returns
 returns c =
     let after-walk : tie.After-walk = search in
-    let start : tie.Start = search in (
-      measured (start .pre .valid) (start .pre .party) (after-walk .walk .ensures),
-      omega (arith, few after-walk),
-      after-walk .walk .ensures .found,
-    )
+    let start : tie.Start = search in
+    measured (start .pre .valid) (start .pre .party) (after-walk .walk .ensures)
 
 pub measure-spec : {M : Type 1} → statement M
 measure-spec =
@@ -32,6 +29,8 @@ measure-spec =
     (λ c. search needs)  -- part-out-start
     (λ c. search needs)  -- part-out-end
     (λ c κs. search needs)  -- walk-requires
-    (λ c. omega (arith, few (search)))  -- add-t10
-    (λ c. omega (arith, few (search)))  -- add-t15
+    (λ c. omega (arith, few (search)))  -- add-t13
+    (λ c. omega (arith, few (search)))  -- add-t18
+    (λ c. let after-walk : tie.After-walk = search in after-walk .walk .ensures .noted .sends .size)  -- same-length
+    (λ c. let after-walk : tie.After-walk = search in after-walk .walk .ensures .noted .receives .size)  -- same-length-2
     returns)

@@ -31,8 +31,8 @@ returns c =
     let after-walk : tie.After-walk = search in
     let after-steps : tie.After-steps = search in
     let start : tie.Start = search in
-    let (valid, claims, partners, inside, unrefused) = start .pre in
-    programmed valid inside refl (after-steps .steps .ensures) unrefused
+    let (ready, unrefused) = start .pre in
+    programmed (ready .valid) (ready .party) refl (after-steps .steps .ensures) unrefused
     (after-walk .walk .ensures) (after-narrow .narrow .ensures) (after-put2 .put2 .ensures)
     (after-put-all .put-all .ensures)
 
@@ -42,6 +42,12 @@ write-program-spec =
     (tie.spec
     (λ c κs. search valid-headed)  -- steps-requires
     (λ c. search needs)  -- slice-aggregate-walk
+    (λ c. search needs)  -- sub-walk
+    (λ c. search needs)  -- part-places-start
+    (λ c. search needs)  -- part-places-end
+    (λ c. search needs)  -- sub-walk-2
+    (λ c. search needs)  -- part-others-start
+    (λ c. search needs)  -- part-others-end
     (λ c κs. search needs)  -- walk-requires
     (λ c κs. omega (arith, few (search)))  -- narrow-requires
     (λ c κs. search needs)  -- put2-requires

@@ -20,7 +20,7 @@ use Rattle.receiving.specs.Receiving.{Fits, Led}
 use Rattle.walking.specs.Walking.{actDid, Along}
 
 -- ---- one step more
-module _ (b : List ℕ) (p i : ℕ) {k a : ℕ} {log₀ log out₀ out : List ℕ} {x : Received} (g : Along b p i k log₀ log a out₀ out x) where
+module _ (b : List ℕ) (p i : ℕ) {a : ℕ} {log₀ log out₀ out : List ℕ} {x : Received} (g : Along b p i log₀ log a out₀ out x) where
   -- what the party does in step i, from where it stands, is what it does there
   same-did : actDid b p i x ≡ stepDid b p i (before b p i .dictionary) (length (before b p i .given))
   same-did = let n = g .goes in ap₂ (stepDid b p i) (g .holds) (omega arith)
@@ -38,7 +38,7 @@ module _ (b : List ℕ) (p i : ℕ) {k a : ℕ} {log₀ log out₀ out : List �
       omega arith
 
   pub along-on : {logAfter outAfter : List ℕ} {y : Received} → Led b (actDid b p i x) x log logAfter out outAfter y
-      → Along b p (i + 1) k log₀ logAfter a out₀ outAfter y
+      → Along b p (i + 1) log₀ logAfter a out₀ outAfter y
   along-on w = doing-as (doing-then b _ _ g w) along-more
 
 -- ---- the whole program: the events' words, END's first words, and the pairs

@@ -2,12 +2,13 @@
 use Prim.Native.Nat.{ℕ, _+_, _≤_, _<_}
 use native.Mathlib.Omega.{arith}
 use mathlib.Core.List.{List, map}
-use mathlib.Core.Path.{_≡_, sym, ap, _∙_}
+use mathlib.Core.Path.{_≡_, refl, sym, ap, _∙_}
 use lib.ListN.{length, length-append}
 use Rattle.words.specs.Choice.{pick}
 use Rattle.words.specs.Overlay.Laws.{wrote-length}
 use Rattle.terms.specs.Table.{term}
-use Rattle.book.specs.Layout.{table, steps, known, sender, receiver}
+use Rattle.book.specs.Layout.{table, rows, steps, known, sender, receiver}
+use Rattle.book.specs.Valid.{Valid}
 use Rattle.translation.specs.Dictionary.{start}
 use Rattle.translation.specs.Narration.{narration}
 use Rattle.translation.specs.Taken.{firstTaken}
@@ -28,6 +29,8 @@ use Rattle.walking.specs.Found.Laws.{found-exact, found-here, unrefused-
 use Rattle.walking.specs.Placed.Laws.{send-place, receive-place, few-events}
 use Rattle.walking.specs.Noted.{NotedStep, StepsNoted}
 use Rattle.walking.specs.Noted.Laws.{noted-lengths, noted-start, noted-on, noted-skip}
+use Rattle.walking.specs.Marked.{Marks, Unmarked, Marked}
+use Rattle.walking.specs.Marked.Laws.{marked-none, marked-on, marked-skip}
 use Rattle.walking.specs.Walking.{actDid, ActReady, Acting, WalkReady, Along, Walking}
 use Rattle.walking.specs.Walking.Laws.{along-fits, along-more, along-on}
 use Rattle.walking.proofs.Lengths.{ends-at, ends-kept}
@@ -35,20 +38,24 @@ use Rattle.walking.proofs.Lengths.{ends-at, ends-kept}
 -- party p came through the first i steps, with the place a at the start; it had e events and noted their places, and none of the steps is
 -- refused for it
 pub record Walked (b : List ℕ) (p i : ℕ) (log₀ log : List ℕ) (a : ℕ) (out₀ out : List ℕ) (x : Received) (e : ℕ)
-    (sends₀ sends receives₀ receives : List ℕ) : Type 0 where
+    (sends₀ sends receives₀ receives marks₀ marks : List ℕ) : Type 0 where
   pub within : i ≤ steps b
   pub along : Along b p i log₀ log a out₀ out x
   pub size : length (x .dictionary .entries) ≡ 1024
   pub events : e ≡ length (before b p i .events)
   pub noted : StepsNoted b p i sends₀ sends receives₀ receives
+  pub marked : Marked b p (i + 1) marks
+  pub marks-size : length marks ≡ length marks₀
+  pub few : length marks ≤ rows b
   pub unrefused : Unrefused b p i
 
 -- steps in which the party has no part add nothing
-walked-skip : {b : List ℕ} {p i j a e : ℕ} {log₀ log out₀ out sends₀ sends receives₀ receives : List ℕ} {x : Received}
+walked-skip : {b : List ℕ} {p i j a e : ℕ} {log₀ log out₀ out sends₀ sends receives₀ receives marks₀ marks : List ℕ} {x : Received}
     → IdleUntil b p i j → Along b p i log₀ log a out₀ out x → length (x .dictionary .entries) ≡ 1024 → e ≡ length (before b p i .events)
-    → StepsNoted b p i sends₀ sends receives₀ receives → Unrefused b p i
-    → Walked b p j log₀ log a out₀ out x e sends₀ sends receives₀ receives
-walked-skip {b} {p} w g l d n u =
+    → StepsNoted b p i sends₀ sends receives₀ receives → Marked b p (i + 1) marks → length marks ≡ length marks₀
+    → length marks ≤ rows b → Unrefused b p i
+    → Walked b p j log₀ log a out₀ out x e sends₀ sends receives₀ receives marks₀ marks
+walked-skip {b} {p} w g l d n m z f u =
     let same = before-skip b p w in
     record {
       within = w .within;
@@ -56,19 +63,25 @@ walked-skip {b} {p} w g l d n u =
       size = l;
       events = d ∙ ap (λ (k : Did). length (k .events)) (sym same);
       noted = noted-skip n w;
+      marked = marked-skip w m;
+      marks-size = z;
+      few = f;
       unrefused = unrefused-skip w u;
     }
 
 -- ---- at the start the party holds what it knows, and has had no event
-pub walked-start : {b : List ℕ} {p i a : ℕ} {log out e sends receives : List ℕ} {d : Dictionary}
+pub walked-start : {b : List ℕ} {p i a : ℕ} {log out e sends receives marks₀ marks : List ℕ} {d : Dictionary} → Valid b
     → length e ≡ 1024 → view b e ≡ start (map (term (table b)) (known b p)) → (d .entries ≡ e) × (d .next ≡ 0) × (d .kept ≡ 0)
-    → IdleUntil b p 0 i → Walked b p i log log a out out (record { dictionary = d; at = a }) 0 sends sends receives receives
-walked-start {b} {p} {e = e} l h w idle =
+    → Unmarked b marks₀ → Marks e 0 marks₀ marks → IdleUntil b p 0 i
+    → Walked b p i log log a out out (record { dictionary = d; at = a }) 0 sends sends receives receives marks marks
+walked-start {b} {p} {e = e} v l h w fresh m idle =
     walked-skip idle (rw (w .0, w .1, w .2) (doing-as (rw (← h) (doing-none {b = b} {x = e})) (before-none b p))) (ap length (w .0) ∙ l)
-    (sym (ap (λ (k : Did). length (k .events)) (before-none b p))) noted-start (λ k l. absurd (omega arith))
+    (sym (ap (λ (k : Did). length (k .events)) (before-none b p))) noted-start
+    (marked-on v (fresh .few) (omega arith) (h ∙ sym (ap (λ (k : Did). k .dictionary) (before-none b p))) (marked-none fresh) m) refl
+    (let size = m .size in let few = fresh .few in omega arith) (λ k l. absurd (omega arith))
 
-module _ {b l ps : List ℕ} {p upto i a e : ℕ} {log₀ log out₀ out sends₀ sends receives₀ receives : List ℕ} {x : Received}
-    (ready : WalkReady b l ps p upto a) (h : i < upto) (g : Walked b p i log₀ log a out₀ out x e sends₀ sends receives₀ receives) where
+module _ {b l ps : List ℕ} {p upto i a e : ℕ} {log₀ log out₀ out sends₀ sends receives₀ receives marks₀ marks : List ℕ} {x : Received}
+    (ready : WalkReady b l ps p upto a) (h : i < upto) (g : Walked b p i log₀ log a out₀ out x e sends₀ sends receives₀ receives marks₀ marks) where
   pub in-book : i < steps b
   in-book = let u = ready .within in omega arith
 
@@ -128,14 +141,19 @@ module _ {b l ps : List ℕ} {p upto i a e : ℕ} {log₀ log out₀ out sends�
     exact : t ≡ pick (refusedFor b p i) (firstTaken (narration b) i + 1) 0
     exact = w .found ∙ found-exact b i in-book l p _ (ready .claims) (ready .party) (g .along .holds)
 
-    module _ {sendsAfter receivesAfter : List ℕ} (n : NotedStep b p i (e + ahead) sends sendsAfter receives receivesAfter) where
+    module _ {sendsAfter receivesAfter marksAfter : List ℕ} (n : NotedStep b p i (e + ahead) sends sendsAfter receives receivesAfter)
+        (m : Marks (y .dictionary .entries) (i + 1) marks marksAfter) where
+      marked : Marked b p (i + 1 + 1) marksAfter
+      marked = let j = in-book in marked-on (ready .valid) (g .few) (omega arith) (further .holds) (g .marked) m
+
       noted : StepsNoted b p (i + 1) sends₀ sendsAfter receives₀ receivesAfter
       noted = noted-on (g .noted) n send-there receive-there
 
       -- ---- a step at which something was found is the last
-      pub walked-stops : (t ≡ 0 → ⊥) → Walking b p upto log₀ logAfter a out₀ outAfter sends₀ sendsAfter receives₀ receivesAfter
+      pub walked-stops : {before : List ℕ} → length marksAfter ≡ length before → (t ≡ 0 → ⊥)
+          → Walking b p upto log₀ logAfter a out₀ outAfter sends₀ sendsAfter receives₀ receivesAfter before marksAfter
           (record { kept = y .dictionary .kept; at = y .at; events = e + more; step = i; taken = t })
-      walked-stops z =
+      walked-stops same z =
           let j = in-book in
           record {
             far = i + 1;
@@ -145,18 +163,21 @@ module _ {b l ps : List ℕ} {p upto i a e : ℕ} {log₀ log out₀ out sends�
             along = further;
             events = counted;
             noted = noted;
+            marked = marked;
+            marks-size = same;
             found = found-here b p i t exact h (g .unrefused) z;
             whole = λ q m. absurd (z q);
           }
 
       -- ---- else the walk goes on to the party's next step
       pub walked-on : {j : ℕ} → t ≡ 0 → IdleUntil b p (i + 1) j
-          → Walked b p j log₀ logAfter a out₀ outAfter y (e + more) sends₀ sendsAfter receives₀ receivesAfter
-      walked-on z idle = walked-skip idle further (w .size) counted noted (unrefused-on b p i t exact (g .unrefused) z)
+          → Walked b p j log₀ logAfter a out₀ outAfter y (e + more) sends₀ sendsAfter receives₀ receivesAfter marks₀ marksAfter
+      walked-on z idle = walked-skip idle further (w .size) counted noted marked (m .size ∙ g .marks-size)
+          (let size = m .size in let few = g .few in omega arith) (unrefused-on b p i t exact (g .unrefused) z)
 
 -- ---- what was lent keeps its length
-module _ {b l : List ℕ} {p i a e : ℕ} {log₀ log logAfter out₀ out outAfter sends₀ sends receives₀ receives : List ℕ} {x y : Received}
-    {ahead more t : ℕ} (g : Walked b p i log₀ log a out₀ out x e sends₀ sends receives₀ receives)
+module _ {b l : List ℕ} {p i a e : ℕ} {log₀ log logAfter out₀ out outAfter sends₀ sends receives₀ receives marks₀ marks : List ℕ} {x y : Received}
+    {ahead more t : ℕ} (g : Walked b p i log₀ log a out₀ out x e sends₀ sends receives₀ receives marks₀ marks)
     (w : Acting b l p i x log logAfter out outAfter y ahead more t) where
   pub acted-log : length logAfter ≡ length log₀
   acted-log = wrote-length (w .doing .keeps) ∙ wrote-length (g .along .keeps)
@@ -164,8 +185,8 @@ module _ {b l : List ℕ} {p i a e : ℕ} {log₀ log logAfter out₀ out outAft
   pub acted-out : length outAfter ≡ length out₀
   acted-out = wrote-length (w .doing .wrote) ∙ wrote-length (g .along .wrote)
 
-module _ {b : List ℕ} {p i a e : ℕ} {log₀ log out₀ out sends₀ sends sendsAfter receives₀ receives receivesAfter : List ℕ} {x : Received} {k : ℕ}
-    (g : Walked b p i log₀ log a out₀ out x e sends₀ sends receives₀ receives)
+module _ {b : List ℕ} {p i a e : ℕ} {log₀ log out₀ out sends₀ sends sendsAfter receives₀ receives receivesAfter marks₀ marks : List ℕ} {x : Received} {k : ℕ}
+    (g : Walked b p i log₀ log a out₀ out x e sends₀ sends receives₀ receives marks₀ marks)
     (n : NotedStep b p i k sends sendsAfter receives receivesAfter) where
   pub noted-sends : length sendsAfter ≡ length sends₀
   noted-sends = noted-lengths n .0 ∙ g .noted .sends .size
@@ -174,11 +195,11 @@ module _ {b : List ℕ} {p i a e : ℕ} {log₀ log out₀ out sends₀ sends se
   noted-receives = noted-lengths n .1 ∙ g .noted .receives .size
 
 -- ---- nothing was found
-pub walked-ends : {b : List ℕ} {p upto i a e : ℕ} {log₀ log out₀ out sends₀ sends receives₀ receives : List ℕ} {x : Received}
-    → Walked b p i log₀ log a out₀ out x e sends₀ sends receives₀ receives → upto ≤ i
-    → Walking b p upto log₀ log a out₀ out sends₀ sends receives₀ receives
+pub walked-ends : {b : List ℕ} {p upto i a e : ℕ} {log₀ log out₀ out sends₀ sends receives₀ receives marks₀ marks : List ℕ} {x : Received}
+    → Walked b p i log₀ log a out₀ out x e sends₀ sends receives₀ receives marks₀ marks → {before : List ℕ} → length marks ≡ length before
+    → upto ≤ i → Walking b p upto log₀ log a out₀ out sends₀ sends receives₀ receives before marks
     (record { kept = x .dictionary .kept; at = x .at; events = e; step = upto; taken = 0 })
-walked-ends {i = i} {x = x} g h =
+walked-ends {i = i} {x = x} g same h =
     record {
       far = i;
       within = g .within;
@@ -187,6 +208,8 @@ walked-ends {i = i} {x = x} g h =
       along = g .along;
       events = g .events;
       noted = g .noted;
+      marked = g .marked;
+      marks-size = same;
       found = FoundBefore.none (λ k l. g .unrefused k (omega arith));
       whole = λ q z. let m = g .within in omega arith;
     }

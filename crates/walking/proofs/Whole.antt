@@ -17,6 +17,7 @@ use Rattle.receiving.specs.Receiving.{standing}
 use Rattle.walking.specs.declared.Passed.{Passed}
 use Rattle.walking.specs.Walk.{Unrefused}
 use Rattle.walking.specs.Found.Laws.{found-unrefused}
+use Rattle.walking.specs.Marked.{Marked}
 use Rattle.walking.specs.Walking.{Along, Walking, Measures}
 use Rattle.walking.specs.Placed.Laws.{end-place}
 use Rattle.walking.specs.Walking.Laws.{part-words}
@@ -24,8 +25,8 @@ use Rattle.walking.proofs.Lengths.{ends-at, ends-kept, few-places, few-
 
 module _ {b : List ℕ} (v : Valid b) {p : ℕ} (h : p < parties b) where
   -- ---- measured: the words of the events, two of END, and two for each pair
-  measured-words : {upto : ℕ} {log logAfter out outAfter x xAfter y yAfter : List ℕ} {r : Passed}
-      → Walking b p upto log logAfter 0 out outAfter x xAfter y yAfter r
+  measured-words : {upto : ℕ} {log logAfter out outAfter x xAfter y yAfter z zAfter : List ℕ} {r : Passed}
+      → Walking b p upto log logAfter 0 out outAfter x xAfter y yAfter z zAfter r
       → r .taken ≡ 0 → upto ≡ steps b → r .at + 2 + r .kept ≡ length (partWords b p)
   measured-words {log = log} {logAfter = logAfter} {out = out} {outAfter = outAfter} {r = r} g z e =
       let w : Along b p (steps b) log logAfter 0 out outAfter (standing (g .entries) (g .next) (r .kept) (r .at)) = rw (g .whole z e) at (g .along) in
@@ -34,8 +35,8 @@ module _ {b : List ℕ} (v : Valid b) {p : ℕ} (h : p < parties b) where
       let l = part-length b p h in
       omega arith
 
-  pub measured : {upto : ℕ} {log logAfter out outAfter x xAfter y yAfter : List ℕ} {r : Passed}
-      → Walking b p upto log logAfter 0 out outAfter x xAfter y yAfter r
+  pub measured : {upto : ℕ} {log logAfter out outAfter x xAfter y yAfter z zAfter : List ℕ} {r : Passed}
+      → Walking b p upto log logAfter 0 out outAfter x xAfter y yAfter z zAfter r
       → Measures b p upto x xAfter y yAfter (record { words = r .at + 2 + r .kept; events = r .events; step = r .step; taken = r .taken })
   measured {upto} {x = x} {xAfter = xAfter} {y = y} {yAfter = yAfter} {r = r} g =
       let few = few-places v g in
@@ -61,8 +62,8 @@ module _ {b : List ℕ} (v : Valid b) {p : ℕ} (h : p < parties b) where
       let k = ends-kept v p (omega arith) g in
       ap (λ i. take i logAfter) (k ∙ sym n) ∙ wrote-take (g .keeps) (omega arith)
 
-  pub programmed : {upto : ℕ} {log logAfter out middle between outAfter x xAfter y yAfter : List ℕ} {a i m j : ℕ} {r : Passed}
-      → length log ≡ 2048 → upto ≡ steps b → Unrefused b p (steps b) → Walking b p upto log logAfter a out middle x xAfter y yAfter r
+  pub programmed : {upto : ℕ} {log logAfter out middle between outAfter x xAfter y yAfter z zAfter : List ℕ} {a i m j : ℕ} {r : Passed}
+      → length log ≡ 2048 → upto ≡ steps b → Unrefused b p (steps b) → Walking b p upto log logAfter a out middle x xAfter y yAfter z zAfter r
       → m ≡ r .kept / 2 → Wrote (6 ∷ m ∷ []) middle (r .at) between i
       → Wrote (take (r .kept) logAfter) between i outAfter j → Wrote (partWords b p) out a outAfter j
   programmed {log = log} {logAfter = logAfter} {out = out} {middle = middle} {a = a} {r = r} l q u g d w f =
@@ -72,3 +73,11 @@ module _ {b : List ℕ} (v : Valid b) {p : ℕ} (h : p < parties b) where
       let pairs : r .kept / 2 ≡ length (before b p (steps b) .stored) = omega arith in
       let parts = wrote-then (t .wrote) (wrote-then (rw (d ∙ pairs) at w) (wrote-as f (sym (logged l (few-pairs v g) t)))) in
       wrote-as parts (part-words b p h)
+
+-- ---- marked: after each of all steps
+pub marked-whole : {b : List ℕ} {p upto a : ℕ} {log logAfter out outAfter x xAfter y yAfter z zAfter : List ℕ} {r : Passed}
+    → upto ≡ steps b → Unrefused b p (steps b) → Walking b p upto log logAfter a out outAfter x xAfter y yAfter z zAfter r
+    → Marked b p (steps b + 1) zAfter
+marked-whole {b} {p} {zAfter = zAfter} q u g =
+    let all = g .whole (found-unrefused u (rw q at (g .found))) q in
+    rw all at (g .marked)

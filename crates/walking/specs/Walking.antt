@@ -20,6 +20,7 @@ use Rattle.walking.specs.declared.Passed.{Passed}
 use Rattle.walking.specs.declared.Measured.{Measured}
 use Rattle.walking.specs.Found.{foundAt, FoundBefore}
 use Rattle.walking.specs.Noted.{StepsNoted, PartyNoted}
+use Rattle.walking.specs.Marked.{Marked}
 pub mod Laws
 
 -- ---- one step
@@ -65,17 +66,20 @@ Along b p i log logAfter a out outAfter y =
     Doing b (before b p i) 0 0 log logAfter a out outAfter (y .dictionary .entries) (y .dictionary .next) (y .dictionary .kept) (y .at)
 
 -- party p's walk through the steps before `upto`: the steps that it came through, at most all of them, and what it found. x and y are the
--- lists of SENDs and RECEIVEs. Where it looked at all steps and found nothing, it came through all.
-pub record Walking (b : List ℕ) (p upto : ℕ) (log logAfter : List ℕ) (a : ℕ) (out outAfter x xAfter y yAfter : List ℕ) (r : Passed) : Type 0 where
-  pub far : ℕ
-  pub within : far ≤ steps b
-  pub entries : List ℕ
-  pub next : ℕ
-  pub along : Along b p far log logAfter a out outAfter (standing entries next (r .kept) (r .at))
-  pub events : r .events ≡ length (before b p far .events)
-  pub noted : StepsNoted b p far x xAfter y yAfter
-  pub found : FoundBefore b p upto (r .step) (r .taken)
-  pub whole : r .taken ≡ 0 → upto ≡ steps b → far ≡ steps b
+-- lists of SENDs and RECEIVEs, m that of marks. Where it looked at all steps and found nothing, it came through all.
+pub record Walking (b : List ℕ) (p upto : ℕ) (log logAfter : List ℕ) (a : ℕ) (out outAfter x xAfter y yAfter m mAfter : List ℕ) (r : Passed) : Type 0
+  where
+    pub far : ℕ
+    pub within : far ≤ steps b
+    pub entries : List ℕ
+    pub next : ℕ
+    pub along : Along b p far log logAfter a out outAfter (standing entries next (r .kept) (r .at))
+    pub events : r .events ≡ length (before b p far .events)
+    pub noted : StepsNoted b p far x xAfter y yAfter
+    pub marked : Marked b p (far + 1) mAfter
+    pub marks-size : length mAfter ≡ length m
+    pub found : FoundBefore b p upto (r .step) (r .taken)
+    pub whole : r .taken ≡ 0 → upto ≡ steps b → far ≡ steps b
 
 -- and what is measured so: of a walk that looked at all steps and found nothing, the program's words and the places of its events
 pub record Measures (b : List ℕ) (p upto : ℕ) (x xAfter y yAfter : List ℕ) (r : Measured) : Type 0 where

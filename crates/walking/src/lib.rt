@@ -1,7 +1,7 @@
 // A party's way through its own steps of a valid book, by the tables of claims and of partners. There is one walk, and it leaves all that
-// can be asked of a party: its events' words, what it stores, and where its SENDs and RECEIVEs stand. Who wants less lends less: `measure`
-// counts the words and notes the places, `write_program` writes the words. `act` and `next_own` are the walk's parts: one step, and the way
-// to the next.
+// can be asked of a party: its events' words, what it stores, where its SENDs and RECEIVEs stand, and since when it holds each row. Who
+// wants less lends less: `measure` counts the words and notes the places, `write_program` writes the words, `since_when` marks the rows.
+// `act` and `next_own` are the walk's parts: one step, and the way to the next.
 use book::ByRow;
 use book::Code;
 use book::rows;
@@ -21,7 +21,8 @@ use words::put2;
 use words::put4;
 use words::wide;
 ghost use mathlib.Core.Path.{_≡_};
-ghost use Prim.Native.Nat.{_≤_, _<_};
+ghost use Prim.Native.Nat.{_+_, _≤_, _<_};
+ghost use lib.ListN.{length};
 ghost use Rattle.words.specs.Overlay.{Wrote};
 ghost use Rattle.book.specs.Layout.{steps as stepsOf};
 ghost use Rattle.book.specs.Valid.{Valid};
@@ -29,6 +30,7 @@ ghost use Rattle.translation.specs.Listing.{partWords};
 ghost use Rattle.receiving.specs.Receiving.{standing};
 ghost use Rattle.walking.specs.Walk.{Unrefused, IdleUntil};
 ghost use Rattle.walking.specs.Noted.{notedBy, NotedStep};
+ghost use Rattle.walking.specs.Marked.{markOf, Marks, Unmarked, Marked};
 ghost use Rattle.walking.specs.Walking.{ActReady, Acting, WalkReady, Walking, Measures};
 
 // What a step left: the next placeholder, the places of the next stored pair and of the next word, the events ahead of its SEND or
@@ -158,9 +160,34 @@ pub fn next_own(book: &[u32], party: u32, from: u32) -> u32
     i
 }
 
+// A row's mark, where `word` marks what is held: the smaller of the two.
+fn sooner(entry: u32, word: u32, mark: u32) -> u32
+    ensures { λ r. ⌜ r ≡ markOf entry word mark ⌝ }
+{
+    if entry == 0 {
+        return mark;
+    }
+    if word < mark {
+        return word;
+    }
+    mark
+}
+
+// Marks each row that is held.
+fn mark(entries: &ByRow, word: u32, marks: &mut [u32])
+    requires { ⌜ length (now marks) ≤ 1024 ⌝ }
+    ensures { λ r. ⌜ Marks (now (entries .entry)) word (now (marks .entry)) (now (marks .exit)) ⌝ }
+{
+    let mut row = 0;
+    while row < marks.len() {
+        marks[row] = sooner(entries[row], word, marks[row]);
+        row += 1;
+    }
+}
+
 // The steps before `upto`, for one party: its events' words go to `out`, what it stores to `log`, the places of its SENDs and RECEIVEs to
-// `sends` and `receives`, by step. The walk ends with the first step at which the party would make a taken atom, for such a book is
-// refused.
+// `sends` and `receives`, by step, and since when it holds each row to `marks`, which has one more than all steps everywhere before. The
+// walk ends with the first step at which the party would make a taken atom, for such a book is refused.
 pub fn walk(
     book: &[u32],
     since: &ByRow,
@@ -172,12 +199,14 @@ pub fn walk(
     at: usize,
     sends: &mut [u32],
     receives: &mut [u32],
+    marks: &mut [u32],
 ) -> Passed
-    requires { ⌜ WalkReady (now book) (now since) (now partners) party upto at ⌝ }
-    ensures { λ r. ⌜ Walking (now (book .entry)) party upto (now (log .entry)) (now (log .exit)) at (now (out .entry)) (now (out .exit)) (now (sends .entry)) (now (sends .exit)) (now (receives .entry)) (now (receives .exit)) r ⌝ }
+    requires { ⌜ WalkReady (now book) (now since) (now partners) party upto at × Unmarked (now book) (now marks) ⌝ }
+    ensures { λ r. ⌜ Walking (now (book .entry)) party upto (now (log .entry)) (now (log .exit)) at (now (out .entry)) (now (out .exit)) (now (sends .entry)) (now (sends .exit)) (now (receives .entry)) (now (receives .exit)) (now (marks .entry)) (now (marks .exit)) r ⌝ }
 {
     let entries = start(book, party);
     let mut held = Dictionary::new(entries, 0);
+    mark(&entries, 0, marks);
     let mut last = at;
     let mut events = 0;
     let mut i = next_own(book, party, 0);
@@ -198,6 +227,7 @@ pub fn walk(
             last,
         );
         note(book, party, i, events + acted.ahead, sends, receives);
+        mark(&held.entries, i + 1, marks);
         held.next = acted.next;
         held.kept = acted.kept;
         last = acted.at;
@@ -247,6 +277,7 @@ pub fn measure(
 {
     let mut log = [0u32; 1];
     let mut out = [0u32; 1];
+    let mut marks = [0u32; 1];
     let passed = walk(
         book,
         since,
@@ -258,6 +289,7 @@ pub fn measure(
         0,
         sends,
         receives,
+        &mut marks[0..0],
     );
     Measured {
         words: passed.at + 2 + passed.kept,
@@ -281,8 +313,9 @@ pub fn write_program(
     ensures { λ r. ⌜ Wrote (partWords (now (book .entry)) party) (now (out .entry)) at (now (out .exit)) r ⌝ }
 {
     let mut log = [0u32; 2048];
-    let mut places = [0u32; 1];
-    let mut others = [0u32; 1];
+    let mut sends = [0u32; 1];
+    let mut receives = [0u32; 1];
+    let mut marks = [0u32; 1];
     let events = walk(
         book,
         since,
@@ -292,10 +325,35 @@ pub fn write_program(
         &mut log,
         out,
         at,
-        &mut places[0..0],
-        &mut others[0..0],
+        &mut sends[0..0],
+        &mut receives[0..0],
+        &mut marks[0..0],
     );
     let stored = events.kept;
     let pairs = put2(out, events.at, Code::END, narrow(stored / 2));
     put_all(out, pairs, &log, stored)
+}
+
+// Since when a party that makes no taken atom holds each row: the number of steps after which it is first held, or one more than all.
+pub fn since_when(book: &[u32], since: &ByRow, partners: &ByRow, party: u32, marks: &mut [u32])
+    requires { ⌜ WalkReady (now book) (now since) (now partners) party (stepsOf (now book)) 0 × Unrefused (now book) party (stepsOf (now book)) × Unmarked (now book) (now marks) ⌝ }
+    ensures { λ r. ⌜ Marked (now (book .entry)) party (stepsOf (now (book .entry)) + 1) (now (marks .exit)) × (length (now (marks .exit)) ≡ length (now (marks .entry))) ⌝ }
+{
+    let mut log = [0u32; 1];
+    let mut out = [0u32; 1];
+    let mut sends = [0u32; 1];
+    let mut receives = [0u32; 1];
+    walk(
+        book,
+        since,
+        partners,
+        party,
+        steps(book),
+        &mut log[0..0],
+        &mut out[0..0],
+        0,
+        &mut sends[0..0],
+        &mut receives[0..0],
+        marks,
+    );
 }

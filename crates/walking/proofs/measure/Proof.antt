@@ -2,6 +2,7 @@
 -- Assumes nothing.
 use native.Mathlib.Omega.{arith}
 use borrow.Author.Needs.{needs}
+use Rattle.walking.specs.Marked.Laws.{unmarked-none}
 use Rattle.walking.proofs.Lengths.{FewPlaces, few-places}
 use Rattle.walking.proofs.Whole.{measured}
 use Rattle.walking.proofs.measure.Statement.{statement}
@@ -28,9 +29,12 @@ measure-spec =
     (λ c. search needs)  -- sub-walk-2
     (λ c. search needs)  -- part-out-start
     (λ c. search needs)  -- part-out-end
-    (λ c κs. search needs)  -- walk-requires
-    (λ c. omega (arith, few (search)))  -- add-t13
-    (λ c. omega (arith, few (search)))  -- add-t18
+    (λ c. search needs)  -- sub-walk-3
+    (λ c. search needs)  -- part-marks-start
+    (λ c. search needs)  -- part-marks-end
+    (λ c κs. search (unmarked-none, needs))  -- walk-requires
+    (λ c. omega (arith, few (search)))  -- add-t14
+    (λ c. omega (arith, few (search)))  -- add-t28
     (λ c. let after-walk : tie.After-walk = search in after-walk .walk .ensures .noted .sends .size)  -- same-length
     (λ c. let after-walk : tie.After-walk = search in after-walk .walk .ensures .noted .receives .size)  -- same-length-2
     returns)

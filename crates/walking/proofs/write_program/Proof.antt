@@ -6,10 +6,18 @@ use native.Mathlib.Omega.{arith}
 use borrow.Author.Needs.{needs}
 use Rattle.words.specs.Overlay.Laws.{wrote-length}
 use Rattle.book.specs.Headed.Laws.{valid-headed}
+use Rattle.walking.specs.Marked.Laws.{unmarked-none}
 use Rattle.walking.proofs.Lengths.{few-pairs}
 use Rattle.walking.proofs.Whole.{programmed}
 use Rattle.walking.proofs.write_program.Statement.{statement}
 use Rattle.walking.proofs.write_program.Tie as tie
+
+-- the steps are the book's
+walk-requires : tie.Need-walk-requires
+walk-requires c κs =
+    let after-steps : tie.After-steps = search in
+    let start : tie.Start = search in
+    (rw (after-steps .steps .ensures) (start .pre .0), unmarked-none)
 
 -- the pairs are few, wherever the walk has ended
 few : (c : tie.After-walk) → c .walk .result .kept ≤ 2048
@@ -43,12 +51,15 @@ write-program-spec =
     (λ c κs. search valid-headed)  -- steps-requires
     (λ c. search needs)  -- slice-aggregate-walk
     (λ c. search needs)  -- sub-walk
-    (λ c. search needs)  -- part-places-start
-    (λ c. search needs)  -- part-places-end
+    (λ c. search needs)  -- part-sends-start
+    (λ c. search needs)  -- part-sends-end
     (λ c. search needs)  -- sub-walk-2
-    (λ c. search needs)  -- part-others-start
-    (λ c. search needs)  -- part-others-end
-    (λ c κs. search needs)  -- walk-requires
+    (λ c. search needs)  -- part-receives-start
+    (λ c. search needs)  -- part-receives-end
+    (λ c. search needs)  -- sub-walk-3
+    (λ c. search needs)  -- part-marks-start
+    (λ c. search needs)  -- part-marks-end
+    walk-requires
     (λ c κs. omega (arith, few (search)))  -- narrow-requires
     (λ c κs. search needs)  -- put2-requires
     (λ c. search needs)  -- slice-aggregate-put-all

@@ -1,8 +1,9 @@
-//! Translation and rehearsal on bytes, as an editor calls them that keeps its books so (document 02, request 1): the
-//! same answers, four bytes a word, low byte first.
+//! Translation, rehearsal and summaries on bytes, as an editor calls them that keeps its books so (document 02, requests
+//! 1 and 4): the same answers, four bytes a word, low byte first.
 
 use crate::book::{self, Refusal, MOST_PARTIES};
 use crate::rehearse;
+use crate::summary;
 use crate::translate;
 use crate::words;
 
@@ -14,6 +15,22 @@ pub fn translate(book: &[u8], out: &mut [u8]) -> Result<usize, Refusal> {
 /// Plays a book under a schedule, both of bytes; the output is the events done by each party.
 pub fn rehearse(book: &[u8], schedule: &[u8], out: &mut [u8]) -> Result<usize, Refusal> {
     lend(&done(book, schedule)?, out)
+}
+
+/// Writes the summary of a book's bytes into lent ones.
+pub fn write_summary(book: &[u8], out: &mut [u8]) -> Result<usize, Refusal> {
+    lend(&summary(book)?, out)
+}
+
+/// Whether the party held the row after the step, by the bytes of a summary. If they make no words that is refusal 1,
+/// as of a book, before all else.
+pub fn ask(summary: &[u8], party: u32, row: u32, step: u32) -> Result<bool, Refusal> {
+    summary::ask(&words::of_bytes(summary)?, party, row, step)
+}
+
+/// The summary of a book, or its refusal, where room is no matter.
+pub fn summary(book: &[u8]) -> Result<Vec<u32>, Refusal> {
+    summary::of(&book::read(&words::of_bytes(book)?)?)
 }
 
 /// The listing of a book, or its refusal, where room is no matter.
@@ -67,6 +84,17 @@ mod tests {
         let mut out = [7; 5];
         assert_eq!(rehearse(&book, &[0; 8], &mut out), Ok(1));
         assert_eq!(out, [0, 0, 0, 0, 7]);
+        let mut out = [7; 19];
+        assert_eq!(write_summary(&book, &mut out[..15]), Err(Refusal::new(12, &[4])));
+        assert_eq!(out, [7; 19]);
+        // One party, one row, no step: it never holds its own name.
+        assert_eq!(write_summary(&book, &mut out), Ok(4));
+        assert_eq!(out[..16], words::to_bytes(&[1, 1, 0, 1]));
+        assert_eq!(out[16..], [7; 3]);
+        assert_eq!(ask(&out[..16], 0, 0, 0), Err(Refusal::new(21, &[0])));
+        assert_eq!(ask(&words::to_bytes(&[1, 1, 1, 1]), 0, 0, 0), Ok(true));
+        assert_eq!(ask(&words::to_bytes(&[1, 1, 1, 2]), 0, 0, 0), Ok(false));
+        assert_eq!(ask(&words::to_bytes(&[1, 1, 1]), 0, 0, 0), Err(Refusal::new(20, &[3])));
     }
 
     #[test]
@@ -78,5 +106,9 @@ mod tests {
         assert_eq!(rehearse(&[1; 40], &[9, 9, 9], &mut []), one);
         assert_eq!(rehearse(&book[..58], &[0; 6], &mut []), one);
         assert_eq!(rehearse(&book, &[9, 0, 0, 0], &mut []), Err(Refusal::new(11, &[0])));
+        assert_eq!(write_summary(&book[..59], &mut []), one);
+        for odd in [1, 2, 3, 13, 17] {
+            assert_eq!(ask(&[1; 17][..odd], 9, 9, 9), Err(Refusal::new(1, &[0])));
+        }
     }
 }

@@ -1,6 +1,6 @@
-//! Nghiralum's second implementation, written from the papers alone, on terms: reader, translator and rehearsal,
-//! random books, the narration's text format, and what the gate asks for. It shares nothing with the proved code, so
-//! that each tests the other.
+//! Nghiralum's second implementation, written from the papers alone, on terms: reader, translator, rehearsal and
+//! summaries, random books, the narration's text format, and what the gate asks for. It shares nothing with the proved
+//! code, so that each tests the other.
 
 pub mod bench;
 pub mod book;
@@ -21,6 +21,7 @@ pub mod requests;
 pub mod routes;
 pub mod shelf;
 pub mod show;
+pub mod summary;
 pub mod term;
 pub mod translate;
 pub mod types;

@@ -17,6 +17,7 @@ host translate [FILE]                   print a book's listing or refusal, as th
 host rehearse FILE SCHEDULE             play a book under a schedule (a file of words): events done
 host narrate FILE [OUT]                 turn a narration into a book
 host show FILE                          tell what a book says
+host summary FILE                       tell since when each party has held each row of a book
 host words FILE [OUT]                   turn decimal words (# to the line's end is a remark) into a book
 host books [--check] DIR                write (or only check) the files derived in a folder of books
 host shelf [--check] BOOKS CRATE        write (or only check) what the program shelf reads and prints
@@ -90,6 +91,13 @@ fn run(arguments: &[String]) -> Result<bool, String> {
             Ok(words) => say(&ended(show::show(&words)))?,
             Err(refusal) => say(&format!("{refusal}\n"))?,
         },
+        ["summary", file] => {
+            let words = words::of_bytes(&first_words(file, translate::READ)?);
+            match words.and_then(|words| show::summary(&words)) {
+                Ok(table) => say(&table)?,
+                Err(refusal) => say(&format!("{refusal}\n"))?,
+            }
+        }
         ["words", file, out @ ..] if out.len() < 2 => {
             let words = words::of_text(&files::text(Path::new(file))?);
             let words = words.map_err(|mistake| format!("{file}: {mistake}"))?;

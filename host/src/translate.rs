@@ -62,6 +62,11 @@ pub struct Dictionary {
 }
 
 impl Dictionary {
+    /// Whether the term is in it, which is more than that it could be built.
+    pub fn holds(&self, term: &Shared) -> bool {
+        self.images.contains_key(term)
+    }
+
     /// The image of a buildable term; nothing if it isn't buildable. "The row is in the dictionary;
     /// or it isn't an atom and all its parts are buildable."
     pub fn image(&self, term: &Shared) -> Option<Image> {
@@ -88,7 +93,7 @@ impl Dictionary {
 
     /// Whether sending a term would make an atom of this kind.
     pub fn makes(&self, term: &Shared, such: &impl Fn(&Shared) -> bool) -> bool {
-        if self.images.contains_key(term) {
+        if self.holds(term) {
             return false;
         }
         match term.form() {

@@ -92,6 +92,7 @@ fn help() {
         "rehearse",
         "narrate",
         "show",
+        "summary",
         "words",
         "books",
         "shelf",
@@ -114,7 +115,7 @@ fn bad_input() {
     let binary = folder.file("binary", [0xff, 0xfe, 0, 1]);
     let words = folder.file("words", "1 2 three");
     let directory = folder.path("");
-    for command in ["translate", "show", "narrate", "words"] {
+    for command in ["translate", "show", "summary", "narrate", "words"] {
         assert!(complains(&[command, &missing]).contains("missing"));
         complains(&[command, &directory]);
     }
@@ -141,6 +142,8 @@ fn bad_input() {
     complains(&["compare", "program", "--random", "1"]);
     complains(&["compare", "program", &directory]);
     complains(&["translate", "one", "two"]);
+    complains(&["summary"]);
+    complains(&["summary", "one", "two"]);
     assert!(complains(&["nothing", "like", "it"]).contains("nothing"));
 }
 
@@ -168,6 +171,7 @@ fn closed_pipe() {
     for arguments in [
         &["translate", &book][..],
         &["show", &book],
+        &["summary", &book],
         &["words", &text],
         &["help"],
     ] {

@@ -22,7 +22,8 @@ host words FILE [OUT]                   turn decimal words (# to the line's end 
 host books [--check] DIR                write (or only check) the files derived in a folder of books
 host shelf [--check] BOOKS CRATE        write (or only check) what the program shelf reads and prints
 host requests [--check] BOOKS CRATE     write (or only check) what the program calls reads and prints
-host requests --write FUNCTION SLICE..  print a request; a slice is a file, or =ITEM,.. (COUNTxITEM repeats one)
+host requests --write FUNCTION WHAT..   print a request; a slice is a file, or =ITEM,.. (COUNTxITEM repeats one),
+                                        a number its figures
 host requests --random SEED COUNT       print random requests
 host requests --answer                  answer the requests of standard input, as the program calls does
 host edits [--check] CRATES DOC         write (or only check) the page of the must-fail edits
@@ -124,8 +125,8 @@ fn run(arguments: &[String]) -> Result<bool, String> {
         ["requests", "--answer"] => {
             requests::answer(&mut io::stdin().lock(), &mut io::stdout())?;
         }
-        ["requests", "--write", function, slices @ ..] => {
-            give(&Request::of(function, slices)?.bytes(), None)?;
+        ["requests", "--write", function, given @ ..] => {
+            give(&Request::of(function, given)?.bytes(), None)?;
         }
         ["requests", "--random", seed, count] => {
             give(&requests::random(number(seed)?, number(count)? as usize), None)?;

@@ -1,8 +1,11 @@
 //! Random books: most well formed, about half of those playable, the rest damaged at one place or
-//! another, so that every refusal of document 01's table is met.
+//! another, so that every refusal of document 01's table is met. And random questions about summaries.
 
 mod damage;
+mod question;
 mod shape;
+
+pub use question::{question, Question};
 
 use crate::book::Book;
 use crate::files;

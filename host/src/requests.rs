@@ -10,6 +10,7 @@ use crate::book::{self, Refusal};
 use crate::bytes;
 use crate::files;
 use crate::rehearse;
+use crate::summary;
 use crate::translate;
 use crate::words;
 use std::io::{Read, Write};
@@ -25,27 +26,32 @@ pub struct Function {
     pub name: &'static str,
     /// The bytes of an item of its slices: four where they are of words, one where they are of bytes.
     item: usize,
-    /// Its slices, in the order of its parameters.
-    slices: &'static [Slice],
+    /// What it is given, in its own order.
+    parameters: &'static [Parameter],
     /// What is printed of a call, or its refusal.
     call: fn(&[Vec<u8>]) -> Result<String, Refusal>,
 }
 
+/// A slice, or one number, which is a word wherever slices are of bytes too.
 #[derive(Clone, Copy, PartialEq, Eq)]
-enum Slice {
+enum Parameter {
     Book,
     Schedule,
+    Summary,
     Lent,
+    Number,
 }
 
-pub const FUNCTIONS: [Function; 6] = [
+use Parameter::{Book, Lent, Number, Schedule, Summary};
+
+pub const FUNCTIONS: [Function; 10] = [
     Function {
         number: 1,
         name: "read",
         item: 4,
-        slices: &[Slice::Book],
-        call: |slices| {
-            book::read(&words_of(&slices[0]))?;
+        parameters: &[Book],
+        call: |given| {
+            book::read(&words_of(&given[0]))?;
             Ok(ACCEPTED.to_string())
         },
     },
@@ -53,9 +59,9 @@ pub const FUNCTIONS: [Function; 6] = [
         number: 2,
         name: "accept",
         item: 4,
-        slices: &[Slice::Book],
-        call: |slices| {
-            translate::programs(&book::read(&words_of(&slices[0]))?)?;
+        parameters: &[Book],
+        call: |given| {
+            translate::programs(&book::read(&words_of(&given[0]))?)?;
             Ok(ACCEPTED.to_string())
         },
     },
@@ -63,10 +69,10 @@ pub const FUNCTIONS: [Function; 6] = [
         number: 3,
         name: "translate",
         item: 4,
-        slices: &[Slice::Book, Slice::Lent],
-        call: |slices| {
-            let mut lent = words_of(&slices[1]);
-            let length = translate::translate(&words_of(&slices[0]), &mut lent)?;
+        parameters: &[Book, Lent],
+        call: |given| {
+            let mut lent = words_of(&given[1]);
+            let length = translate::translate(&words_of(&given[0]), &mut lent)?;
             Ok(words::line(&lent[..length]))
         },
     },
@@ -74,10 +80,10 @@ pub const FUNCTIONS: [Function; 6] = [
         number: 4,
         name: "rehearse",
         item: 4,
-        slices: &[Slice::Book, Slice::Schedule, Slice::Lent],
-        call: |slices| {
-            let mut lent = words_of(&slices[2]);
-            let length = rehearse::rehearse(&words_of(&slices[0]), &words_of(&slices[1]), &mut lent)?;
+        parameters: &[Book, Schedule, Lent],
+        call: |given| {
+            let mut lent = words_of(&given[2]);
+            let length = rehearse::rehearse(&words_of(&given[0]), &words_of(&given[1]), &mut lent)?;
             Ok(words::line(&lent[..length]))
         },
     },
@@ -85,10 +91,10 @@ pub const FUNCTIONS: [Function; 6] = [
         number: 5,
         name: "nghiralum_translate",
         item: 1,
-        slices: &[Slice::Book, Slice::Lent],
-        call: |slices| {
-            let mut lent = slices[1].clone();
-            let length = bytes::translate(&slices[0], &mut lent)?;
+        parameters: &[Book, Lent],
+        call: |given| {
+            let mut lent = given[1].clone();
+            let length = bytes::translate(&given[0], &mut lent)?;
             Ok(words::line(&words_of(&lent[..4 * length])))
         },
     },
@@ -96,11 +102,55 @@ pub const FUNCTIONS: [Function; 6] = [
         number: 6,
         name: "nghiralum_rehearse",
         item: 1,
-        slices: &[Slice::Book, Slice::Schedule, Slice::Lent],
-        call: |slices| {
-            let mut lent = slices[2].clone();
-            let length = bytes::rehearse(&slices[0], &slices[1], &mut lent)?;
+        parameters: &[Book, Schedule, Lent],
+        call: |given| {
+            let mut lent = given[2].clone();
+            let length = bytes::rehearse(&given[0], &given[1], &mut lent)?;
             Ok(words::line(&words_of(&lent[..4 * length])))
+        },
+    },
+    Function {
+        number: 7,
+        name: "write_summary",
+        item: 4,
+        parameters: &[Book, Lent],
+        call: |given| {
+            let mut lent = words_of(&given[1]);
+            let length = summary::write(&words_of(&given[0]), &mut lent)?;
+            Ok(words::line(&lent[..length]))
+        },
+    },
+    Function {
+        number: 8,
+        name: "ask",
+        item: 4,
+        parameters: &[Summary, Number, Number, Number],
+        call: |given| {
+            let [party, row, step] = question_of(given);
+            let yes = summary::ask(&words_of(&given[0]), party, row, step)?;
+            Ok(said(yes).to_string())
+        },
+    },
+    Function {
+        number: 9,
+        name: "nghiralum_summary",
+        item: 1,
+        parameters: &[Book, Lent],
+        call: |given| {
+            let mut lent = given[1].clone();
+            let length = bytes::write_summary(&given[0], &mut lent)?;
+            Ok(words::line(&words_of(&lent[..4 * length])))
+        },
+    },
+    Function {
+        number: 10,
+        name: "nghiralum_ask",
+        item: 1,
+        parameters: &[Summary, Number, Number, Number],
+        call: |given| {
+            let [party, row, step] = question_of(given);
+            let yes = bytes::ask(&given[0], party, row, step)?;
+            Ok(said(yes).to_string())
         },
     },
 ];
@@ -110,38 +160,67 @@ fn words_of(slice: &[u8]) -> Vec<u32> {
     words::of_bytes(slice).unwrap_or_default()
 }
 
-/// A call: the function, and the bytes of each of its slices.
+/// The numbers of a party, a row and a step, behind a summary.
+fn question_of(given: &[Vec<u8>]) -> [u32; 3] {
+    let number = |at: usize| words_of(&given[at]).first().copied().unwrap_or_default();
+    [1, 2, 3].map(number)
+}
+
+/// What is printed of an answered question.
+fn said(yes: bool) -> &'static str {
+    if yes {
+        "yes"
+    } else {
+        "no"
+    }
+}
+
+/// A call: the function, and what it is given: the bytes of each slice, and the four of each number.
 pub struct Request {
     function: &'static Function,
-    slices: Vec<Vec<u8>>,
+    given: Vec<Vec<u8>>,
 }
 
 impl Request {
-    /// Of a function, by its name or its number, and its slices: each `=` and its items, or a file's name.
-    pub fn of(function: &str, slices: &[&str]) -> Result<Request, String> {
+    /// Of a function, by its name or its number, and what it is given: of each slice `=` and its items, or a file's name;
+    /// of a number its figures.
+    pub fn of(function: &str, given: &[&str]) -> Result<Request, String> {
         let known = |own: &&Function| own.name == function || own.number.to_string() == function;
         let function = FUNCTIONS.iter().find(known).ok_or_else(|| {
             let names: Vec<&str> = FUNCTIONS.iter().map(|own| own.name).collect();
             format!("there is no function `{function}`, but {}", names.join(", "))
         })?;
-        if slices.len() != function.slices.len() {
-            let (name, own) = (function.name, function.slices.len());
-            return Err(format!("`{name}` has {own} slices, not {}", slices.len()));
+        if given.len() != function.parameters.len() {
+            return Err(format!(
+                "`{}` has {}, not {}",
+                function.name,
+                function.told(),
+                given.len()
+            ));
         }
-        let slices = slices.iter().map(|slice| function.slice(slice));
+        let given = function
+            .parameters
+            .iter()
+            .zip(given)
+            .map(|(parameter, asked)| match parameter {
+                Number => number(asked),
+                _ => function.slice(asked),
+            });
         Ok(Request {
             function,
-            slices: slices.collect::<Result<_, _>>()?,
+            given: given.collect::<Result<_, _>>()?,
         })
     }
 
     /// The request as it stands in a stream: the function's number, and of each slice the count of its items and these,
-    /// filled up with zeros to whole words.
+    /// filled up with zeros to whole words; a number is a word.
     pub fn bytes(&self) -> Vec<u8> {
         let mut bytes = words::to_bytes(&[self.function.number]);
-        for slice in &self.slices {
-            bytes.extend(words::to_bytes(&[(slice.len() / self.function.item) as u32]));
-            bytes.extend(slice);
+        for (parameter, given) in self.function.parameters.iter().zip(&self.given) {
+            if *parameter != Number {
+                bytes.extend(words::to_bytes(&[(given.len() / self.function.item) as u32]));
+            }
+            bytes.extend(given);
             bytes.resize(bytes.len().next_multiple_of(4), 0);
         }
         bytes
@@ -156,30 +235,31 @@ impl Request {
         let number = word(&head)?;
         let function = FUNCTIONS.iter().find(|own| own.number == number);
         let function = function.ok_or("there is no function of this number")?;
-        let mut slices = Vec::new();
-        for _ in function.slices {
-            let count = word(&some(stream, 4)?)? as usize;
-            if count > MOST_BYTES / function.item {
-                return Err(format!("a slice has more than {MOST_BYTES} bytes"));
-            }
-            let length = count * function.item;
-            let mut slice = some(stream, length.next_multiple_of(4))?;
-            if slice.len() < length.next_multiple_of(4) {
-                return Err(ENDS.to_string());
-            }
-            slice.truncate(length);
-            slices.push(slice);
-        }
-        Ok(Some(Request { function, slices }))
+        let given = function.parameters.iter().map(|parameter| match parameter {
+            Number => exactly(stream, 4),
+            _ => next_slice(stream, function.item),
+        });
+        let given = given.collect::<Result<_, _>>()?;
+        Ok(Some(Request { function, given }))
     }
 
     /// The line of its answer, without the line's end.
     pub fn answer(&self) -> String {
-        (self.function.call)(&self.slices).unwrap_or_else(|refusal| refusal.to_string())
+        (self.function.call)(&self.given).unwrap_or_else(|refusal| refusal.to_string())
     }
 }
 
 impl Function {
+    /// How many slices and numbers it is given.
+    fn told(&self) -> String {
+        let numbers = self.parameters.iter().filter(|own| **own == Number).count();
+        let slices = self.parameters.len() - numbers;
+        match numbers {
+            0 => format!("{slices} slices"),
+            _ => format!("{slices} slices and {numbers} numbers"),
+        }
+    }
+
     /// A slice as it is asked for: `=` and its items, or a file's name.
     fn slice(&self, asked: &str) -> Result<Vec<u8>, String> {
         let Some(items) = asked.strip_prefix('=') else {
@@ -204,6 +284,14 @@ impl Function {
     }
 }
 
+/// A number as it is asked for, as its word's bytes.
+fn number(asked: &str) -> Result<Vec<u8>, String> {
+    match asked.parse() {
+        Ok(number) if asked.bytes().all(|byte| byte.is_ascii_digit()) => Ok(words::to_bytes(&[number])),
+        _ => Err(format!("`{asked}` is no number from 0 to {}", u32::MAX)),
+    }
+}
+
 /// So many items may be asked for at once: more than a slice may have, so that this can be tried.
 const MOST_TIMES: usize = 1 << 20;
 
@@ -212,6 +300,27 @@ const ENDS: &str = "standard input ends inside a request";
 /// The next bytes of a stream, so many or as many as there are.
 fn some(stream: &mut impl Read, most: usize) -> Result<Vec<u8>, String> {
     files::read(stream, most).map_err(|error| format!("standard input: {error}"))
+}
+
+/// The next bytes of a stream, so many and no fewer.
+fn exactly(stream: &mut impl Read, count: usize) -> Result<Vec<u8>, String> {
+    let bytes = some(stream, count)?;
+    match bytes.len() == count {
+        true => Ok(bytes),
+        false => Err(ENDS.to_string()),
+    }
+}
+
+/// The next slice of a stream, of items of so many bytes: their count, and then they.
+fn next_slice(stream: &mut impl Read, item: usize) -> Result<Vec<u8>, String> {
+    let count = word(&some(stream, 4)?)? as usize;
+    if count > MOST_BYTES / item {
+        return Err(format!("a slice has more than {MOST_BYTES} bytes"));
+    }
+    let length = count * item;
+    let mut slice = exactly(stream, length.next_multiple_of(4))?;
+    slice.truncate(length);
+    Ok(slice)
 }
 
 /// The word of four bytes.

@@ -5,8 +5,12 @@ mod common;
 use common::{complains, host, output, top, Folder, EXAMPLE_1, LISTING_1};
 use host::requests::{self, Calls, Request, FUNCTIONS};
 use host::words::{self, of_bytes, to_bytes};
+use std::collections::BTreeSet;
 use std::io::Write;
 use std::process::{Output, Stdio};
+
+/// Example 1's summary, as tests/summary.rs works it out.
+const SUMMARY_1: [u32; 13] = [2, 5, 2, 0, 0, 0, 1, 3, 0, 0, 0, 1, 3];
 
 /// What a stream of words is answered, and what is wrong with it.
 fn answered(stream: &[u8]) -> (String, Result<usize, String>) {
@@ -18,6 +22,14 @@ fn answered(stream: &[u8]) -> (String, Result<usize, String>) {
 /// A slice of words, as it stands in a stream.
 fn slice(words: &[u32]) -> Vec<u32> {
     [&[words.len() as u32], words].concat()
+}
+
+/// A slice of bytes, as it stands in a stream, and what fills it up.
+fn octets(bytes: &[u8], fill: u8) -> Vec<u8> {
+    let mut slice = to_bytes(&[bytes.len() as u32]);
+    slice.extend(bytes);
+    slice.resize(slice.len().next_multiple_of(4), fill);
+    slice
 }
 
 fn line_1() -> String {
@@ -62,12 +74,6 @@ fn each_function() {
 #[test]
 fn on_bytes() {
     let book = to_bytes(&EXAMPLE_1);
-    let octets = |bytes: &[u8], fill: u8| {
-        let mut slice = to_bytes(&[bytes.len() as u32]);
-        slice.extend(bytes);
-        slice.resize(slice.len().next_multiple_of(4), fill);
-        slice
-    };
     for fill in [0, 255] {
         let stream = [
             to_bytes(&[5]),
@@ -97,6 +103,72 @@ fn on_bytes() {
     assert_eq!(over, Err("request 1: a slice has more than 65536 bytes".to_string()));
 }
 
+/// Summaries and questions: the numbers behind a summary are plain words, on bytes too.
+#[test]
+fn summaries_and_questions() {
+    let book = slice(&EXAMPLE_1);
+    let summary = slice(&SUMMARY_1);
+    let stream = [
+        &[7][..],
+        &book,
+        &slice(&[9; 15]),
+        &[7],
+        &book,
+        &slice(&[9; 12]),
+        &[7],
+        &slice(&EXAMPLE_1[..52]),
+        &slice(&[9; 12]),
+        &[8],
+        &summary,
+        &[1, 3, 0],
+        &[8],
+        &summary,
+        &[1, 4, 1],
+        &[8],
+        &summary,
+        &[1, 5, 2],
+        &[8],
+        &slice(&SUMMARY_1[..12]),
+        &[1, 5, 2],
+        &[8],
+        &slice(&[]),
+        &[u32::MAX; 3],
+    ];
+    let written = words::line(&SUMMARY_1) + "\n";
+    let lines = format!("{written}refused 12 13\nrefused 3 8\nyes\nno\nrefused 21 5\nrefused 20 12\nrefused 20 0\n");
+    assert_eq!(answered(&to_bytes(&stream.concat())), (lines, Ok(8)));
+
+    let [book, summary] = [&EXAMPLE_1[..], &SUMMARY_1].map(to_bytes);
+    let stream = [
+        to_bytes(&[9]),
+        octets(&book, 255),
+        octets(&[9; 4 * 13 + 3], 255),
+        to_bytes(&[9]),
+        octets(&book, 255),
+        octets(&[9; 4 * 13 - 1], 255),
+        to_bytes(&[9]),
+        octets(&book[1..], 255),
+        octets(&[], 255),
+        to_bytes(&[10]),
+        octets(&summary, 255),
+        to_bytes(&[1, 3, 0]),
+        to_bytes(&[10]),
+        octets(&summary, 255),
+        to_bytes(&[0, 4, 0]),
+        to_bytes(&[10]),
+        octets(&summary, 255),
+        to_bytes(&[0, 4, 300]),
+        to_bytes(&[10]),
+        octets(&summary[..48], 255),
+        to_bytes(&[0, 4, 300]),
+        to_bytes(&[10]),
+        octets(&summary[..47], 255),
+        to_bytes(&[0, 4, 300]),
+    ];
+    let lines = format!("{written}refused 12 13\nrefused 1 0\nyes\nno\nrefused 21 300\nrefused 20 12\nrefused 1 0\n");
+    assert_eq!(answered(&stream.concat()), (lines, Ok(8)));
+}
+
 /// Acceptance is more than reading: a book that keeps its rules and can't be played.
 #[test]
 fn read_and_accept_differ() {
@@ -122,6 +194,11 @@ fn what_is_wrong() {
     assert_eq!(said(&to_bytes(&[3, 0])), inside);
     assert_eq!(said(&to_bytes(&[1, 2, 5])), inside);
     assert_eq!(said(&[&to_bytes(&[1, 1])[..], &[0; 3]].concat()), inside);
+    // A request ends with its last number.
+    for cut in 1..20 {
+        assert_eq!(said(&to_bytes(&[8, 1, 5, 6, 7, 8])[..24 - cut]), inside);
+        assert_eq!(said(&to_bytes(&[10, 1, 5, 6, 7, 8])[..24 - cut]), inside);
+    }
     for number in [0, FUNCTIONS.len() as u32 + 1, u32::MAX] {
         assert_eq!(
             said(&to_bytes(&[number, 0])),
@@ -171,19 +248,73 @@ fn what_is_written() {
     assert!(wrong("read", &["nowhere/1.book"]).contains("nowhere"));
     assert!(wrong("5", &["=256", "="]).contains("neither"));
     assert!(wrong("read", &[&odd]).contains("3 bytes are no whole words"));
+    // Numbers are plain, behind the slice.
+    assert_eq!(
+        written("ask", &["=1,1,2", "0", "7", "4294967295"]),
+        [8, 3, 1, 1, 2, 0, 7, u32::MAX]
+    );
+    assert_eq!(
+        written("nghiralum_ask", &[&odd, "1", "02", "3"]),
+        [10, 3, 0x0003_0201, 1, 2, 3]
+    );
+    assert_eq!(written("write_summary", &["=", "=1x9"]), [7, 0, 1, 9]);
+    assert_eq!(written("nghiralum_summary", &["=", "=1x9"]), [9, 0, 1, 9]);
+    assert!(wrong("ask", &["=", "1", "2"]).contains("1 slices and 3 numbers, not 3"));
+    for number in ["=1", "", "-1", "+1", "4294967296", "x"] {
+        assert!(
+            wrong("8", &["=", "1", number, "3"]).contains("no number from 0"),
+            "{number}"
+        );
+    }
 }
 
 #[test]
 fn the_crate_is_current() {
     let calls = Calls::of(&top().join("books")).unwrap();
     assert_eq!(calls.check(&top().join("crates/calls")), Ok(()));
+}
+
+/// The stream of the books is answered as it says, and has every kind of answer.
+#[test]
+fn the_stream_of_the_books() {
+    let calls = Calls::of(&top().join("books")).unwrap();
     let (lines, count) = answered(&calls.stdin);
     assert_eq!((lines.as_bytes(), count), (&calls.stdout[..], Ok(calls.requests)));
-    assert!(lines.contains("accepted\n"));
-    for number in 1..=12 {
+    assert!(calls.requests < 1_400, "{}", calls.requests);
+    for whole in ["accepted", "yes", "no", "refused 12 16387"] {
+        assert!(lines.lines().any(|line| line == whole), "{whole}");
+    }
+    for number in (1..=12).chain([20, 21]) {
         let refused = format!("refused {number} ");
         assert!(lines.contains(&refused), "{refused}");
     }
+    // Each function, and of the questions each kind of answer on words and on bytes.
+    let mut met = BTreeSet::new();
+    let mut stream = &calls.stdin[..];
+    for line in lines.lines() {
+        let number = u32::from_le_bytes(stream[..4].try_into().unwrap());
+        Request::next(&mut stream).unwrap();
+        let words: Vec<&str> = line.split(' ').take(2).collect();
+        met.insert((number, words.join(" ")));
+    }
+    for function in &FUNCTIONS {
+        assert!(
+            met.iter().any(|(number, _)| *number == function.number),
+            "{}",
+            function.name
+        );
+    }
+    for number in [8, 10] {
+        for kind in ["yes", "no", "refused 20", "refused 21"] {
+            assert!(met.contains(&(number, kind.to_string())), "{number} {kind}");
+        }
+    }
+    for number in [7, 9] {
+        for kind in ["refused 2", "refused 10", "refused 12", "2 5"] {
+            assert!(met.contains(&(number, kind.to_string())), "{number} {kind}");
+        }
+    }
+    assert!(met.contains(&(10, "refused 1".to_string())));
 }
 
 /// Random requests are whole, and the same seed gives the same ones.
@@ -195,6 +326,17 @@ fn random_requests() {
     assert_eq!(count, Ok(300));
     for kind in ["accepted\n", "refused 2 ", "refused 10 ", "refused 11 ", "refused 12 "] {
         assert!(lines.contains(kind), "{kind}");
+    }
+    // All functions occur, and all answers to questions, each several times.
+    let (mut functions, mut rest) = ([0; FUNCTIONS.len()], &stream[..]);
+    while !rest.is_empty() {
+        functions[rest[0] as usize - 1] += 1;
+        Request::next(&mut rest).unwrap();
+    }
+    assert!(functions.iter().all(|count| *count > 10), "{functions:?}");
+    for kind in ["yes", "no", "refused 20", "refused 21"] {
+        let count = lines.lines().filter(|line| line.starts_with(kind)).count();
+        assert!(count > 3, "{kind}: {count}");
     }
 }
 
@@ -224,6 +366,8 @@ fn the_commands() {
     let answer = piped(&["requests", "--answer"], &[&one[..], &two].concat());
     assert_eq!(answer.stdout, (line_1() + "1 2\n").into_bytes());
     assert_eq!(answer.status.code(), Some(0));
+    let asked = output(&["requests", "--write", "ask", "=1,1,1,1", "0", "0", "0"]).stdout;
+    assert_eq!(piped(&["requests", "--answer"], &asked).stdout, b"yes\n");
     let cut = piped(&["requests", "--answer"], &[&one[..], &two[..9]].concat());
     assert_eq!(cut.stdout, line_1().into_bytes());
     assert_eq!(cut.stderr, b"host: request 2: standard input ends inside a request\n");
@@ -235,7 +379,8 @@ fn the_commands() {
 
     let to = Folder::new("requests-crate");
     let (at, crate_at) = (folder.path(""), to.path(""));
-    let said = |done: &str| format!("15 requests, {done} {crate_at}\n");
+    // For the one book 14 and, of its summary, 7; then 37 at the edges, and 3 that are long.
+    let said = |done: &str| format!("61 requests, {done} {crate_at}\n");
     assert_eq!(common::printed(&["requests", &at, &crate_at]), said("written to"));
     assert_eq!(
         common::printed(&["requests", "--check", &at, &crate_at]),
@@ -246,6 +391,7 @@ fn the_commands() {
     complains(&["requests", "--check", &at]);
     complains(&["requests", "--write"]);
     complains(&["requests", "--write", "nothing"]);
+    complains(&["requests", "--write", "ask", "=1,1,1,1", "0", "0", "zero"]);
     complains(&["requests", "--random", "1"]);
     complains(&["requests", &at]);
 }

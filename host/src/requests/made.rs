@@ -1,12 +1,13 @@
 //! Streams of requests: the one that the program `calls` is run on, and random ones.
 
-use super::{words_of, Function, Request, Slice, FUNCTIONS, MOST_BYTES};
+use super::{words_of, Book, Function, Lent, Number, Request, Schedule, Summary, FUNCTIONS, MOST_BYTES};
 use crate::book;
 use crate::bytes;
 use crate::files;
-use crate::random::{self, Random};
+use crate::random::{self, question, Question, Random};
 use crate::rehearse::MOST_MOVES;
 use crate::shelf;
+use crate::summary::HEAD;
 use crate::words;
 use std::path::Path;
 
@@ -14,6 +15,12 @@ use std::path::Path;
 const SMALL: usize = 100;
 /// The lent bytes have this in them before.
 const BEFORE: u8 = 7;
+
+const TRANSLATE: &Function = &FUNCTIONS[2];
+const WRITE_SUMMARY: &Function = &FUNCTIONS[6];
+const ASK: &Function = &FUNCTIONS[7];
+const SUMMARY_BYTES: &Function = &FUNCTIONS[8];
+const ASK_BYTES: &Function = &FUNCTIONS[9];
 
 /// The two files of the program's crate, and how many requests are in them.
 pub struct Calls {
@@ -23,27 +30,37 @@ pub struct Calls {
 }
 
 impl Calls {
-    /// Over the books of a folder, in the order of their names: each function for the small ones, in several ways, and
-    /// the longest slices that are taken for the longest book.
+    /// Over the books of a folder, in the order of their names: each function for the small ones, in several ways; every
+    /// kind of question about the first summary; and the longest slices that are taken for the longest book.
     pub fn of(folder: &Path) -> Result<Calls, String> {
         let mut calls = Calls {
             stdin: Vec::new(),
             stdout: Vec::new(),
             requests: 0,
         };
-        let mut longest = Vec::new();
+        let (mut longest, mut first) = (Vec::new(), None);
         for file in files::ending(folder, "book")? {
             let Ok(book) = words::of_bytes(&files::bytes(&file)?) else {
                 continue;
             };
             if book.len() <= SMALL {
-                FUNCTIONS.iter().for_each(|function| calls.try_out(function, &book));
+                FUNCTIONS[..6]
+                    .iter()
+                    .for_each(|function| calls.try_out(function, &book));
+                let summary = calls.try_summary(&words::to_bytes(&book));
+                first = first.or(summary);
             }
             if longest.len() < book.len() && book.len() <= book::LONGEST {
                 longest = book;
             }
         }
-        calls.add(&FUNCTIONS[2], &[&words::to_bytes(&longest), &[BEFORE; MOST_BYTES]]);
+        if let Some(summary) = first {
+            calls.try_edges(&summary);
+        }
+        let longest = words::to_bytes(&longest);
+        calls.add(TRANSLATE, &[&longest, &[BEFORE; MOST_BYTES]]);
+        calls.add(WRITE_SUMMARY, &[&longest, &[BEFORE; MOST_BYTES]]);
+        calls.ask(ASK, &longest_question());
         Ok(calls)
     }
 
@@ -57,9 +74,9 @@ impl Calls {
         let need = 4 * need(function, &book);
         let lent = |length: usize| vec![BEFORE; length];
         let spare = if function.item == 1 { 3 } else { 8 };
-        match function.slices {
-            [Slice::Book] => self.add(function, &[&book]),
-            [Slice::Book, Slice::Lent] => {
+        match function.parameters {
+            [Book] => self.add(function, &[&book]),
+            [Book, Lent] => {
                 self.add(function, &[&book, &lent(need + spare)]);
                 self.add(function, &[&book, &lent(need - function.item)]);
                 if function.item == 1 {
@@ -77,9 +94,49 @@ impl Calls {
         }
     }
 
-    fn add(&mut self, function: &'static Function, slices: &[&[u8]]) {
-        let slices = slices.iter().map(|slice| slice.to_vec()).collect();
-        let request = Request { function, slices };
+    /// The summary of a book, with exact room, with a word or a byte too few, and of odd bytes; then where the answer to a
+    /// question about it turns. A book that is refused is so in any room.
+    fn try_summary(&mut self, book: &[u8]) -> Option<Vec<u32>> {
+        let Ok(summary) = bytes::summary(book) else {
+            self.add(WRITE_SUMMARY, &[book, &[BEFORE; 16]]);
+            self.add(SUMMARY_BYTES, &[book, &[BEFORE; 17]]);
+            return None;
+        };
+        let lent = vec![BEFORE; 4 * summary.len() + 3];
+        let exact = &lent[..4 * summary.len()];
+        self.add(WRITE_SUMMARY, &[book, exact]);
+        self.add(WRITE_SUMMARY, &[book, &exact[4..]]);
+        self.add(SUMMARY_BYTES, &[book, &lent]);
+        self.add(SUMMARY_BYTES, &[book, &exact[1..]]);
+        self.add(SUMMARY_BYTES, &[&book[1..], exact]);
+        for question in turn(&summary) {
+            self.ask(ASK, &question);
+            self.ask(ASK_BYTES, &question);
+        }
+        Some(summary)
+    }
+
+    /// Every kind of question about a summary, on words and on bytes, and on bytes that make no words.
+    fn try_edges(&mut self, summary: &[u32]) {
+        for question in edges(summary) {
+            self.ask(ASK, &question);
+            self.ask(ASK_BYTES, &question);
+        }
+        let summary = words::to_bytes(summary);
+        for odd in [1, 2, summary.len() - 1] {
+            self.add(ASK_BYTES, &[&summary[..odd], &[0; 4], &[255; 4], &[0; 4]]);
+        }
+    }
+
+    fn ask(&mut self, function: &'static Function, question: &Question) {
+        let [party, row, step] = question.numbers.map(|number| words::to_bytes(&[number]));
+        let summary = words::to_bytes(&question.summary);
+        self.add(function, &[&summary, &party, &row, &step]);
+    }
+
+    fn add(&mut self, function: &'static Function, given: &[&[u8]]) {
+        let given = given.iter().map(|given| given.to_vec()).collect();
+        let request = Request { function, given };
         self.stdin.extend(request.bytes());
         self.stdout.extend((request.answer() + "\n").into_bytes());
         self.requests += 1;
@@ -100,12 +157,74 @@ impl Calls {
     }
 }
 
+/// About the row that a party got to hold latest: after the step before, where there is one, and after that step.
+fn turn(summary: &[u32]) -> Vec<Question> {
+    let (rows, steps) = (summary[1], summary[2]);
+    let later = |(_, word): &(u32, &u32)| (1..=steps).contains(*word);
+    let latest = (0..).zip(&summary[HEAD..]).filter(later).max_by_key(|(_, word)| **word);
+    let Some((at, word)) = latest else {
+        return Vec::new();
+    };
+    let steps = word.saturating_sub(2)..*word;
+    let asked = |step: u32| Question {
+        summary: summary.to_vec(),
+        numbers: [at / rows, at % rows, step],
+    };
+    steps.map(asked).collect()
+}
+
+/// About a summary: each bound, the order of the bounds, lengths that are wrong, and counts that are far too large.
+fn edges(summary: &[u32]) -> Vec<Question> {
+    let [parties, rows, steps] = [summary[0], summary[1], summary[2]];
+    let last = [parties - 1, rows - 1, steps.saturating_sub(1)];
+    let asked = |summary: &[u32], numbers: [u32; 3]| Question {
+        summary: summary.to_vec(),
+        numbers,
+    };
+    let with = |head: [u32; 2]| [&head[..], &summary[2..]].concat();
+    let numbers = [
+        last,
+        [0, 0, 0],
+        [parties, rows, steps],
+        [0, rows, steps],
+        [0, 0, steps],
+        [u32::MAX; 3],
+        [0, u32::MAX, 0],
+        [0, 0, u32::MAX],
+    ];
+    let lengths = [0, 1, 2, 3, summary.len() - 1].map(|length| asked(&summary[..length], [parties, 0, 0]));
+    let more = [
+        [summary, &[0]].concat(),
+        with([rows, parties]),
+        with([u32::MAX, u32::MAX]),
+        with([1 << 31, 1 << 31]),
+    ];
+    let numbers = numbers.map(|numbers| asked(summary, numbers));
+    let more = more.map(|summary| asked(&summary, last));
+    numbers.into_iter().chain(lengths).chain(more).collect()
+}
+
+/// About a summary as long as a slice may be, with the largest word there is, at the last step of as many.
+fn longest_question() -> Question {
+    let parties = MOST_BYTES / 4 - HEAD;
+    let mut summary = vec![parties as u32, 1, u32::MAX];
+    summary.resize(MOST_BYTES / 4, u32::MAX);
+    Question {
+        summary,
+        numbers: [parties as u32 - 1, 0, u32::MAX - 1],
+    }
+}
+
 /// How many words a function's output has; of a book that is refused, some.
 fn need(function: &Function, book: &[u8]) -> usize {
-    if function.slices.contains(&Slice::Schedule) {
+    if function.parameters.contains(&Schedule) {
         return shelf::parties(&words_of(book)) as usize;
     }
-    bytes::listing(book).map_or(1, |listing| listing.len())
+    let output = match function.number == WRITE_SUMMARY.number || function.number == SUMMARY_BYTES.number {
+        true => bytes::summary(book),
+        false => bytes::listing(book),
+    };
+    output.map_or(1, |output| output.len())
 }
 
 /// The bytes of random requests.
@@ -115,19 +234,27 @@ pub fn random(seed: u64, count: usize) -> Vec<u8> {
     for book in random::books(seed, count) {
         let function = random.pick(&FUNCTIONS);
         let book = whole(&book, function.item);
-        let slices = function.slices.iter().map(|slice| match slice {
-            Slice::Book => book.to_vec(),
-            Slice::Schedule => {
+        let summary = bytes::summary(book).ok();
+        let asked = question(&mut random, summary.as_deref());
+        let mut numbers = asked.numbers.into_iter();
+        let given = function.parameters.iter().map(|parameter| match parameter {
+            Book => book.to_vec(),
+            Schedule => {
                 let schedule = words::to_bytes(&schedule(&mut random, shelf::parties(&words_of(book))));
                 odd(&mut random, schedule, function.item)
             }
-            Slice::Lent => {
+            Summary => {
+                let summary = words::to_bytes(&asked.summary);
+                odd(&mut random, whole(&summary, 4).to_vec(), function.item)
+            }
+            Lent => {
                 let lent = lent(&mut random, need(function, book));
                 odd(&mut random, lent, function.item)
             }
+            Number => words::to_bytes(&[numbers.next().unwrap_or_default()]),
         });
-        let slices = slices.collect();
-        stream.extend(Request { function, slices }.bytes());
+        let given = given.collect();
+        stream.extend(Request { function, given }.bytes());
     }
     stream
 }

@@ -19,6 +19,10 @@ const TRANSLATE: &CStr = c"translator::translate";
 const REHEARSE: &CStr = c"rehearsal::rehearse";
 const TRANSLATE_BYTES: &CStr = c"nghiralum_translate";
 const REHEARSE_BYTES: &CStr = c"nghiralum_rehearse";
+const WRITE_SUMMARY: &CStr = c"summary::write_summary";
+const ASK: &CStr = c"summary::ask";
+const SUMMARY_BYTES: &CStr = c"nghiralum_summary";
+const ASK_BYTES: &CStr = c"nghiralum_ask";
 
 /// A slice as Rattle hands it over: the address of these two.
 #[repr(C)]
@@ -43,7 +47,8 @@ impl Slice {
     }
 }
 
-/// Rattle's `Answer`: case 0 with a length, or 1 with a refusal.
+/// Rattle's `Answer`: case 0 with a length, or 1 with a refusal. And its `Reply`, which is as large: case 0 for yes, 1 for
+/// no, 2 with a refusal.
 #[repr(C)]
 #[derive(Default)]
 struct Answer {
@@ -70,23 +75,45 @@ impl Value {
     }
 }
 
-impl Answer {
-    /// The answer as the host gives it. Rattle's `Refusal` has a case for each number, in their order and without gaps,
-    /// so a case's place is the number less one; and which values a case has, this can only take from its number. A
-    /// refusal whose number leaves a gap, or a case with other values, needs a line here. All bytes were set before the
-    /// call, so whatever case comes back, what is read here was written.
-    fn read(&self) -> Result<usize, Refusal> {
-        if self.case == 0 {
-            return Ok(self.value.length(0));
-        }
-        let number = u32::from(self.value.bytes[0]) + 1;
+impl Value {
+    /// The refusal as the host gives it. Rattle's `Refusal` has a case for each number, in their order; which values a case
+    /// has, this can only take from its number. A new refusal, or a case with other values, needs a line here. All bytes
+    /// were set before the call, so whatever case comes back, what is read here was written.
+    fn refusal(self) -> Refusal {
+        let number = match self.bytes[0] {
+            case @ 0..12 => u32::from(case) + 1,
+            case @ 12..14 => u32::from(case) + 8,
+            _ => NO_REFUSAL,
+        };
         let place = match number {
             1 | 9 => vec![0],
-            10 => vec![self.value.word(4), self.value.word(8)],
-            12 => vec![self.value.length(8) as u32],
-            _ => vec![self.value.word(4)],
+            10 => vec![self.word(4), self.word(8)],
+            12 | 20 => vec![u32::try_from(self.length(8)).unwrap_or(u32::MAX)],
+            _ => vec![self.word(4)],
         };
-        Err(Refusal { number, place })
+        Refusal { number, place }
+    }
+}
+
+/// The number of a case that there is none of.
+const NO_REFUSAL: u32 = 255;
+
+impl Answer {
+    /// The answer as the host gives it.
+    fn read(&self) -> Result<usize, Refusal> {
+        match self.case {
+            0 => Ok(self.value.length(0)),
+            _ => Err(self.value.refusal()),
+        }
+    }
+
+    /// The reply to a question, as the host gives it.
+    fn reply(&self) -> Result<bool, Refusal> {
+        match self.case {
+            0 => Ok(true),
+            1 => Ok(false),
+            _ => Err(self.value.refusal()),
+        }
     }
 }
 
@@ -101,10 +128,17 @@ pub fn packed(answer: &Result<usize, Refusal>) -> u64 {
     number | value(0) << 8 | value(1) << 40
 }
 
+/// The reply to a question, packed likewise: the first value is 1 for yes and 0 for no.
+pub fn packed_reply(reply: &Result<bool, Refusal>) -> u64 {
+    packed(&reply.clone().map(usize::from))
+}
+
 type Translate = unsafe extern "C" fn(*mut Answer, *const Slice, *const Slice);
 type Rehearse = unsafe extern "C" fn(*mut Answer, *const Slice, *const Slice, *const Slice);
 type TranslateBytes = unsafe extern "C" fn(*const u8, usize, *mut u8, usize) -> u64;
 type RehearseBytes = unsafe extern "C" fn(*const u8, usize, *const u8, usize, *mut u8, usize) -> u64;
+type Ask = unsafe extern "C" fn(*mut Answer, *const Slice, u32, u32, u32);
+type AskBytes = unsafe extern "C" fn(*const u8, usize, u32, u32, u32) -> u64;
 
 /// The functions that a library has. It is never closed: they live as long as the command.
 pub struct Library {
@@ -112,6 +146,10 @@ pub struct Library {
     rehearse: Option<Rehearse>,
     translate_bytes: Option<TranslateBytes>,
     rehearse_bytes: Option<RehearseBytes>,
+    write_summary: Option<Translate>,
+    ask: Option<Ask>,
+    summary_bytes: Option<TranslateBytes>,
+    ask_bytes: Option<AskBytes>,
 }
 
 impl Library {
@@ -123,7 +161,8 @@ impl Library {
             let found = unsafe { dlsym(library, name.as_ptr()) };
             (!found.is_null()).then_some(found)
         };
-        // SAFETY: the IR declares the first two with pointers alone, the other two as C does, in this order.
+        // SAFETY: the IR declares those on words with pointers and plain numbers alone, those on bytes as C does, in this
+        // order.
         Ok(unsafe {
             Library {
                 translate: find(TRANSLATE).map(|found| mem::transmute::<*mut c_void, Translate>(found)),
@@ -131,6 +170,10 @@ impl Library {
                 translate_bytes: find(TRANSLATE_BYTES)
                     .map(|found| mem::transmute::<*mut c_void, TranslateBytes>(found)),
                 rehearse_bytes: find(REHEARSE_BYTES).map(|found| mem::transmute::<*mut c_void, RehearseBytes>(found)),
+                write_summary: find(WRITE_SUMMARY).map(|found| mem::transmute::<*mut c_void, Translate>(found)),
+                ask: find(ASK).map(|found| mem::transmute::<*mut c_void, Ask>(found)),
+                summary_bytes: find(SUMMARY_BYTES).map(|found| mem::transmute::<*mut c_void, TranslateBytes>(found)),
+                ask_bytes: find(ASK_BYTES).map(|found| mem::transmute::<*mut c_void, AskBytes>(found)),
             }
         })
     }
@@ -142,6 +185,10 @@ impl Library {
             (REHEARSE, self.rehearse.is_some()),
             (TRANSLATE_BYTES, self.translate_bytes.is_some()),
             (REHEARSE_BYTES, self.rehearse_bytes.is_some()),
+            (WRITE_SUMMARY, self.write_summary.is_some()),
+            (ASK, self.ask.is_some()),
+            (SUMMARY_BYTES, self.summary_bytes.is_some()),
+            (ASK_BYTES, self.ask_bytes.is_some()),
         ];
         let missing = all.into_iter().filter(|(_, there)| !there);
         missing
@@ -191,6 +238,39 @@ impl Library {
         // SAFETY: as above.
         unsafe { rehearse(book.as_ptr(), book.len(), moves, count, out.as_mut_ptr(), out.len()) }
     }
+
+    /// The proved `summary::write_summary`, which the library must have.
+    pub fn write_summary(&self, book: &[u32], out: &mut [u32]) -> Result<usize, Refusal> {
+        let write = self.write_summary.expect("the library has `write_summary`");
+        let mut answer = Answer::default();
+        let (book, out) = (Slice::of(book), Slice::of_lent(out));
+        // SAFETY: as of `translate`.
+        unsafe { write(&mut answer, &book, &out) };
+        answer.read()
+    }
+
+    /// The proved `summary::ask`, which the library must have, with the numbers of a party, a row and a step.
+    pub fn ask(&self, summary: &[u32], [party, row, step]: [u32; 3]) -> Result<bool, Refusal> {
+        let ask = self.ask.expect("the library has `ask`");
+        let mut answer = Answer::default();
+        // SAFETY: the slice is what it says, and the answer is as large as Rattle's `Reply`.
+        unsafe { ask(&mut answer, &Slice::of(summary), party, row, step) };
+        answer.reply()
+    }
+
+    /// The proved `nghiralum_summary`, which the library must have: its answer as it is packed.
+    pub fn summary_bytes(&self, book: &[u8], out: &mut [u8]) -> u64 {
+        let write = self.summary_bytes.expect("the library has `nghiralum_summary`");
+        // SAFETY: as above.
+        unsafe { write(book.as_ptr(), book.len(), out.as_mut_ptr(), out.len()) }
+    }
+
+    /// The proved `nghiralum_ask`, which the library must have: its answer as it is packed.
+    pub fn ask_bytes(&self, summary: &[u8], [party, row, step]: [u32; 3]) -> u64 {
+        let ask = self.ask_bytes.expect("the library has `nghiralum_ask`");
+        // SAFETY: as above.
+        unsafe { ask(summary.as_ptr(), summary.len(), party, row, step) }
+    }
 }
 
 fn opened(path: &Path) -> Result<*mut c_void, String> {
@@ -237,8 +317,38 @@ mod tests {
         bytes[0] = 11;
         bytes[8..].copy_from_slice(&20_000u64.to_ne_bytes());
         assert_eq!(answer(1, bytes), Err(Refusal::new(12, &[20_000])));
-        // Whatever comes back is read.
-        assert!(answer(0xff, [0xff; 16]).is_err());
+        let mut bytes = [0xff; 16];
+        bytes[0] = 12;
+        bytes[8..].copy_from_slice(&16_388u64.to_ne_bytes());
+        assert_eq!(answer(1, bytes), Err(Refusal::new(20, &[16_388])));
+        bytes[0] = 13;
+        bytes[4..8].copy_from_slice(&1_024u32.to_ne_bytes());
+        assert_eq!(answer(1, bytes), Err(Refusal::new(21, &[1_024])));
+        // Whatever comes back is read, and a case that there is none of is no refusal's.
+        for case in 14..=255 {
+            bytes[0] = case;
+            assert_eq!(answer(0xff, bytes), Err(Refusal::new(255, &[1_024])));
+        }
+    }
+
+    #[test]
+    fn replies_are_read() {
+        let reply = |case: u8, bytes: [u8; 16]| {
+            let value = Value { bytes };
+            Answer { case, value }.reply()
+        };
+        assert_eq!(reply(0, [0xff; 16]), Ok(true));
+        assert_eq!(reply(1, [0xff; 16]), Ok(false));
+        let mut bytes = [0; 16];
+        bytes[0] = 12;
+        // A length is told as at most the largest word.
+        for (length, told) in [(0, 0), (13, 13), (u64::from(u32::MAX), u32::MAX), (1 << 32, u32::MAX)] {
+            bytes[8..].copy_from_slice(&length.to_ne_bytes());
+            assert_eq!(reply(2, bytes), Err(Refusal::new(20, &[told])));
+        }
+        bytes[0] = 13;
+        bytes[4..8].copy_from_slice(&u32::MAX.to_ne_bytes());
+        assert_eq!(reply(2, bytes), Err(Refusal::new(21, &[u32::MAX])));
     }
 
     #[test]
@@ -248,5 +358,9 @@ mod tests {
         assert_eq!(packed(&Err(Refusal::new(1, &[0]))), 1);
         assert_eq!(packed(&Err(Refusal::new(12, &[33_558_593]))), 33_558_593 << 8 | 12);
         assert_eq!(packed(&Err(Refusal::new(10, &[63, 1_023]))), 1_023 << 40 | 63 << 8 | 10);
+        assert_eq!(packed_reply(&Ok(true)), 1 << 8);
+        assert_eq!(packed_reply(&Ok(false)), 0);
+        assert_eq!(packed_reply(&Err(Refusal::new(20, &[u32::MAX]))), 0xff_ffff_ff14);
+        assert_eq!(packed_reply(&Err(Refusal::new(21, &[7]))), 7 << 8 | 21);
     }
 }

@@ -1,6 +1,6 @@
 //! The routes: the proved functions on bytes, the proved functions on words, and this implementation, in one process,
-//! on the same books and schedules; or the bench's anchor in the place of the proved ones. Buffers are full of marks
-//! before a call; answers, and every byte and every word afterwards, have to be the same on all three.
+//! on the same books, schedules and questions; or the bench's anchor in the place of the proved ones. Buffers are full of
+//! marks before a call; answers, and every byte and every word afterwards, have to be the same on all three.
 
 mod tally;
 mod trial;
@@ -9,7 +9,7 @@ use crate::book::Refusal;
 use crate::bytes;
 use crate::files;
 use crate::lean;
-use crate::library::{packed, Library};
+use crate::library::{packed, packed_reply, Library};
 use crate::random::Random;
 use crate::words;
 use std::io::Write;
@@ -19,7 +19,7 @@ use std::sync::atomic::{AtomicUsize, Ordering};
 use std::thread;
 use tally::Tally;
 pub use trial::Trials;
-use trial::{Room, Trial};
+use trial::{Asked, Room, Trial};
 
 /// As a thread has it that nobody thought about: the proved code runs on it.
 const STACK: usize = 2 << 20;
@@ -29,6 +29,7 @@ const GUARD: usize = 16;
 const TOLD: usize = 10;
 
 type Answer = Result<usize, Refusal>;
+type Reply = Result<bool, Refusal>;
 
 /// What is compared with this implementation: functions on words and on bytes; those on bytes answer with one packed
 /// number.
@@ -37,6 +38,17 @@ pub trait Side: Sync {
     fn rehearse(&self, book: &[u32], schedule: &[u32], out: &mut [u32]) -> Answer;
     fn translate_bytes(&self, book: &[u8], out: &mut [u8]) -> u64;
     fn rehearse_bytes(&self, book: &[u8], schedule: &[u8], out: &mut [u8]) -> u64;
+
+    /// Its functions of summaries, where it has some.
+    fn summaries(&self) -> Option<&dyn Summaries>;
+}
+
+/// The functions of summaries, on words and on bytes. A question is the numbers of a party, a row and a step.
+pub trait Summaries {
+    fn write(&self, book: &[u32], out: &mut [u32]) -> Answer;
+    fn ask(&self, summary: &[u32], question: [u32; 3]) -> Reply;
+    fn write_bytes(&self, book: &[u8], out: &mut [u8]) -> u64;
+    fn ask_bytes(&self, summary: &[u8], question: [u32; 3]) -> u64;
 }
 
 impl Side for Library {
@@ -55,6 +67,28 @@ impl Side for Library {
     fn rehearse_bytes(&self, book: &[u8], schedule: &[u8], out: &mut [u8]) -> u64 {
         self.rehearse_bytes(book, schedule, out)
     }
+
+    fn summaries(&self) -> Option<&dyn Summaries> {
+        Some(self)
+    }
+}
+
+impl Summaries for Library {
+    fn write(&self, book: &[u32], out: &mut [u32]) -> Answer {
+        self.write_summary(book, out)
+    }
+
+    fn ask(&self, summary: &[u32], question: [u32; 3]) -> Reply {
+        self.ask(summary, question)
+    }
+
+    fn write_bytes(&self, book: &[u8], out: &mut [u8]) -> u64 {
+        self.summary_bytes(book, out)
+    }
+
+    fn ask_bytes(&self, summary: &[u8], question: [u32; 3]) -> u64 {
+        self.ask_bytes(summary, question)
+    }
 }
 
 /// Compares the routes of a library over the books of some folders and over random ones; whether nothing differs.
@@ -63,7 +97,7 @@ pub fn run(library: &Path, seed: u64, count: usize, folders: &[PathBuf], out: &m
     let missing = proved.missing();
     if !missing.is_empty() {
         let missing = format!("it has no {}", missing.join(", no "));
-        let advice = "`host/library shared shelf editor` makes a library with all four";
+        let advice = "`host/library shared shelf editor` makes a library with all of them";
         return Err(files::told(library, format!("{missing}; {advice}")));
     }
     let trials = Trials::new(folders, seed, count)?.with_long();
@@ -102,6 +136,11 @@ impl Side for Lean {
             lean::rehearse(&words::of_bytes(book)?, &words::of_bytes(schedule)?, out)
         })
     }
+
+    /// The anchor is there for translation and rehearsal alone.
+    fn summaries(&self) -> Option<&dyn Summaries> {
+        None
+    }
 }
 
 /// Compares the anchor over the books of some folders and over random ones; whether nothing differs.
@@ -117,10 +156,8 @@ pub fn over(side: &impl Side, trials: &Trials, keep: &Path, out: &mut dyn Write)
     let (tally, mut differences) = work(side, trials)?;
     differences.sort_by_key(|(number, _)| *number);
     for (number, difference) in differences.iter().take(TOLD) {
-        say(&format!(
-            "{difference}\n  {}",
-            kept(&trials.at(*number), trials.seed, keep)?
-        ))?;
+        say(&difference.told)?;
+        say(&kept(&trials.at(*number), difference, trials.seed, keep)?)?;
     }
     if differences.len() > TOLD {
         say(&format!("and {} more", differences.len() - TOLD))?;
@@ -129,17 +166,30 @@ pub fn over(side: &impl Side, trials: &Trials, keep: &Path, out: &mut dyn Write)
     Ok(differences.is_empty())
 }
 
-/// The files of a trial in which the routes differ, written for a closer look, and where they are.
-fn kept(trial: &Trial, seed: u64, folder: &Path) -> Result<String, String> {
-    let name = trial.name.replace(|letter: char| !letter.is_ascii_alphanumeric(), "-");
-    let file = |what: &str| folder.join(format!("routes-{seed}-{name}.{what}"));
-    let (book, schedule) = (file("book"), file("schedule"));
-    files::write(&book, &trial.book)?;
-    files::write(&schedule, &trial.schedule)?;
-    Ok(format!("kept: {} {}", book.display(), schedule.display()))
+/// What differs, in words, and the summary that was asked about, where one was.
+struct Difference {
+    told: String,
+    summary: Option<Vec<u8>>,
 }
 
-type Differences = Vec<(usize, String)>;
+type Differences = Vec<(usize, Difference)>;
+
+/// The files of a trial in which the routes differ, written for a closer look, and where they are.
+fn kept(trial: &Trial, difference: &Difference, seed: u64, folder: &Path) -> Result<String, String> {
+    let name = trial.name.replace(|letter: char| !letter.is_ascii_alphanumeric(), "-");
+    let mut told = String::from("  kept:");
+    let mut keep = |what: &str, bytes: &[u8]| {
+        let file = folder.join(format!("routes-{seed}-{name}.{what}"));
+        told += &format!(" {}", file.display());
+        files::write(&file, bytes)
+    };
+    keep("book", &trial.book)?;
+    keep("schedule", &trial.schedule)?;
+    if let Some(summary) = &difference.summary {
+        keep("summary", summary)?;
+    }
+    Ok(told)
+}
 
 /// All trials, by as many workers as the machine has processors.
 fn work(side: &impl Side, trials: &Trials) -> Result<(Tally, Differences), String> {
@@ -170,9 +220,27 @@ fn work(side: &impl Side, trials: &Trials) -> Result<(Tally, Differences), Strin
     })
 }
 
-/// Both functions on one trial, in each of its rooms; the first difference.
-fn compare(side: &impl Side, mut trial: Trial, marks: &mut Marks, tally: &mut Tally) -> Result<(), String> {
+/// All functions on one trial, in each of its rooms; the first difference.
+fn compare(side: &impl Side, mut trial: Trial, marks: &mut Marks, tally: &mut Tally) -> Result<(), Difference> {
     tally.trial(&trial);
+    outputs(side, &mut trial, marks, tally).map_err(|told| Difference { told, summary: None })?;
+    let Some(side) = side.summaries() else {
+        return Ok(());
+    };
+    let summary = bytes::summary(&trial.book);
+    written(side, &summary, &mut trial, marks, tally).map_err(|told| Difference { told, summary: None })?;
+    for asked in trial.questions(summary.as_deref().ok()) {
+        let answer = answered(side, &asked).map_err(|told| Difference {
+            told: format!("{}, {asked}: {told}", trial.name),
+            summary: Some(asked.summary.clone()),
+        })?;
+        tally.question(&asked, answer);
+    }
+    Ok(())
+}
+
+/// Translation and rehearsal.
+fn outputs(side: &impl Side, trial: &mut Trial, marks: &mut Marks, tally: &mut Tally) -> Result<(), String> {
     let (book, schedule) = (words::of_bytes(&trial.book).ok(), words::of_bytes(&trial.schedule).ok());
 
     let listing = bytes::listing(&trial.book);
@@ -194,6 +262,37 @@ fn compare(side: &impl Side, mut trial: Trial, marks: &mut Marks, tally: &mut Ta
         tally.call("rehearse", answer, room);
     }
     Ok(())
+}
+
+/// The summary of a trial's book.
+fn written(
+    side: &dyn Summaries,
+    summary: &Result<Vec<u32>, Refusal>,
+    trial: &mut Trial,
+    marks: &mut Marks,
+    tally: &mut Tally,
+) -> Result<(), String> {
+    let book = words::of_bytes(&trial.book).ok();
+    for room in trial.rooms(summary.as_ref().ok().map(Vec::len)) {
+        let on_bytes = |out: &mut [u8]| side.write_bytes(&trial.book, out);
+        let on_words = (book.as_ref()).map(|book| |out: &mut [u32]| side.write(book, out));
+        let answer = call(summary, room, marks, on_bytes, on_words);
+        let answer = answer.map_err(|told| format!("{}, summary, {room}: {told}", trial.name))?;
+        tally.call("summary", answer, room);
+    }
+    Ok(())
+}
+
+/// One question on each route, where bytes are words on the one on words too: the answer, or what differs.
+fn answered(side: &dyn Summaries, asked: &Asked) -> Result<u64, String> {
+    let [party, row, step] = asked.numbers;
+    let answer = packed_reply(&bytes::ask(&asked.summary, party, row, step));
+    same_reply("bytes", side.ask_bytes(&asked.summary, asked.numbers), answer)?;
+    if let Ok(summary) = words::of_bytes(&asked.summary) {
+        let found = packed_reply(&side.ask(&summary, asked.numbers));
+        same_reply("words", found, answer)?;
+    }
+    Ok(answer)
 }
 
 /// One call on each route, where bytes are words on the one on words too: the answer, or what differs.
@@ -236,10 +335,18 @@ fn call(
 }
 
 fn same_answer(route: &str, found: u64, expected: u64) -> Result<(), String> {
+    same(route, found, expected, tally::answer)
+}
+
+fn same_reply(route: &str, found: u64, expected: u64) -> Result<(), String> {
+    same(route, found, expected, tally::reply)
+}
+
+fn same(route: &str, found: u64, expected: u64, told: fn(u64) -> String) -> Result<(), String> {
     if found == expected {
         return Ok(());
     }
-    let (found, expected) = (tally::answer(found), tally::answer(expected));
+    let (found, expected) = (told(found), told(expected));
     Err(format!("on {route} the answer is {found}, the host's is {expected}"))
 }
 

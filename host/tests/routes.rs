@@ -2,13 +2,14 @@
 
 mod common;
 
-use common::{complains, top, Folder};
+use common::{complains, top, Folder, EXAMPLE_1};
 use host::book::Refusal;
-use host::library::packed;
-use host::routes::{self, Side, Trials};
-use host::{bytes, rehearse, translate};
+use host::library::{packed, packed_reply};
+use host::routes::{self, Side, Summaries, Trials};
+use host::{bytes, rehearse, summary, translate, words};
 
 type Answer = Result<usize, Refusal>;
+type Reply = Result<bool, Refusal>;
 
 /// The host in the place of the proved code, with one thing wrong on bytes or on words.
 #[derive(Clone, Copy, PartialEq, Debug)]
@@ -28,6 +29,18 @@ enum Fake {
     NoRehearsal,
     WordsPastTheOutput,
     WordsAnswer,
+    NeverIsTheLastStep,
+    BuildableForHeld,
+    SummaryBytesShort,
+    AtMostTheStep,
+    StrideOfParties,
+    RangeBeforeLength,
+    LengthInBytes,
+    NarrowProduct,
+    LastNumberFirst,
+    StepMayBeL,
+    OddSummaryLetPass,
+    NoOnBytes,
 }
 
 fn whole(bytes: &[u8]) -> &[u8] {
@@ -66,7 +79,85 @@ impl Fake {
     }
 }
 
+/// A question's answer by words of the right length, with numbers in range.
+fn by_words(summary: &[u32], [party, row, step]: [u32; 3], stride: u32, after: u32) -> Reply {
+    let at = 3 + party as usize * stride as usize + row as usize;
+    Ok(summary.get(at).is_some_and(|word| *word < step + after))
+}
+
+impl Summaries for Fake {
+    fn write(&self, book: &[u32], out: &mut [u32]) -> Answer {
+        let length = summary::write(book, out)?;
+        let steps = out[2];
+        match self {
+            Fake::NeverIsTheLastStep => out[3..length]
+                .iter_mut()
+                .filter(|word| **word > steps)
+                .for_each(|word| *word = steps),
+            Fake::BuildableForHeld => {
+                let whole = host::book::read(book)?;
+                let walk = translate::Translation::start(&whole);
+                for (at, word) in out[3..length].iter_mut().enumerate() {
+                    let (party, row) = (at / whole.rows.len(), at % whole.rows.len());
+                    if walk.dictionary(party as u32).image(&walk.terms[row]).is_some() {
+                        *word = 0;
+                    }
+                }
+            }
+            _ => (),
+        }
+        Ok(length)
+    }
+
+    fn ask(&self, summary: &[u32], numbers: [u32; 3]) -> Reply {
+        let [party, row, step] = numbers;
+        let right = summary::ask(summary, party, row, step);
+        let count = |at: usize| summary.get(at).copied().unwrap_or(0);
+        let (parties, rows, steps) = (count(0), count(1), count(2));
+        match (self, &right) {
+            (Fake::AtMostTheStep, Ok(_)) => by_words(summary, numbers, rows, 1),
+            (Fake::StrideOfParties, Ok(_)) => by_words(summary, numbers, parties, 2),
+            (Fake::RangeBeforeLength, Err(_)) if summary.len() > 2 && party >= parties => {
+                Err(Refusal::new(21, &[party]))
+            }
+            (Fake::LengthInBytes, Err(Refusal { number: 20, place })) => Err(Refusal::new(20, &[4 * place[0]])),
+            (Fake::NarrowProduct, Err(Refusal { number: 20, .. }))
+                if summary.len() as u32 == parties.wrapping_mul(rows).wrapping_add(3) =>
+            {
+                Ok(true)
+            }
+            (Fake::LastNumberFirst, Err(Refusal { number: 21, .. })) if step >= steps => Err(Refusal::new(21, &[step])),
+            (Fake::StepMayBeL, Err(Refusal { number: 21, place })) if *place == [steps] && row < rows => Ok(true),
+            _ => right,
+        }
+    }
+
+    fn write_bytes(&self, book: &[u8], out: &mut [u8]) -> u64 {
+        let room = match self {
+            Fake::SummaryBytesShort => out.len().saturating_sub(1),
+            _ => out.len(),
+        };
+        let answer = bytes::write_summary(book, &mut out[..room]);
+        self.spoil(answer, out)
+    }
+
+    fn ask_bytes(&self, summary: &[u8], [party, row, step]: [u32; 3]) -> u64 {
+        let summary = match self {
+            Fake::OddSummaryLetPass => whole(summary),
+            _ => summary,
+        };
+        match (self, bytes::ask(summary, party, row, step)) {
+            (Fake::NoOnBytes, Ok(_)) => 0,
+            (_, right) => packed_reply(&right),
+        }
+    }
+}
+
 impl Side for Fake {
+    fn summaries(&self) -> Option<&dyn Summaries> {
+        Some(self)
+    }
+
     fn translate(&self, book: &[u32], out: &mut [u32]) -> Answer {
         let answer = translate::translate(book, out);
         match (self, &answer) {
@@ -134,8 +225,19 @@ fn right_and_wrong_ones() {
     for met in met
         .iter()
         .chain(&["exact", "one short", "no room", "3 spare", "accepted"])
+        .chain(&["the book's summary", "another summary", "odd summary"])
     {
         assert!(text.contains(&format!("{met}: ")), "{met}: {text}");
+    }
+    let line = |function: &str| text.lines().find(|line| line.starts_with(function)).expect("a line");
+    for number in (1..=10).chain([12]) {
+        assert!(
+            line("summary: ").contains(&format!("refused {number}: ")),
+            "{number}: {text}"
+        );
+    }
+    for kind in ["yes", "no", "refused 1", "refused 20", "refused 21"] {
+        assert!(line("ask: ").contains(&format!("{kind}: ")), "{kind}: {text}");
     }
     assert!(keep.names().is_empty());
 
@@ -154,9 +256,24 @@ fn right_and_wrong_ones() {
         Fake::NoRehearsal,
         Fake::WordsPastTheOutput,
         Fake::WordsAnswer,
+        Fake::NeverIsTheLastStep,
+        Fake::BuildableForHeld,
+        Fake::SummaryBytesShort,
+        Fake::AtMostTheStep,
+        Fake::StrideOfParties,
+        Fake::RangeBeforeLength,
+        Fake::LengthInBytes,
+        Fake::LastNumberFirst,
+        Fake::OddSummaryLetPass,
+        Fake::NoOnBytes,
     ] {
         let (same, text) = told(fake, &few, &keep);
         assert!(!same && text.contains("  kept: "), "{fake:?}: {text}");
+    }
+    // What only few questions show.
+    for fake in [Fake::NarrowProduct, Fake::StepMayBeL] {
+        let (same, text) = told(fake, &random, &keep);
+        assert!(!same && text.contains(", ask "), "{fake:?}: {text}");
     }
     // What was kept are the bytes of a trial.
     let names = keep.names();
@@ -164,6 +281,29 @@ fn right_and_wrong_ones() {
         .iter()
         .any(|name| name.starts_with("routes-3-random-") && name.ends_with(".book")));
     assert!(names.iter().any(|name| name.ends_with(".schedule")));
+    assert!(names.iter().any(|name| name.ends_with(".summary")));
+}
+
+/// What is told of a question, and the summary that it was about.
+#[test]
+fn a_question_is_told() {
+    let keep = Folder::new("routes-question");
+    let books = Folder::new("routes-question-books");
+    books.file("1.book", words::to_bytes(&EXAMPLE_1));
+    let trials = Trials::new(&[books.at().to_path_buf()], 1, 0).expect("the book");
+    let (same, text) = told(Fake::NoOnBytes, &trials, &keep);
+    assert!(
+        !same && text.contains("on bytes the answer is no, the host's is yes"),
+        "{text}"
+    );
+    let asked = text
+        .lines()
+        .find(|line| line.starts_with("1, schedule 0, ask "))
+        .expect("a line");
+    assert!(asked.contains(" bytes ("), "{asked}");
+    let kept = keep.read("routes-1-1--schedule-0.summary");
+    assert!(asked.contains(&format!(" of {} bytes", kept.len())), "{asked}");
+    assert_eq!(keep.read("routes-1-1--schedule-0.book"), words::to_bytes(&EXAMPLE_1));
 }
 
 #[test]
@@ -208,6 +348,10 @@ fn another_library() {
         "rehearsal::rehearse",
         "nghiralum_translate",
         "nghiralum_rehearse",
+        "summary::write_summary",
+        "summary::ask",
+        "nghiralum_summary",
+        "nghiralum_ask",
     ] {
         assert!(told.contains(&format!("no {name}")), "{told}");
     }

@@ -1,18 +1,38 @@
 //! What was met while the routes were compared, counted and told: answers by their kind, and everything that a call on
 //! bytes may have which one on words has not.
 
-use super::trial::{Room, Trial};
+use super::trial::{Asked, Room, Trial};
 use crate::book;
 use crate::rehearse::MOST_MOVES;
 use std::collections::BTreeMap;
+use std::fmt;
 
 #[derive(Default)]
 pub struct Tally {
     trials: usize,
     calls: usize,
-    /// By function and the answer's number.
-    answers: BTreeMap<(&'static str, u64), usize>,
+    answers: BTreeMap<(&'static str, Kind), usize>,
     met: BTreeMap<&'static str, usize>,
+}
+
+/// A kind of answer: a refusal by its number.
+#[derive(Clone, Copy, PartialEq, Eq, PartialOrd, Ord)]
+enum Kind {
+    Accepted,
+    Yes,
+    No,
+    Refused(u64),
+}
+
+impl fmt::Display for Kind {
+    fn fmt(&self, out: &mut fmt::Formatter<'_>) -> fmt::Result {
+        match self {
+            Kind::Accepted => out.write_str("accepted"),
+            Kind::Yes => out.write_str("yes"),
+            Kind::No => out.write_str("no"),
+            Kind::Refused(number) => write!(out, "refused {number}"),
+        }
+    }
 }
 
 impl Tally {
@@ -29,11 +49,34 @@ impl Tally {
 
     /// A call in one room, and its packed answer.
     pub fn call(&mut self, function: &'static str, answer: u64, room: Room) {
-        self.calls += 1;
-        *self.answers.entry((function, answer & 0xff)).or_default() += 1;
+        self.answer(
+            function,
+            match answer & 0xff {
+                0 => Kind::Accepted,
+                number => Kind::Refused(number),
+            },
+        );
         let spare = ["no spare byte", "1 spare", "2 spare", "3 spare"];
         self.meet(true, spare[room.bytes % 4]);
         self.meet(true, room.kind);
+    }
+
+    /// A question, and its packed answer.
+    pub fn question(&mut self, asked: &Asked, answer: u64) {
+        self.answer(
+            "ask",
+            match (answer & 0xff, answer >> 8) {
+                (0, 0) => Kind::No,
+                (0, _) => Kind::Yes,
+                (number, _) => Kind::Refused(number),
+            },
+        );
+        self.meet(true, asked.kind);
+    }
+
+    fn answer(&mut self, function: &'static str, kind: Kind) {
+        self.calls += 1;
+        *self.answers.entry((function, kind)).or_default() += 1;
     }
 
     fn meet(&mut self, met: bool, what: &'static str) {
@@ -53,13 +96,15 @@ impl Tally {
         }
     }
 
-    /// Four lines: the functions' answers, what was met, and last how many differences there are.
+    /// A line for the answers of each function that was called, what was met, and last how many differences there are.
     pub fn told(&self, differences: usize) -> String {
         let mut lines = Vec::new();
-        for function in ["translate", "rehearse"] {
+        for function in ["translate", "rehearse", "summary", "ask"] {
             let own = self.answers.iter().filter(|((name, _), _)| *name == function);
-            let told: Vec<String> = own.map(|((_, number), count)| kind(*number, *count)).collect();
-            lines.push(format!("{function}: {}", told.join(", ")));
+            let told: Vec<String> = own.map(|((_, kind), count)| format!("{kind}: {count}")).collect();
+            if !told.is_empty() {
+                lines.push(format!("{function}: {}", told.join(", ")));
+            }
         }
         let met: Vec<String> = (self.met.iter())
             .map(|(what, count)| format!("{what}: {count}"))
@@ -73,13 +118,6 @@ impl Tally {
     }
 }
 
-fn kind(number: u64, count: usize) -> String {
-    match number {
-        0 => format!("accepted: {count}"),
-        number => format!("refused {number}: {count}"),
-    }
-}
-
 /// A packed answer in words.
 pub fn answer(packed: u64) -> String {
     let (number, first, second) = (packed & 0xff, packed >> 8 & 0xffff_ffff, packed >> 40);
@@ -87,5 +125,15 @@ pub fn answer(packed: u64) -> String {
         (0, 0) => format!("{first} words"),
         (_, 0) => format!("refused {number} {first}"),
         _ => format!("refused {number} {first} {second}"),
+    }
+}
+
+/// A packed answer to a question in words.
+pub fn reply(packed: u64) -> String {
+    match (packed & 0xff, packed >> 8) {
+        (0, 0) => String::from("no"),
+        (0, 1) => String::from("yes"),
+        (0, other) => format!("{other}, neither yes nor no"),
+        _ => answer(packed),
     }
 }

@@ -1,10 +1,12 @@
-//! What the routes are tried on: a book and a schedule of any bytes, and how many bytes are lent for the output.
+//! What the routes are tried on: a book and a schedule of any bytes, how many bytes are lent for the output, and questions
+//! about summaries.
 
 use crate::book::{Book, Party, Row, Step, ATOM, LONGEST, OPERATION};
 use crate::files;
 use crate::random::{self, Random};
 use crate::rehearse::MOST_MOVES;
 use crate::shelf;
+use crate::summary::HEAD;
 use crate::words;
 use std::fmt;
 use std::path::{Path, PathBuf};
@@ -33,6 +35,30 @@ impl fmt::Display for Room {
         write!(out, "{} bytes lent ({})", self.bytes, self.kind)
     }
 }
+
+/// A question: the bytes of a summary, the numbers of a party, a row and a step, and which summary it is.
+pub struct Asked {
+    pub summary: Vec<u8>,
+    pub numbers: [u32; 3],
+    pub kind: &'static str,
+}
+
+impl fmt::Display for Asked {
+    fn fmt(&self, out: &mut fmt::Formatter<'_>) -> fmt::Result {
+        let [party, row, step] = self.numbers;
+        write!(
+            out,
+            "ask {party} {row} {step} of {} bytes ({})",
+            self.summary.len(),
+            self.kind
+        )
+    }
+}
+
+/// So many questions are asked at random.
+const QUESTIONS: usize = 4;
+/// A summary with no more words is asked about every row of every party, where all is tried.
+const SMALL: usize = 400;
 
 impl Trial {
     fn new(name: String, book: Vec<u8>, schedule: Vec<u8>) -> Trial {
@@ -88,6 +114,33 @@ impl Trial {
         all.flat_map(|(kind, words)| self.spared(kind, words)).collect()
     }
 
+    /// Questions about the summary of the book, where it has one: some at random, about it and about others; and where all
+    /// is tried, about every row of every party, on both sides of where the answer turns.
+    pub fn questions(&mut self, summary: Option<&[u32]>) -> Vec<Asked> {
+        let mut all: Vec<Asked> = (0..QUESTIONS).map(|_| self.question(summary)).collect();
+        let small = summary.filter(|summary| self.every && summary.len() <= SMALL);
+        all.extend(small.into_iter().flat_map(turns));
+        all
+    }
+
+    /// A question at random, now and then about odd bytes.
+    fn question(&mut self, right: Option<&[u32]>) -> Asked {
+        let question = random::question(&mut self.random, right);
+        let mut asked = Asked {
+            kind: match right.is_some_and(|right| right == question.summary) {
+                true => "the book's summary",
+                false => "another summary",
+            },
+            summary: words::to_bytes(&question.summary),
+            numbers: question.numbers,
+        };
+        if self.random.percent(8) {
+            make_odd(&mut self.random, &mut asked.summary);
+            asked.kind = "odd summary";
+        }
+        asked
+    }
+
     /// Room for so many words, with up to three spare bytes behind them: one count of these, or each.
     fn spared(&mut self, kind: &'static str, words: usize) -> Vec<Room> {
         let spares: Vec<usize> = if self.every {
@@ -102,6 +155,21 @@ impl Trial {
         };
         spares.into_iter().map(room).collect()
     }
+}
+
+/// About every row of every party: after the step from which on it is held, and after the one before.
+fn turns(summary: &[u32]) -> impl Iterator<Item = Asked> + '_ {
+    let (rows, steps) = (summary[1], summary[2]);
+    let bytes = words::to_bytes(summary);
+    (0..).zip(&summary[HEAD..]).flat_map(move |(at, word): (u32, &u32)| {
+        let turn = word.saturating_sub(1).min(steps);
+        let bytes = bytes.clone();
+        [turn.saturating_sub(1), turn].map(move |step| Asked {
+            summary: bytes.clone(),
+            numbers: [at / rows, at % rows, step],
+            kind: "the book's summary",
+        })
+    })
 }
 
 /// The parties that a book's bytes say there are.

@@ -1,10 +1,17 @@
-/* Nghiralum's translator and rehearsal on bytes, as the proved library has them. Words are four bytes, low byte first.
+/* Nghiralum's translator, rehearsal and summaries on bytes, as the proved library has them. Words are four bytes, low
+ * byte first.
  *
  * Any bytes may be handed in. The answer is one number: its lowest byte is 0 where there is an output, else the
  * refusal's number; the next four bytes are the output's length in words, or the refusal's place (of refusal 12 the
- * words needed); the highest three are the row of refusal 10, whose place is the step. A length that is no multiple of
- * four, of a book or of a schedule, is refusal 1. On a refusal no byte of `out` is written, else only the output's; up
- * to three bytes at the end of `out` that are no whole word stay in any case.
+ * words needed, of 20 the words handed in, at most 4,294,967,295, of 21 the number that is out of range); the highest
+ * three are the row of refusal 10, whose place is the step. A length that is no multiple of four, of a book, of a
+ * schedule or of a summary, is refusal 1. On a refusal no byte of `out` is written, else only the output's; up to three
+ * bytes at the end of `out` that are no whole word stay in any case.
+ *
+ * `nghiralum_summary` writes a book's summary: the counts of parties, of rows and of steps, and then for each party and
+ * row 0 if it is given at the start, s+1 if the party holds it from step s on, and the count of steps and 1 if never.
+ * `nghiralum_ask` answers from a summary alone whether the party held the row after the step: where it is not refused,
+ * the four bytes above the lowest are 1 for yes and 0 for no.
  *
  * Slices may begin anywhere, also at no word's start; `out` lies apart from the others. A pointer is not looked at
  * where its length is 0. A call takes less than 2 MB of stack, and no heap. */
@@ -21,6 +28,8 @@ extern "C" {
 uint64_t nghiralum_translate(const uint8_t *book, size_t book_len, uint8_t *out, size_t out_len);
 uint64_t nghiralum_rehearse(const uint8_t *book, size_t book_len, const uint8_t *schedule, size_t schedule_len,
                             uint8_t *out, size_t out_len);
+uint64_t nghiralum_summary(const uint8_t *book, size_t book_len, uint8_t *out, size_t out_len);
+uint64_t nghiralum_ask(const uint8_t *summary, size_t summary_len, uint32_t party, uint32_t row, uint32_t step);
 
 #ifdef __cplusplus
 }

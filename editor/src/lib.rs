@@ -1,11 +1,12 @@
-//! Nghiralum's translator and rehearsal, called on plain byte slices.
+//! Nghiralum's translator, rehearsal and summaries, called on plain byte slices.
 //!
 //! A *book* holds the narration of a handshake: rows, parties, steps and a pool, as words of 32 bits, four bytes each,
 //! low byte first. [`translate`] turns it into a *listing*, one program per party; [`rehearse`] plays these programs
-//! under a *schedule*, a row of party numbers, and counts the events that each party has done. The repository's README
+//! under a *schedule*, a row of party numbers, and counts the events that each party has done. [`write_summary`] writes
+//! a *summary*, who held what since when, and [`held_after`] answers questions from it alone. The repository's README
 //! describes books, listings and refusals.
 //!
-//! Both are proved in Rattle, and this package only hands slices over: for any bytes whatever a call ends with the
+//! All are proved in Rattle, and this package only hands slices over: for any bytes whatever a call ends with the
 //! output or with one [`Refusal`], writes nothing but the output, and on a refusal nothing at all. No call panics.
 //!
 //! ```
@@ -21,6 +22,10 @@
 //! let length = nghiralum::rehearse(&book, &schedule, &mut done).expect("room for two parties");
 //! assert_eq!(done[..length], [1, 0, 0, 0, 2, 0, 0, 0]); // one event by party 0, two by party 1
 //!
+//! // Did party 0 hold row 3 after step 0?
+//! let summary = nghiralum::summary(&book).expect("it can be played");
+//! assert_eq!(nghiralum::held_after(&summary, 0, 3, 0), Ok(true));
+//!
 //! let refusal = nghiralum::listing(&book[..50]).expect_err("no whole words");
 //! assert_eq!((refusal.number(), refusal.place()), (1, 0));
 //! ```
@@ -33,7 +38,7 @@
 //!
 //! # Stack
 //!
-//! No heap is used but for [`listing`]'s own vector. The deepest books take less than 2 MB of stack, which is what
+//! No heap is used but for the vectors of [`listing`] and [`summary`]. The deepest books take less than 2 MB of stack, which is what
 //! Rust gives a thread by default and is tested; on a thread with less, a deep book can end the process, as any
 //! recursion does that finds no stack.
 
@@ -54,6 +59,8 @@ unsafe extern "C" {
         out: *mut u8,
         out_len: usize,
     ) -> u64;
+    fn nghiralum_summary(book: *const u8, book_len: usize, out: *mut u8, out_len: usize) -> u64;
+    fn nghiralum_ask(summary: *const u8, summary_len: usize, party: u32, row: u32, step: u32) -> u64;
 }
 
 /// Translates a book: its listing stands in the first bytes of `out`, and the answer is the listing's length in bytes.
@@ -114,6 +121,68 @@ pub fn rehearse(book: &[u8], schedule: &[u8], out: &mut [u8]) -> Result<usize, R
     refusal::unpack(answer)
 }
 
+/// Writes a book's summary, who held what since when: it stands in the first bytes of `out`, and the answer is its
+/// length in bytes.
+///
+/// A summary is words like a book: the counts of parties, of rows and of steps, and then for each party and each row 0
+/// if the party was given the row at the start, s + 1 if it holds it from step s on, and the count of steps and 1 if it
+/// never does. To hold a row is more than to be able to build it. Bytes of `out` past the summary stay as they were.
+/// There are at most 16,387 words, so 65,548 bytes are always room enough; [`summary`] takes as much as is needed.
+///
+/// # Errors
+///
+/// The first of refusals 1 to 10 and 12 that applies; a book whose length is no multiple of four bytes is refusal 1. All
+/// of `out` is as it was then.
+///
+/// ```
+/// let book = std::fs::read("../books/example-1.book").expect("a book");
+/// let mut out = vec![0xff; 65_548];
+///
+/// let length = nghiralum::write_summary(&book, &mut out).expect("a summary");
+/// let words: Vec<u32> = (out[..length].chunks_exact(4))
+///     .map(|word| u32::from_le_bytes([word[0], word[1], word[2], word[3]]))
+///     .collect();
+/// assert_eq!(words[..3], [2, 5, 2]); // two parties, five rows, two steps
+/// assert_eq!(words[3..8], [0, 0, 0, 1, 3]); // party 0: three rows from the start, row 3 from step 0 on, row 4 never
+/// assert_eq!(out[length], 0xff);
+///
+/// let refusal = nghiralum::write_summary(&book, &mut out[..51]).expect_err("twelve words and three bytes");
+/// assert_eq!((refusal.number(), refusal.place()), (12, 13));
+/// ```
+pub fn write_summary(book: &[u8], out: &mut [u8]) -> Result<usize, Refusal> {
+    // SAFETY: as in `translate`.
+    let answer = unsafe { nghiralum_summary(book.as_ptr(), book.len(), out.as_mut_ptr(), out.len()) };
+    refusal::unpack(answer)
+}
+
+/// Whether a party held a row after a step, by a summary alone: the book isn't asked for.
+///
+/// Parties, rows and steps count from 0. For a summary that [`write_summary`] wrote, the answer is that of the whole walk
+/// through the book; any other bytes of a summary's length are answered from what they say.
+///
+/// # Errors
+///
+/// Refusal 1 if the length is no multiple of four bytes; then 20 if it is not that of a summary with so many parties and
+/// rows as its first two words say; then 21 if there is no such party, no such row or no such step, with the first
+/// number of the three that is out of range. A book without steps has no questions, so that all are refusal 21.
+///
+/// ```
+/// let book = std::fs::read("../books/example-3.book").expect("a book");
+/// let summary = nghiralum::summary(&book).expect("a summary");
+///
+/// assert_eq!(nghiralum::held_after(&summary, 0, 0, 0), Ok(true)); // its own name
+///
+/// let refusal = nghiralum::held_after(&summary, 99, 0, 0).expect_err("there is no party 99");
+/// assert_eq!((refusal.number(), refusal.place()), (21, 99));
+/// let refusal = nghiralum::held_after(&summary[4..], 0, 0, 0).expect_err("a word is missing");
+/// assert_eq!((refusal.number(), refusal.place() as usize), (20, summary.len() / 4 - 1));
+/// ```
+pub fn held_after(summary: &[u8], party: u32, row: u32, step: u32) -> Result<bool, Refusal> {
+    // SAFETY: as in `translate`; nothing is written.
+    let answer = unsafe { nghiralum_ask(summary.as_ptr(), summary.len(), party, row, step) };
+    refusal::unpack_reply(answer)
+}
+
 /// The listing of a book, in as many bytes as it has.
 ///
 /// The length is asked for first, through refusal 12, so the book is gone through twice. The longest listing of all has
@@ -131,13 +200,39 @@ pub fn rehearse(book: &[u8], schedule: &[u8], out: &mut [u8]) -> Result<usize, R
 /// assert_eq!(words[..5], [2, 5, 19, 24, 27]); // two parties: 19 words from word 5, 27 words from word 24
 /// ```
 pub fn listing(book: &[u8]) -> Result<Vec<u8>, Refusal> {
-    let needed = match translate(book, &mut []) {
+    whole(|out| translate(book, out))
+}
+
+/// The summary of a book, in as many bytes as it has: see [`write_summary`].
+///
+/// The length is asked for first, as for [`listing`].
+///
+/// # Errors
+///
+/// The first of refusals 1 to 10 that applies.
+///
+/// ```
+/// // One row, an atom; one party, named by it, who knows nothing; no steps.
+/// let words = [1u32, 8, 1, 12, 0, 15, 0, 15, 0, 0, 0, 0, 0, 0, 0];
+/// let book: Vec<u8> = words.iter().flat_map(|word| word.to_le_bytes()).collect();
+///
+/// // One party, one row, no step; it never holds the row, not even as its own name.
+/// let summary = nghiralum::summary(&book).expect("a summary");
+/// assert_eq!(summary, [1, 0, 0, 0, 1, 0, 0, 0, 0, 0, 0, 0, 1, 0, 0, 0]);
+/// ```
+pub fn summary(book: &[u8]) -> Result<Vec<u8>, Refusal> {
+    whole(|out| write_summary(book, out))
+}
+
+/// An output in as many bytes as it has, asked for with no room and then with enough.
+fn whole(write: impl Fn(&mut [u8]) -> Result<usize, Refusal>) -> Result<Vec<u8>, Refusal> {
+    let needed = match write(&mut []) {
         Err(refusal) => refusal.bytes_needed().ok_or(refusal)?,
-        // A listing has words, so it never fits into nothing.
+        // An output has words, so it never fits into nothing.
         Ok(length) => length,
     };
-    let mut listing = vec![0; needed];
-    let length = translate(book, &mut listing)?;
-    listing.truncate(length);
-    Ok(listing)
+    let mut output = vec![0; needed];
+    let length = write(&mut output)?;
+    output.truncate(length);
+    Ok(output)
 }

@@ -33,7 +33,9 @@ impl Refusal {
     }
 
     /// Where it is: a word of the header (refusals 2 and 3), a row (4 to 6), a party (7), a step (8 and 10) or a move
-    /// (11), counted from 0; the *words* needed for the output (12); 0 where there is no place (1 and 9).
+    /// (11), counted from 0; the *words* needed for the output (12); the *words* of a summary that has another length
+    /// (20), at most 4,294,967,295; the number in a question that is out of range (21); 0 where there is no place (1 and
+    /// 9).
     pub const fn place(self) -> u32 {
         self.place
     }
@@ -82,6 +84,14 @@ impl Refusal {
             11 if place == MOST_MOVES => out.write_str("the schedule has more than 4,096 moves"),
             11 => write!(out, "move {place} of the schedule names no party"),
             12 => write!(out, "the output has {place} words, and there is room for fewer"),
+            20 => write!(
+                out,
+                "the summary has {place} words, and not 3 and one for each party and row that it says there are"
+            ),
+            21 => write!(
+                out,
+                "the question is out of range: the summary has no party, no row or no step {place}"
+            ),
             _ => write!(out, "one that this version has no sentence for, at {place}"),
         }
     }
@@ -132,6 +142,11 @@ pub(crate) fn unpack(answer: u64) -> Result<usize, Refusal> {
     }
 }
 
+/// What an answer to a question says: where it is no refusal, the four bytes above the lowest are 1 for yes and 0 for no.
+pub(crate) fn unpack_reply(answer: u64) -> Result<bool, Refusal> {
+    unpack(answer).map(|value| value != 0)
+}
+
 #[cfg(test)]
 mod tests {
     use super::*;
@@ -153,6 +168,11 @@ mod tests {
             (room.place(), room.bytes_needed(), room.row()),
             (33_558_593, Some(134_234_372), None)
         );
+        assert_eq!(unpack_reply(0), Ok(false));
+        assert_eq!(unpack_reply(1 << 8), Ok(true));
+        let length = unpack_reply(u64::from(u32::MAX) << 8 | 20).expect_err("a refusal");
+        assert_eq!((length.number(), length.place()), (20, u32::MAX));
+        assert_eq!((length.row(), length.bytes_needed()), (None, None));
     }
 
     /// Every number has a sentence, those too that no version has so far.
@@ -172,6 +192,8 @@ mod tests {
         assert!(refusal(11, 4_095, 0).to_string().contains("move 4095 "));
         assert!(refusal(2, 6, 0).to_string().contains("pool"));
         assert!(refusal(3, 8, 0).to_string().contains("the book's length"));
+        assert!(refusal(20, 12, 0).to_string().contains("has 12 words"));
+        assert!(refusal(21, 65, 0).to_string().ends_with(" 65"));
         for answer in [u64::MAX, u64::MAX - 255, 1 << 63, 0x80] {
             let _ = unpack(answer).map_err(|refusal| refusal.to_string());
         }

@@ -1,7 +1,7 @@
 //! Calls as an editor makes them: on the repository's books, on bytes of any length, into buffers of any length, and
 //! on the stack of a default thread.
 
-use nghiralum::{listing, rehearse, translate, Refusal};
+use nghiralum::{held_after, listing, rehearse, summary, translate, write_summary, Refusal};
 use std::fs;
 use std::path::{Path, PathBuf};
 use std::thread;
@@ -109,6 +109,142 @@ fn room_exact_and_short_with_spare_bytes() {
     }
 }
 
+/// Example 1's summary, worked out by hand: both know rows 0 to 2, and hold row 3 from step 0 on, one as what it made
+/// and one as what came; the cipher, row 4, is built by the one and opened by the other, and held by neither.
+const SUMMARY_1: [u32; 13] = [2, 5, 2, 0, 0, 0, 1, 3, 0, 0, 0, 1, 3];
+
+#[test]
+fn a_summary_in_any_room() {
+    let book = book("example-1.book");
+    let expected = bytes(&SUMMARY_1);
+    assert_eq!(summary(&book), Ok(expected.clone()));
+    for room in 0..=expected.len() + 9 {
+        let mut out = vec![MARK; room];
+        let answer = write_summary(&book, &mut out);
+        if room < expected.len() {
+            assert_eq!(refused(answer), (12, 13, None));
+            assert!(out.iter().all(|byte| *byte == MARK));
+        } else {
+            assert_eq!(answer, Ok(expected.len()));
+            assert!(out[..expected.len()] == expected);
+            assert!(out[expected.len()..].iter().all(|byte| *byte == MARK));
+        }
+    }
+}
+
+#[test]
+fn questions() {
+    let summary = bytes(&SUMMARY_1);
+    for party in 0..2 {
+        for step in 0..2 {
+            let answers = [0, 1, 2, 3, 4].map(|row| held_after(&summary, party, row, step));
+            assert_eq!(answers, [true, true, true, true, false].map(Ok));
+        }
+    }
+    // A word is compared with the step and 1: given at the start, from step 0, 1 and 2 on, and never.
+    let made = bytes(&[1, 5, 3, 0, 1, 2, 3, 4]);
+    for row in 0..5 {
+        for step in 0..3 {
+            assert_eq!(held_after(&made, 0, row, step), Ok(row <= step + 1));
+        }
+    }
+    // The largest words that there are.
+    let largest = bytes(&[1, 1, u32::MAX, u32::MAX]);
+    assert_eq!(held_after(&largest, 0, 0, u32::MAX - 1), Ok(true));
+    assert_eq!(held_after(&largest, 0, 0, u32::MAX - 2), Ok(false));
+}
+
+#[test]
+fn questions_that_are_refused() {
+    let summary = bytes(&SUMMARY_1);
+    // The first number that is out of range, at its bound and at the largest.
+    for (party, row, step, place) in [
+        (2, 5, 3, 2),
+        (1, 5, 3, 5),
+        (1, 4, 3, 3),
+        (1, 4, 2, 2),
+        (u32::MAX, 0, 0, u32::MAX),
+        (0, u32::MAX, 0, u32::MAX),
+        (0, 0, u32::MAX, u32::MAX),
+    ] {
+        assert_eq!(refused(held_after(&summary, party, row, step)), (21, place, None));
+    }
+    // The length comes first; the place is how many words were handed in.
+    for words in 0..13 {
+        assert_eq!(
+            refused(held_after(&summary[..4 * words], 9, 9, 9)),
+            (20, words as u32, None)
+        );
+    }
+    let longer = [&summary[..], &[0; 4]].concat();
+    assert_eq!(refused(held_after(&longer, 0, 0, 0)), (20, 14, None));
+    let most = u32::MAX;
+    for counts in [[most, most], [1 << 16, 1 << 16], [1 << 31, 2], [most, 1], [1, most]] {
+        for rest in 0..4 {
+            let mut words = counts.to_vec();
+            words.resize(3 + rest, 1);
+            assert_eq!(
+                refused(held_after(&bytes(&words), 0, 0, 0)),
+                (20, 3 + rest as u32, None)
+            );
+        }
+    }
+    // Bytes that make no words come before that.
+    for length in (0..summary.len()).filter(|length| length % 4 != 0) {
+        assert_eq!(refused(held_after(&summary[..length], 9, 9, 9)), (1, 0, None));
+    }
+    // Without a step no question is in range.
+    let empty = nghiralum::summary(&bytes(&SMALLEST)).expect("a summary");
+    assert_eq!(words(&empty), [1, 1, 0, 1]);
+    assert_eq!(refused(held_after(&empty, 0, 0, 0)), (21, 0, None));
+    assert_eq!(refused(held_after(&bytes(&[0, 7, 3]), 4, 0, 0)), (21, 4, None));
+}
+
+/// Every book has a summary or the refusal that its listing has. A row that END names, or that is made, is held from a
+/// step on, and nothing else is but what a party knows.
+#[test]
+fn summaries_of_the_shelf() {
+    let mut longest = 0;
+    for file in shelf() {
+        let book = fs::read(&file).expect("a book");
+        let (summary, listing) = match (summary(&book), listing(&book)) {
+            (Ok(summary), Ok(listing)) => (words(&summary), words(&listing)),
+            (summary, listing) => {
+                assert_eq!(summary.err(), listing.err(), "{}", file.display());
+                continue;
+            }
+        };
+        let [parties, rows, steps] = [summary[0], summary[1], summary[2]].map(|count| count as usize);
+        assert_eq!(summary.len(), 3 + parties * rows, "{}", file.display());
+        assert_eq!(parties, listing[0] as usize);
+        assert!(summary[3..].iter().all(|word| *word as usize <= steps + 1));
+        let book = words(&book);
+        for party in 0..parties {
+            let own = &summary[3 + party * rows..][..rows];
+            let record = book[3] as usize + 3 * party;
+            let known = book[7] as usize + book[record + 1] as usize..;
+            let known = &book[known][..book[record + 2] as usize];
+            let given = (0..rows as u32).filter(|row| own[*row as usize] == 0);
+            assert!(given.eq(known.iter().copied()), "{}, party {party}", file.display());
+            // The last of a part are END's pairs.
+            let (offset, count) = (listing[1 + 2 * party] as usize, listing[2 + 2 * party] as usize);
+            let part = &listing[offset..offset + count];
+            let later = own.iter().filter(|word| (1..=steps as u32).contains(*word)).count();
+            let stored = (0..=later).find(|pairs| part[..count - 2 * pairs].ends_with(&[6, *pairs as u32]));
+            let stored = stored.expect("no more are stored than are held");
+            for pair in part[count - 2 * stored..].chunks_exact(2) {
+                assert!(
+                    (1..=steps as u32).contains(&own[pair[0] as usize]),
+                    "{}",
+                    file.display()
+                );
+            }
+        }
+        longest = longest.max(summary.len());
+    }
+    assert_eq!(longest, 16_387);
+}
+
 /// Slices may begin anywhere.
 #[test]
 fn at_any_address() {
@@ -120,6 +256,10 @@ fn at_any_address() {
         let mut out = vec![MARK; shift + listing.len()];
         assert_eq!(translate(&shifted[shift..], &mut out[shift..]), Ok(listing.len()));
         assert!(out[shift..] == listing);
+        let mut shifted = vec![MARK; shift];
+        shifted.extend(bytes(&SUMMARY_1));
+        assert_eq!(held_after(&shifted[shift..], 1, 3, 0), Ok(true));
+        assert_eq!(held_after(&shifted[shift..], 1, 4, 1), Ok(false));
     }
 }
 
@@ -133,6 +273,8 @@ fn odd_lengths_come_before_all_else() {
         for odd_book in [&longer[..], &book[..book.len() - odd], &book[..odd]] {
             assert_eq!(refused(translate(odd_book, &mut [])), one);
             assert_eq!(refused(listing(odd_book)), one);
+            assert_eq!(refused(summary(odd_book)), one);
+            assert_eq!(refused(write_summary(odd_book, &mut [])), one);
             assert_eq!(refused(rehearse(odd_book, &[], &mut [])), one);
             assert_eq!(refused(rehearse(odd_book, &vec![9; odd], &mut [])), one);
         }
@@ -155,6 +297,7 @@ fn books_longer_than_any() {
             let mut longer = book.clone();
             longer.resize(book.len() + 4 * more, 0);
             assert_eq!(refused(listing(&longer)), (3, 8, None), "{name}");
+            assert_eq!(refused(summary(&longer)), (3, 8, None), "{name}");
             assert_eq!(refused(rehearse(&longer, &[], &mut [0; 64])), (3, 8, None), "{name}");
         }
     }
@@ -223,6 +366,7 @@ fn the_deepest_books_on_a_default_thread() {
             let moves: Vec<u32> = (0..4_096).map(|number| number % u32::from(parties)).collect();
             let done = rehearse(&book, &bytes(&moves), &mut [0; 64]);
             assert_eq!(done, Ok(4 * usize::from(parties)), "{}", file.display());
+            assert!(summary(&book).is_ok(), "{}", file.display());
         }
         deep
     };

@@ -16,6 +16,8 @@ const SMALL: usize = 100;
 /// The lent bytes have this in them before.
 const BEFORE: u8 = 7;
 
+/// The functions from here on are of summaries, and are tried in their own way.
+const FIRST_OF_SUMMARIES: usize = 6;
 const TRANSLATE: &Function = &FUNCTIONS[2];
 const WRITE_SUMMARY: &Function = &FUNCTIONS[6];
 const ASK: &Function = &FUNCTIONS[7];
@@ -44,9 +46,9 @@ impl Calls {
                 continue;
             };
             if book.len() <= SMALL {
-                FUNCTIONS[..6]
-                    .iter()
-                    .for_each(|function| calls.try_out(function, &book));
+                for function in &FUNCTIONS[..FIRST_OF_SUMMARIES] {
+                    calls.try_out(function, &book);
+                }
                 let summary = calls.try_summary(&words::to_bytes(&book));
                 first = first.or(summary);
             }

@@ -13,7 +13,7 @@ ghost use Rattle.book.specs.Valid.{Valid};
 ghost use Rattle.book.specs.Layout.{rows as rowsOf, parties as partiesOf, steps as stepsOf, pool as poolOf, field, pooled as pooledAt};
 ghost use Rattle.book.specs.Layout.{kind, tag, rowFirst, rowCount, name, partyFirst, partyCount, sender, receiver, stepFirst, stepCount};
 
-// Why a book, a schedule or a buffer is refused: document 01's table, a case a line.
+// Why a book, a schedule, a buffer, a summary or a question is refused: document 01's table and document 02's lines, a case a line.
 pub enum Refusal {
     Short,
     Count(u32),
@@ -27,6 +27,8 @@ pub enum Refusal {
     Taken(u32, u32),
     Move(u32),
     Room(usize),
+    Summary(usize),
+    Question(u32),
 }
 
 // A refusal as it is told: its number with one value, or with two.
@@ -379,5 +381,7 @@ pub fn told_of(refusal: Refusal) -> Told
         Refusal::Taken(step, row) => Told::Two(10, step as u64, row as u64),
         Refusal::Move(place) => Told::One(11, place as u64),
         Refusal::Room(needed) => Told::One(12, needed as u64),
+        Refusal::Summary(length) => Told::One(20, length as u64),
+        Refusal::Question(number) => Told::One(21, number as u64),
     }
 }

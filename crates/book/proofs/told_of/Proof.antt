@@ -11,26 +11,29 @@ told-of-spec =
     (tie.spec
     (λ c. search needs)  -- enum-told
     (λ c. search needs)  -- enum-known-refusal
-    (λ c. search needs)  -- cast-t14
-    (λ c. search needs)  -- enum-known-refusal-2
-    (λ c. search needs)  -- cast-t15
-    (λ c. search needs)  -- enum-known-refusal-3
     (λ c. search needs)  -- cast-t16
-    (λ c. search needs)  -- enum-known-refusal-4
+    (λ c. search needs)  -- enum-known-refusal-2
     (λ c. search needs)  -- cast-t17
-    (λ c. search needs)  -- enum-known-refusal-5
+    (λ c. search needs)  -- enum-known-refusal-3
     (λ c. search needs)  -- cast-t18
-    (λ c. search needs)  -- enum-known-refusal-6
+    (λ c. search needs)  -- enum-known-refusal-4
     (λ c. search needs)  -- cast-t19
-    (λ c. search needs)  -- enum-known-refusal-7
+    (λ c. search needs)  -- enum-known-refusal-5
     (λ c. search needs)  -- cast-t20
+    (λ c. search needs)  -- enum-known-refusal-6
+    (λ c. search needs)  -- cast-t21
+    (λ c. search needs)  -- enum-known-refusal-7
+    (λ c. search needs)  -- cast-t22
     (λ c. search needs)  -- enum-told-2
     (λ c. search needs)  -- enum-known-refusal-8
-    (λ c. search needs)  -- cast-t21
-    (λ c. search needs)  -- cast-t22
-    (λ c. search needs)  -- enum-known-refusal-9
     (λ c. search needs)  -- cast-t23
+    (λ c. search needs)  -- cast-t24
+    (λ c. search needs)  -- enum-known-refusal-9
+    (λ c. search needs)  -- cast-t25
     (λ c. search needs)  -- enum-known-refusal-10
+    (λ c. search needs)  -- enum-known-refusal-11
+    (λ c. search needs)  -- enum-known-refusal-12
+    (λ c. search needs)  -- cast-t28
     (λ c. ap refusalSays (sym (c .enum-told .given .1)))  -- returns
     (λ c. cc)  -- returns-2
     (λ c. cc)  -- returns-3
@@ -42,4 +45,6 @@ told-of-spec =
     (λ c. cc)  -- returns-9
     (λ c. cc)  -- returns-10
     (λ c. cc)  -- returns-11
-    (λ c. cc))  -- returns-12
+    (λ c. cc)  -- returns-12
+    (λ c. cc)  -- returns-13
+    (λ c. cc))  -- returns-14

@@ -1,8 +1,9 @@
 -- Laws of dictionaries: buildable ⇔ a derivation exists; an image's words are never more than its term's size. Assumes nothing.
 use Prim.Native.Nat.{ℕ, _≤_}
 use mathlib.Core.Bool.{Bool, true, false, true≢false}
-use mathlib.Core.Logic.{_↔_}
-use mathlib.Core.Path.{_≡_, refl, sym, _∙_}
+use mathlib.Core.List.{List, [], _∷_, List·Memᴰ, List·Memᴰ·head, List·Memᴰ·tail, List·Memᴰ·cases-cons, List·Memᴰ·not-nil}
+use mathlib.Core.Logic.{_↔_, ⊎-elim}
+use mathlib.Core.Path.{_≡_, refl, sym, ap, _∙_}
 use native.Mathlib.Omega.{arith}
 use lib.ListN.{length, length-append}
 use Rattle.words.specs.Choice.{pick}
@@ -10,7 +11,7 @@ use Rattle.words.specs.Choice.Laws.{pick-true, pick-false, choose-yes, choose-n
 use Rattle.terms.specs.Term.{Term, Terms, same, size, sizes}
 use Rattle.terms.specs.Term.Laws.{size-two}
 use Rattle.terms.specs.Image.{Image, words, wordsOf}
-use Rattle.translation.specs.Dictionary.{Held, Dictionary, isHeld, enter, buildable, allBuildable, Derives, DerivesAll, nobody, Buildable, imageOr, image, images}
+use Rattle.translation.specs.Dictionary.{Held, Dictionary, isHeld, enter, start, buildable, allBuildable, Derives, DerivesAll, nobody, Buildable, imageOr, image, images}
 
 -- ---- enter
 pub enter-same : (δ : Dictionary) (t : Term) (h : Held) → enter δ t h t ≡ h
@@ -104,6 +105,18 @@ Grows δ ε = (u : Term) → isHeld (δ u) ≡ true → isHeld (ε u) ≡ true
 -- nothing is taken out
 pub enter-grows : (δ : Dictionary) (t : Term) (h : Held) → isHeld h ≡ true → Grows δ (enter δ t h)
 enter-grows δ t h e u k = enter-ind (λ x. isHeld x ≡ true) δ t h u (λ p. e) (λ p. k)
+
+-- ---- start: what is held at the start is what is known
+pub start-exact : (ts : List Term) (t : Term) → (isHeld (start ts t) ≡ true) ↔ List·Memᴰ t ts
+unfolding start
+start-exact [] t = (λ e. absurd (true≢false (sym e)), λ m. absurd (List·Memᴰ·not-nil m))
+start-exact (k ∷ ts) t =
+    let rest = start-exact ts t in (
+      enter-ind (λ h. isHeld h ≡ true → List·Memᴰ t (k ∷ ts)) (start ts) k Held.itself t (λ e h. List·Memᴰ·head (sym e))
+          (λ n h. List·Memᴰ·tail (rest .0 h)),
+      λ m. ⊎-elim (λ e. ap (λ u. isHeld (enter (start ts) k Held.itself u)) e ∙ ap isHeld (enter-same (start ts) k Held.itself))
+          (λ n. enter-grows (start ts) k Held.itself refl t (rest .1 n)) (List·Memᴰ·cases-cons m),
+    )
 
 module _ (free : ℕ → Type 0) {δ ε : Dictionary} (more : (u : Term) → isHeld (δ u) ≡ true → Derives free ε u) where
   mutual

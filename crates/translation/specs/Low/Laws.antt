@@ -44,7 +44,7 @@ members-all : (P : ℕ → Type 0) (xs : List ℕ) → ((x : ℕ) → List·Mem�
 members-all P [] f = tt
 members-all P (x ∷ xs) f = (f x (List·Memᴰ·head refl), members-all P xs (λ y m. f y (List·Memᴰ·tail m)))
 
-low-append : (a c : List ℕ) → Low a → Low c → Low (a ++ c)
+pub low-append : (a c : List ℕ) → Low a → Low c → Low (a ++ c)
 low-append [] c h k = k
 low-append (x ∷ a) c h k = (h .0, low-append a c (h .1) k)
 

@@ -9,9 +9,12 @@ use lib.ListN.{length, length-append}
 use lib.Dec.{eqb}
 use Rattle.words.specs.Choice.{pick}
 use Rattle.words.specs.Choice.Laws.{pick-true, pick-false, pick-ap}
-use Rattle.terms.specs.Term.{Term}
+use Rattle.terms.specs.Term.{Term, count}
 use Rattle.translation.specs.Dictionary.{Dictionary}
+use Rattle.translation.specs.Dictionary.Laws.{Grows}
+use Rattle.translation.specs.Build.Laws.{buildAll-makes}
 use Rattle.translation.specs.Receive.{Did, followed}
+use Rattle.translation.specs.Receive.Laws.{receiveAll-grows}
 use Rattle.translation.specs.Program.{Step, Act, actsOf, act, walk, program}
 
 -- ---- own: one step
@@ -69,3 +72,14 @@ walk-append (c ∷ a) b δ n =
     let z : (n + length (d .given)) + length (w .given) ≡ n + length (d .given ++ w .given) = omega arith in
     ap (followed d) (walk-append a b (d .dictionary) (n + length (d .given)) ∙ ap (λ m. followed w (walk b (w .dictionary) m)) z)
     ∙ sym (followed-assoc d w (walk b (w .dictionary) (n + length (d .given ++ w .given))))
+
+-- ---- what is held stays held: a party gains by sending what it makes, and by receiving what it stores
+act-grows : (a : Act) (δ : Dictionary) (n : ℕ) → Grows δ (act a δ n .dictionary)
+unfolding act
+act-grows (Act.sends i ts) δ n = buildAll-makes ts δ .grows
+act-grows (Act.receives i ts) δ n = receiveAll-grows ts n δ (n + count ts)
+
+pub walk-grows : (acts : List Act) (δ : Dictionary) (n : ℕ) → Grows δ (walk acts δ n .dictionary)
+unfolding walk
+walk-grows [] δ n u h = h
+walk-grows (a ∷ acts) δ n u h = walk-grows acts _ _ u (act-grows a δ n u h)

@@ -10,7 +10,8 @@ use Rattle.words.specs.Choice.Laws.{pick-ind, pick-true, pick-false}
 use Rattle.terms.specs.Term.{Term, Terms, count, listed}
 use Rattle.terms.specs.Term.Laws.{count-listed}
 use Rattle.terms.specs.Image.{Image}
-use Rattle.translation.specs.Dictionary.{Dictionary, buildable}
+use Rattle.translation.specs.Dictionary.{Held, Dictionary, buildable}
+use Rattle.translation.specs.Dictionary.Laws.{Grows, enter-grows}
 use Rattle.translation.specs.Receive.{Event, Did, nothing, followed, Rule, canOpen, rule, RuleExact, byRule, compared, kept, opened, receive, receiveAll}
 
 -- ---- rule
@@ -141,3 +142,26 @@ mutual
       let d = receive t p δ n in
       let m = n + length (d .given) in
       settles-then (count ts) d (receiveAll ts (suc p) (d .dictionary) m) (receive-settles t p δ n) (receiveAll-settles ts (suc p) (d .dictionary) m)
+
+-- ---- what is held stays held: a rule enters a term or nothing
+grows-rule : (t : Term) (p : ℕ) (δ : Dictionary) (o : Did) → Grows δ (o .dictionary)
+    → Grows δ (byRule (rule δ t) (compared t p δ) o (kept t p δ) .dictionary)
+grows-rule t p δ o h =
+    by-rule (λ d. Grows δ (d .dictionary)) (rule δ t) (compared t p δ) o (kept t p δ) (λ u k. k) h (enter-grows δ t (Held.placeholder p) refl)
+
+mutual
+  unfolding receive
+
+  receive-grows : (t : Term) (p : ℕ) (δ : Dictionary) (n : ℕ) → Grows δ (receive t p δ n .dictionary)
+  receive-grows (Term.atom r) p δ n = grows-rule (Term.atom r) p δ (nothing δ) (λ u h. h)
+  receive-grows (Term.operation g ts) p δ n = grows-rule (Term.operation g ts) p δ (nothing δ) (λ u h. h)
+  receive-grows (Term.cipher k ts) p δ n =
+      grows-rule (Term.cipher k ts) p δ (followed (opened k ts p δ n) (receiveAll ts n δ (n + count ts)))
+      (λ u h. receiveAll-grows ts n δ (n + count ts) u h)
+  receive-grows (Term.public t) p δ n = grows-rule (Term.public t) p δ (nothing δ) (λ u h. h)
+  receive-grows (Term.private t) p δ n = grows-rule (Term.private t) p δ (nothing δ) (λ u h. h)
+
+  pub receiveAll-grows : (ts : Terms) (p : ℕ) (δ : Dictionary) (n : ℕ) → Grows δ (receiveAll ts p δ n .dictionary)
+  receiveAll-grows Terms.nil p δ n u h = h
+  receiveAll-grows (Terms.cons t ts) p δ n u h =
+      let d = receive t p δ n in receiveAll-grows ts (suc p) (d .dictionary) (n + length (d .given)) u (receive-grows t p δ n u h)

@@ -1,8 +1,10 @@
 -- Laws of a party's program step by step. Assumes nothing.
-use Prim.Native.Nat.{ℕ, suc, _+_, _-_, _≤_, _<_}
+use Prim.Native.Nat.{ℕ, zero, suc, _+_, _-_, _≤_, _<_}
 use native.Mathlib.Nat.{zero-add}
 use mathlib.Core.List.{List, [], _∷_, _++_, map, append-nil}
 use mathlib.Core.Path.{_≡_, refl, ap, ap₂, _∙_}
+use native.Mathlib.Omega.{arith}
+use native.Mathlib.Decide.{ℕ-discrete}
 use lib.ListN.{length}
 use borrow.Author.Tests.{eq-eqb, ne-eqb}
 use Rattle.words.specs.Run.{values}
@@ -11,10 +13,11 @@ use Rattle.terms.specs.Term.{count}
 use Rattle.terms.specs.Table.{term, terms}
 use Rattle.book.specs.Layout.{table, parties, steps, known, sender, receiver, messages}
 use Rattle.translation.specs.Dictionary.{Dictionary, start}
+use Rattle.translation.specs.Dictionary.Laws.{Grows}
 use Rattle.translation.specs.Build.{buildAll}
 use Rattle.translation.specs.Receive.{Did, Event, nothing, followed, receiveAll}
 use Rattle.translation.specs.Program.{Act, actsOf, act, walk, walked, program, sent, arrived}
-use Rattle.translation.specs.Program.Laws.{acts-sends, acts-receives, acts-idle, acts-append, walk-append}
+use Rattle.translation.specs.Program.Laws.{acts-sends, acts-receives, acts-idle, acts-append, walk-append, walk-grows}
 use Rattle.translation.specs.Narration.{stepAt, narration, knownTo, programOf}
 use Rattle.translation.specs.Taken.{holdsBefore}
 use Rattle.translation.specs.Steps.{stepDid, before}
@@ -65,6 +68,16 @@ module _ (b : List ℕ) (p : ℕ) where
       ∙ ap (λ l. walk l δ 0) (acts-append p 0 past (stepAt b i ∷ []) ∙ ap (λ k. actsOf p 0 past ++ actsOf p k (stepAt b i ∷ [])) z)
       ∙ walk-append (actsOf p 0 past) (actsOf p i (stepAt b i ∷ [])) δ 0
       ∙ ap (λ k. followed w (walk (actsOf p i (stepAt b i ∷ [])) (w .dictionary) k)) (zero-add (length (w .given)))
+
+  -- what is held before a step is held before each later one
+  pub before-grows : (i m : ℕ) → i ≤ m → Grows (before b p i .dictionary) (before b p m .dictionary)
+  unfolding stepDid
+  before-grows i zero l u h = let z : i ≡ 0 = omega arith in rw z at h
+  before-grows i (suc m) l u h = elim (ℕ-discrete i (suc m)) [
+    | yes e ↦ rw e at h
+    | no n ↦
+        rw (before-more m) (walk-grows _ (before b p m .dictionary) (length (before b p m .given)) u (before-grows i m (omega arith) u h))
+  ]
 
   module _ (h : p < parties b) where
     knows : knownTo (narration b) p ≡ map (term (table b)) (known b p)

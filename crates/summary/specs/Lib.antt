@@ -1,3 +1,4 @@
 pub mod Summary
 pub mod Found
 pub mod Reply
+pub mod Trials

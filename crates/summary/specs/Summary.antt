@@ -20,6 +20,8 @@ use Rattle.translation.specs.Narration.{narration}
 use Rattle.translation.specs.Taken.{joined, holdsBefore}
 use Rattle.translation.specs.Outcome.{Outcome, takenLine, roomLine, laid}
 pub mod Question
+pub mod Laws
+pub mod Written
 
 -- ---- the full walk
 -- party p has row r in its dictionary after the first k steps: held, and not merely buildable

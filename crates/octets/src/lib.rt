@@ -1,11 +1,11 @@
-// Words and bytes, low byte first. `load` lays the words that bytes make over lent words; `put_word` and `put_words` write words as
+// Words and bytes, low byte first. `word_at` is one of the words that bytes make, and `load` lays them over lent words; `put_word` and `put_words` write words as
 // bytes, each byte whose place is inside, and answer the next place, also past the end.
 use words::Place;
 use words::put;
 ghost use mathlib.Core.Path.{_≡_};
 ghost use mathlib.Core.List.{[], _∷_};
 ghost use Prim.Native.Nat.{_/_, _≤_, min};
-ghost use lib.ListN.{length, take};
+ghost use lib.ListN.{length, getD, take};
 ghost use Rattle.words.specs.Overlay.{Wrote};
 ghost use Rattle.octets.specs.Octets.{wordOf, wordsIn, bytesOf, bytesOfAll};
 
@@ -14,6 +14,21 @@ pub fn word(a: u8, b: u8, c: u8, d: u8) -> u32
     ensures { λ r. ⌜ r ≡ wordOf a b c d ⌝ }
 {
     a as u32 + 256 * (b as u32) + 65536 * (c as u32) + 16777216 * (d as u32)
+}
+
+// Word i that the bytes make, or 0 where they make no such word.
+pub fn word_at(bytes: &[u8], i: usize) -> u32
+    ensures { λ r. ⌜ r ≡ getD (wordsIn (now (bytes .entry))) i 0 ⌝ }
+{
+    if i < bytes.len() / 4 {
+        return word(
+            bytes[4 * i],
+            bytes[4 * i + 1],
+            bytes[4 * i + 2],
+            bytes[4 * i + 3],
+        );
+    }
+    0
 }
 
 // How many words the bytes make, of at most so many.
@@ -35,13 +50,7 @@ pub fn load(bytes: &[u8], out: &mut [u32]) -> usize
     let mut next = 0;
     let mut i = 0;
     while i < n {
-        let w = word(
-            bytes[4 * i],
-            bytes[4 * i + 1],
-            bytes[4 * i + 2],
-            bytes[4 * i + 3],
-        );
-        next = put(out, next, w);
+        next = put(out, next, word_at(bytes, i));
         i += 1;
     }
     next

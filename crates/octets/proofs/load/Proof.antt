@@ -5,7 +5,7 @@ use lib.ListN.{take}
 use borrow.Author.Needs.{needs}
 use Rattle.words.specs.Overlay.{Wrote}
 use Rattle.words.specs.Overlay.Laws.{wrote-none, wrote-length}
-use Rattle.octets.specs.Octets.{wordAt, wordsIn}
+use Rattle.octets.specs.Octets.{wordsIn}
 use Rattle.octets.specs.Octets.Laws.{load-more, load-all}
 use Rattle.octets.proofs.load.Statement.{statement}
 use Rattle.octets.proofs.load.Tie as tie
@@ -16,16 +16,15 @@ Inv-loop bytes out₀ n next₀ i₀ out next i = (i ≤ n) × Wrote (take i (wo
 abbrev μ-loop : tie.MeasureT-loop
 μ-loop bytes out₀ n next₀ i₀ out next i = n - i
 
--- what `word` makes of the four bytes is the word that is due
+-- the word that is due
 loop-again : tie.Need-loop-again Inv-loop μ-loop
-unfolding wordAt
 loop-again c =
     let after-put : tie.After-put Inv-loop μ-loop = search in
-    let after-word : tie.After-word Inv-loop μ-loop = search in
+    let after-word-at : tie.After-word-at Inv-loop μ-loop = search in
     let at-loop : tie.At-loop Inv-loop μ-loop = search in
     let start : tie.Start Inv-loop μ-loop = search in (
       search needs,
-      load-more (start .args .bytes .now) (at-loop .loop .i) (omega arith) (after-word .word .ensures)
+      load-more (start .args .bytes .now) (at-loop .loop .i) (omega arith) (after-word-at .word-at .ensures)
           (at-loop .loop .inv .1) (after-put .put .ensures),
     )
 
@@ -45,18 +44,7 @@ load-spec =
     μ-loop
     (λ c κs. search needs)  -- loaded-requires
     (λ c. search (wrote-none, needs))  -- loop-holds
-    (λ c. search needs)  -- mul-w
-    (λ c. search needs)  -- shared-slice-read-w
-    (λ c. search needs)  -- mul-w-2
-    (λ c. search needs)  -- add-w
-    (λ c. search needs)  -- shared-slice-read-w-2
-    (λ c. search needs)  -- mul-w-3
-    (λ c. search needs)  -- add-w-2
-    (λ c. search needs)  -- shared-slice-read-w-3
-    (λ c. search needs)  -- mul-w-4
-    (λ c. search needs)  -- add-w-3
-    (λ c. search needs)  -- shared-slice-read-w-4
-    (λ c κs. search needs)  -- word-requires
+    (λ c κs. search needs)  -- word-at-requires
     (λ c κs. search needs)  -- put-requires
     (λ c. search needs)  -- add-i
     (λ c. search needs)  -- loop-less

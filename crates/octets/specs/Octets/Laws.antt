@@ -6,7 +6,7 @@ use mathlib.Core.Path.{_≡_, refl, sym, ap, ap₂, _∙_}
 use native.Mathlib.Omega.{arith}
 use native.Mathlib.Numerals.{add-one}
 use native.Mathlib.Nat.{zero-add}
-use lib.ListN.{length, getD, take, drop, replicate, length-take, length-drop, length-replicate}
+use lib.ListN.{length, getD, take, drop, replicate, length-take, length-drop, length-replicate, List·getD-eq-default}
 use lib.Seq.{take-suc, take-nil, take-all, ext-getD, getD-drop, drop-drop, drop-append-add, sets, sets-eq, length-sets}
 use Rattle.words.specs.Overlay.{cap, Wrote}
 use Rattle.words.specs.Overlay.Laws.{wrote-none, wrote-then, wrote-as, wrote-more, wrote-take}
@@ -27,6 +27,10 @@ words-length bs = values-length (wordAt bs) 0 (length bs / 4)
 
 pub words-at : (bs : List ℕ) (i : ℕ) → i < length bs / 4 → getD (wordsIn bs) i 0 ≡ wordAt bs i
 words-at bs i h = values-getD (wordAt bs) 0 (length bs / 4) i 0 h ∙ ap (wordAt bs) (zero-add i)
+
+-- past the last
+pub words-past : (bs : List ℕ) (i : ℕ) → length bs / 4 ≤ i → getD (wordsIn bs) i 0 ≡ 0
+words-past bs i h = List·getD-eq-default (wordsIn bs) 0 (let n = words-length bs in omega arith)
 
 -- ---- bytesOfAll
 pub bytes-append : (vs ws : List ℕ) → bytesOfAll (vs ++ ws) ≡ bytesOfAll vs ++ bytesOfAll ws
@@ -59,12 +63,11 @@ bytes-more ws i h f g =
     wrote-as more (ap bytesOfAll (ap (λ k. take k ws) (add-one i) ∙ take-suc ws i 0 h))
 
 -- ---- loading the words that the bytes make: one word more, and all that have room
-pub load-more : (bs : List ℕ) (i : ℕ) {w : ℕ} {o m n : List ℕ} {a p r : ℕ} → i < length bs / 4 → w ≡ wordAt bs i
+pub load-more : (bs : List ℕ) (i : ℕ) {w : ℕ} {o m n : List ℕ} {a p r : ℕ} → i < length bs / 4 → w ≡ getD (wordsIn bs) i 0
     → Wrote (take i (wordsIn bs)) o a m p → Wrote (w ∷ []) m p n r → Wrote (take (i + 1) (wordsIn bs)) o a n r
 load-more bs i h e f g =
     let l = words-length bs in
-    let due = words-at bs i h in
-    wrote-more (wordsIn bs) i (omega arith) f (rw (e ∙ sym due) at g) refl
+    wrote-more (wordsIn bs) i (omega arith) f (rw e at g) refl
 
 pub load-all : (bs o : List ℕ) (i : ℕ) {n : List ℕ} {a r : ℕ} → i ≡ min (length o) (length bs / 4)
     → Wrote (take i (wordsIn bs)) o a n r → Wrote (take (length o) (wordsIn bs)) o a n r

@@ -9,10 +9,11 @@ use lib.ListN.{length}
 use lib.Dec.{eqb}
 use Rattle.words.specs.Choice.{pick}
 use Rattle.octets.specs.Octets.{wordsIn, spare, bytesOfAll}
-use Rattle.book.specs.Said.{said}
+use Rattle.book.specs.Said.{Said, said}
 use Rattle.translation.specs.Listing.{listing}
 use Rattle.translation.specs.Outcome.{Outcome, translationSays, laid}
 use Rattle.playing.specs.Rehearsal.{eventsDone, rehearsalSays}
+use Rattle.summary.specs.Summary.{asked}
 pub mod Laws
 
 -- the bytes make no whole words
@@ -37,6 +38,10 @@ translationBytes bs out = pick (uneven bs) (odd out) (translated (wordsIn bs) ou
 
 unfoldable pub rehearsalBytes : List ℕ → List ℕ → List ℕ → Outcome
 rehearsalBytes bs ms out = pick (uneven bs || uneven ms) (odd out) (rehearsed (wordsIn bs) (wordsIn ms) out)
+
+-- of the bytes of a summary: document 02, [4], has its question answered from the summary alone, and here that is its bytes
+unfoldable pub askedBytes : List ℕ → ℕ → ℕ → ℕ → Said
+askedBytes bs p r t = pick (uneven bs) (said 1 (0 ∷ [])) (asked (wordsIn bs) p r t)
 
 -- ---- what is said of it
 -- the outcome t on bytes is the outcome o on words: it says the same, its bytes make the same words, and the spare bytes are as they were

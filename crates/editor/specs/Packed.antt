@@ -1,7 +1,7 @@
 -- An answer in one number, for callers in another language: an answer that came back through a lent place would be a lent word that a
 -- refusal changes.
-use Prim.Native.Nat.{ℕ, _+_, _*_, _/_, _%_, _<_}
-use mathlib.Core.List.{List, [], _∷_}
+use Prim.Native.Nat.{ℕ, _+_, _*_, _/_, _%_, _<_, min}
+use mathlib.Core.List.{List, [], _∷_, map}
 use mathlib.Core.Path.{_≡_}
 use lib.ListN.{getD}
 use lib.Dec.{eqb}
@@ -17,6 +17,10 @@ pack s = s .number + 256 * getD (s .values) 0 0 + 1099511627776 * getD (s .value
 -- of the values, refusal 10 alone has two
 unfoldable pub unpack : ℕ → Said
 unpack n = said (n % 256) (n / 256 % 4294967296 ∷ pick (eqb (n % 256) 10) (n / 1099511627776 ∷ []) [])
+
+-- a summary may have more words than 32 bits count: refusal 20 then tells the largest number that they hold
+abbrev pub capped : Said → Said
+capped s = said (s .number) (map (min 4294967295) (s .values))
 
 -- an answer that fits
 pub data Small : Said → Type 0 where

@@ -1,6 +1,6 @@
-// The faces on bytes, low byte first, for callers in other languages. `nghiralum_translate` and `nghiralum_rehearse` answer for any
-// bytes what the faces on words answer for the words that they make, in one number, and leave the same words as bytes; a book or a
-// schedule that makes no whole words is refused before all else.
+// The faces on bytes, low byte first, for callers in other languages. `nghiralum_translate`, `nghiralum_rehearse` and `nghiralum_ask`
+// answer for any bytes what the faces on words answer for the words that they make, in one number, and leave the same words as bytes; a
+// book, a schedule or a summary that makes no whole words is refused before all else.
 use book::ByRow;
 use book::Code;
 use book::Refusal;
@@ -11,7 +11,12 @@ use book::told_of;
 use holding::start;
 use octets::load;
 use octets::put_words;
+use octets::word_at;
 use receiving::Dictionary;
+use summary::Found;
+use summary::Reply;
+use summary::decide;
+use summary::find;
 use translation::Answer;
 use translator::fit;
 use translator::survey;
@@ -25,15 +30,17 @@ ghost use mathlib.Core.Path.{_≡_};
 ghost use Prim.Native.Nat.{_/_, min};
 ghost use lib.ListN.{length};
 ghost use Rattle.words.specs.Overlay.{Wrote};
-ghost use Rattle.octets.specs.Octets.{bytesOfAll};
+ghost use Rattle.octets.specs.Octets.{bytesOfAll, wordsIn};
 ghost use Rattle.book.specs.Said.{toldSays};
 ghost use Rattle.translation.specs.Listing.{listing, partWords};
 ghost use Rattle.translation.specs.Outcome.{answerSays, came};
 ghost use Rattle.translator.specs.Parts.{HeadsIn, bodiesOf};
 ghost use Rattle.translator.specs.Ready.{Writable};
-ghost use Rattle.editor.specs.Bytes.{uneven, translated, rehearsed, translationBytes, rehearsalBytes};
+ghost use Rattle.summary.specs.Summary.{asked};
+ghost use Rattle.summary.specs.Reply.{replySays};
+ghost use Rattle.editor.specs.Bytes.{uneven, translated, rehearsed, translationBytes, rehearsalBytes, askedBytes};
 ghost use Rattle.editor.specs.Events.{EventsReady, WroteEvents};
-ghost use Rattle.editor.specs.Packed.{pack as packOf, Small, returned, packed};
+ghost use Rattle.editor.specs.Packed.{pack as packOf, capped as cappedOf, Small, returned, packed};
 
 // What is read and kept at most.
 struct Most {}
@@ -248,6 +255,36 @@ pub fn rehearse(book: &[u8], schedule: &[u8], out: &mut [u8]) -> Answer
     rehearse_words(&words[..n], &moves[..m], out)
 }
 
+// Did the party hold the row after the step, by the words that the bytes of a summary make? They are read where they lie: a summary may
+// be of any length.
+fn ask_words(summary: &[u8], party: u32, row: u32, step: u32) -> Reply
+    ensures { λ r. ⌜ replySays r ≡ asked (wordsIn (now (summary .entry))) party row step ⌝ }
+{
+    let found = find(
+        summary.len() / 4,
+        word_at(summary, 0),
+        word_at(summary, 1),
+        word_at(summary, 2),
+        party,
+        row,
+        step,
+    );
+    match found {
+        Found::Refused(why) => Reply::Refused(why),
+        Found::At(i) => decide(word_at(summary, i), step),
+    }
+}
+
+// The same for the bytes of a summary.
+pub fn ask(summary: &[u8], party: u32, row: u32, step: u32) -> Reply
+    ensures { λ r. ⌜ replySays r ≡ askedBytes (now (summary .entry)) party row step ⌝ }
+{
+    if is_uneven(summary) {
+        return Reply::Refused(Refusal::Short);
+    }
+    ask_words(summary, party, row, step)
+}
+
 // An answer's number and values in one number.
 fn pack_told(told: Told) -> u64
     requires { ⌜ Small (toldSays told) ⌝ }
@@ -269,6 +306,37 @@ fn pack(answer: Answer) -> u64
     }
 }
 
+// A value, or the largest that 32 bits hold.
+fn cap(value: u64) -> u64
+    ensures { λ r. ⌜ r ≡ min 4294967295 value ⌝ }
+{
+    if value < 4294967295 {
+        return value;
+    }
+    4294967295
+}
+
+fn capped(told: Told) -> Told
+    ensures { λ r. ⌜ toldSays r ≡ cappedOf (toldSays told) ⌝ }
+{
+    match told {
+        Told::One(number, first) => Told::One(number, cap(first)),
+        Told::Two(number, first, second) => Told::Two(number, cap(first), cap(second)),
+    }
+}
+
+// A reply in one number.
+fn pack_reply(reply: Reply) -> u64
+    requires { ⌜ Small (cappedOf (replySays reply)) ⌝ }
+    ensures { λ r. ⌜ r ≡ packOf (cappedOf (replySays reply)) ⌝ }
+{
+    match reply {
+        Reply::Yes => pack_told(Told::One(0, 1)),
+        Reply::No => pack_told(Told::One(0, 0)),
+        Reply::Refused(refusal) => pack_told(capped(told_of(refusal))),
+    }
+}
+
 // The translation for callers in other languages.
 #[no_mangle]
 pub extern "C" fn nghiralum_translate(book: &[u8], out: &mut [u8]) -> u64
@@ -285,4 +353,13 @@ pub extern "C" fn nghiralum_rehearse(book: &[u8], schedule: &[u8], out: &mut [u8
 {
     let answer = rehearse(book, schedule, out);
     pack(answer)
+}
+
+// The question for them.
+#[no_mangle]
+pub extern "C" fn nghiralum_ask(summary: &[u8], party: u32, row: u32, step: u32) -> u64
+    ensures { λ r. ⌜ r ≡ packOf (cappedOf (askedBytes (now (summary .entry)) party row step)) ⌝ }
+{
+    let reply = ask(summary, party, row, step);
+    pack_reply(reply)
 }

@@ -1,8 +1,8 @@
 -- Laws of the outcome on bytes: it is the outcome on words, with the spare bytes as they were; and what is longer than a book or a
 -- schedule may be changes nothing by its length. Assumes nothing.
-use Prim.Native.Nat.{ℕ, zero, suc, _+_, _*_, _/_, _≤_, _<_, min}
-use mathlib.Core.Bool.{Bool, true, false}
-use mathlib.Core.List.{List, [], _∷_}
+use Prim.Native.Nat.{ℕ, zero, suc, _+_, _*_, _/_, _%_, _≤_, _<_, min}
+use mathlib.Core.Bool.{Bool, true, false, not}
+use mathlib.Core.List.{List, [], _∷_, _++_, append-nil}
 use mathlib.Core.Path.{_≡_, refl, sym, ap, ap₂, _∙_}
 use native.Mathlib.Omega.{arith}
 use native.Mathlib.Decide.{ℕ-discrete, decLt}
@@ -10,14 +10,14 @@ use lib.ListN.{length, getD, take}
 use lib.Dec.{ltb}
 use lib.Seq.{length-sets, length-take-le, take-all, getD-take}
 use borrow.Author.Count.{below-more}
-use borrow.Author.Tests.{lt-ltb, le-ltb}
+use borrow.Author.Tests.{lt-ltb, le-ltb, eq-eqb}
 use Rattle.words.specs.Choice.{pick}
 use Rattle.words.specs.Choice.Laws.{pick-true, pick-false}
-use Rattle.words.specs.Run.{All}
+use Rattle.words.specs.Run.{All, values}
 use Rattle.words.specs.First.{first}
 use Rattle.words.specs.First.Laws.{first-same, first-le, first-at, first-end, first-holds, first-fails}
 use Rattle.octets.specs.Octets.{wordsIn, spare, bytesOfAll}
-use Rattle.octets.specs.Octets.Laws.{words-length, words-laid, spare-laid}
+use Rattle.octets.specs.Octets.Laws.{words-length, words-bytes, bytes-length, words-laid, spare-laid}
 use Rattle.book.specs.Layout.{header, offset, parties}
 use Rattle.book.specs.Rules.{countBreaks, OffsetRule, stated, offsetBreaks}
 use Rattle.book.specs.Rules.Laws.{count-exact, offset-exact}
@@ -32,9 +32,10 @@ use Rattle.translation.specs.Outcome.Laws.{laid-keeps, laid-lays, exactly-readi
 use Rattle.playing.specs.Rehearsal.{eventsDone, rehearsalSays, rehearsal, BadMoves}
 use Rattle.playing.specs.Rehearsal.Laws.{rehearsal-acceptance-first, rehearsal-exactly-reading, rehearsal-exactly-11, exactly-played, done-length}
 use Rattle.playing.specs.Rehearsal.Low.{done-low}
-use Rattle.editor.specs.Bytes.{uneven, odd, translated, rehearsed, translationBytes, rehearsalBytes, AsWords}
-use Rattle.editor.specs.Packed.{unpack, packed, Small}
-use Rattle.editor.specs.Packed.Laws.{unpack-pack, plays-from, translation-small, rehearsal-small}
+use Rattle.summary.specs.Summary.{asked}
+use Rattle.editor.specs.Bytes.{uneven, odd, translated, rehearsed, translationBytes, rehearsalBytes, askedBytes, AsWords}
+use Rattle.editor.specs.Packed.{pack, unpack, capped, packed, Small}
+use Rattle.editor.specs.Packed.Laws.{unpack-pack, plays-from, translation-small, rehearsal-small, asked-small, asked-whole}
 
 -- ---- a book that is longer than a book can be
 -- of the first 12,601 words of more words
@@ -328,3 +329,40 @@ translation-unpacked bs out = unpack-pack (translationBytes bs out .says) (trans
 
 pub rehearsal-unpacked : (bs ms out : List ℕ) → unpack (packed (rehearsalBytes bs ms out) .answer) ≡ rehearsalBytes bs ms out .says
 rehearsal-unpacked bs ms out = unpack-pack (rehearsalBytes bs ms out .says) (rehearsal-bytes-small bs ms out)
+
+-- ---- a question to the bytes of a summary
+module _ (bs : List ℕ) (p r t : ℕ) where
+  pub of-whole-summary : uneven bs ≡ false → askedBytes bs p r t ≡ asked (wordsIn bs) p r t
+  unfolding askedBytes
+  of-whole-summary e = pick-false _ _ _ e
+
+  pub of-odd-summary : uneven bs ≡ true → askedBytes bs p r t ≡ said 1 (0 ∷ [])
+  unfolding askedBytes
+  of-odd-summary e = pick-true _ _ _ e
+
+  pub asked-bytes-small : Small (capped (askedBytes bs p r t))
+  asked-bytes-small = go (uneven bs) refl
+    where
+      go : (v : Bool) → uneven bs ≡ v → Small (capped (askedBytes bs p r t))
+      go false e = rw (of-whole-summary e) (asked-small (wordsIn bs) p r t)
+      go true e = rw (of-odd-summary e) odd-small
+
+  pub asked-unpacked : unpack (pack (capped (askedBytes bs p r t))) ≡ capped (askedBytes bs p r t)
+  asked-unpacked = unpack-pack (capped (askedBytes bs p r t)) asked-bytes-small
+
+-- the bytes of words are asked as the words are, and nothing of the answer is lost where the words are no more than 32 bits count
+module _ (ws : List ℕ) (low : All (λ w. w < 4294967296) ws) (p r t : ℕ) where
+  pub asked-of-words : askedBytes (bytesOfAll ws) p r t ≡ asked ws p r t
+  unfolding values
+  asked-of-words =
+      let n = bytes-length ws in
+      let even : length (bytesOfAll ws) % 4 ≡ 0 = omega arith in
+      let whole = words-bytes ws [] low in
+      let bare : bytesOfAll ws ++ [] ≡ bytesOfAll ws = append-nil (bytesOfAll ws) in
+      of-whole-summary (bytesOfAll ws) p r t (ap not (eq-eqb _ _ even))
+      ∙ ap (λ (s : List ℕ). asked s p r t) (ap wordsIn (sym bare) ∙ whole ∙ append-nil ws)
+
+  pub asked-words-unpacked : length ws < 4294967296 → p < 4294967296 → r < 4294967296 → t < 4294967296
+      → unpack (pack (capped (askedBytes (bytesOfAll ws) p r t))) ≡ asked ws p r t
+  asked-words-unpacked n hp hr ht =
+      asked-unpacked (bytesOfAll ws) p r t ∙ ap capped asked-of-words ∙ asked-whole ws p r t n hp hr ht

@@ -1,14 +1,14 @@
--- Laws of an answer in one number: an answer that fits is read back from it, and so is every answer of a translation and of a rehearsal.
--- Assumes nothing.
-use Prim.Native.Nat.{ℕ, _+_, _*_, _/_, _%_, _≤_, _<_, min}
+-- Laws of an answer in one number: an answer that fits is read back from it, and so is every answer of a translation, of a rehearsal and
+-- to a question. Assumes nothing.
+use Prim.Native.Nat.{ℕ, zero, suc, _+_, _*_, _/_, _%_, _≤_, _<_, min}
 use mathlib.Core.Bool.{Bool, true, false}
 use mathlib.Core.List.{List, [], _∷_, append-nil}
 use mathlib.Core.Path.{_≡_, refl, sym, ap, ap₂, _∙_}
 use native.Mathlib.Omega.{arith}
 use native.Mathlib.Decide.{ℕ-discrete, decLt}
-use lib.ListN.{length}
+use lib.ListN.{length, getD}
 use borrow.Author.Tests.{eq-eqb, ne-eqb, ltb-false}
-use Rattle.words.specs.Choice.Laws.{pick-true, pick-false}
+use Rattle.words.specs.Choice.Laws.{pick-true, pick-false, pick-ind}
 use Rattle.words.specs.First.{first}
 use Rattle.words.specs.First.Laws.{first-holds, first-fails}
 use Rattle.book.specs.Layout.{rows, parties, steps}
@@ -25,7 +25,8 @@ use Rattle.translation.specs.Low.Laws.{taken-low}
 use Rattle.translation.specs.Outcome.{takenLine, roomLine, acceptance, translationSays, Plays}
 use Rattle.translation.specs.Outcome.Laws.{ten, ten-lines, book-first, keep-plays, plays-keep}
 use Rattle.playing.specs.Rehearsal.{longLine, moveLine, rehearsalSays}
-use Rattle.editor.specs.Packed.{pack, unpack, Small}
+use Rattle.summary.specs.Summary.{lengthLine, questionLine, answered, asked}
+use Rattle.editor.specs.Packed.{pack, unpack, capped, Small}
 
 -- ---- read back
 pub unpack-pack : (s : Said) → Small s → unpack (pack s) ≡ s
@@ -142,3 +143,32 @@ module _ (b : List ℕ) where
         line-says Small 12 1 _ _ [] rest (λ i h t. Small.one {n = 12} (omega arith) (omega arith) (omega arith))
         (λ room. last-says Small rest (Small.one {n = 0} (omega arith) (omega arith) (omega arith))))))
   ]
+
+-- ---- a question: one value each, and 32 bits hold what is told of it
+pub asked-small : (s : List ℕ) (p r t : ℕ) → Small (capped (asked s p r t))
+unfolding asked lengthLine questionLine
+asked-small s p r t =
+    let rest = said 0 (answered s p r t ∷ []) in
+    line-says (λ x. Small (capped x)) 20 1 _ _ _ rest (λ i h m. Small.one {n = 20} (omega arith) (omega arith) (omega arith)) (λ fits.
+    line-says (λ x. Small (capped x)) 21 3 _ _ [] rest (λ i h m. Small.one {n = 21} (omega arith) (omega arith) (omega arith)) (λ inside.
+    last-says (λ x. Small (capped x)) rest (Small.one {n = 0} (omega arith) (omega arith) (omega arith))))
+
+-- where the words are no more than 32 bits count, and so are the numbers of the question, nothing is lost
+pub asked-whole : (s : List ℕ) (p r t : ℕ) → length s < 4294967296 → p < 4294967296 → r < 4294967296 → t < 4294967296
+    → capped (asked s p r t) ≡ asked s p r t
+unfolding asked lengthLine questionLine answered
+asked-whole s p r t n hp hr ht =
+    let rest = said 0 (answered s p r t ∷ []) in
+    line-says (λ x. capped x ≡ x) 20 1 _ _ _ rest (λ i h m. one 20 (length s) n) (λ fits.
+    line-says (λ x. capped x ≡ x) 21 3 _ _ [] rest (λ i h m. number i h) (λ inside.
+    last-says (λ x. capped x ≡ x) rest
+    (one 0 (answered s p r t) (pick-ind (λ v. v < 4294967296) _ 1 0 (λ e. omega arith) (λ e. omega arith)))))
+  where
+    one : (k v : ℕ) → v < 4294967296 → capped (said k (v ∷ [])) ≡ said k (v ∷ [])
+    one k v l = let e : min 4294967295 v ≡ v = omega arith in ap (λ x. said k (x ∷ [])) e
+
+    number : (i : ℕ) → i < 3 → capped (said 21 (getD (p ∷ r ∷ t ∷ []) i 0 ∷ [])) ≡ said 21 (getD (p ∷ r ∷ t ∷ []) i 0 ∷ [])
+    number zero l = one 21 p hp
+    number (suc zero) l = one 21 r hr
+    number (suc (suc zero)) l = one 21 t ht
+    number (suc (suc (suc i))) l = absurd (omega arith)

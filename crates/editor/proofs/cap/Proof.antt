@@ -1,0 +1,11 @@
+-- `editor::cap` meets its contract: the smaller of the two. Assumes nothing.
+use native.Mathlib.Omega.{arith}
+use Rattle.editor.proofs.cap.Statement.{statement}
+use Rattle.editor.proofs.cap.Tie as tie
+
+pub cap-spec : {M : Type 1} → statement M
+cap-spec =
+    tie.close
+    (tie.spec
+    (λ c. omega arith)  -- returns
+    (λ c. omega arith))  -- returns-2

@@ -1,8 +1,9 @@
--- Laws of the outcome on bytes: it is the outcome on words, with the spare bytes as they were; and what is longer than a book or a
--- schedule may be changes nothing by its length. Assumes nothing.
+-- Laws of the outcome on bytes: it is the outcome on words, with the spare bytes as they were; what is longer than a book or a schedule
+-- may be changes nothing by its length; and a question to bytes is a question to their words. Assumes nothing.
 use Prim.Native.Nat.{ℕ, zero, suc, _+_, _*_, _/_, _%_, _≤_, _<_, min}
 use mathlib.Core.Bool.{Bool, true, false, not}
 use mathlib.Core.List.{List, [], _∷_, _++_, append-nil}
+use mathlib.Core.Logic.{_↔_}
 use mathlib.Core.Path.{_≡_, refl, sym, ap, ap₂, _∙_}
 use native.Mathlib.Omega.{arith}
 use native.Mathlib.Decide.{ℕ-discrete, decLt}
@@ -35,7 +36,7 @@ use Rattle.playing.specs.Rehearsal.Low.{done-low}
 use Rattle.summary.specs.Summary.{asked}
 use Rattle.editor.specs.Bytes.{uneven, odd, translated, rehearsed, translationBytes, rehearsalBytes, askedBytes, AsWords}
 use Rattle.editor.specs.Packed.{pack, unpack, capped, packed, Small}
-use Rattle.editor.specs.Packed.Laws.{unpack-pack, plays-from, translation-small, rehearsal-small, asked-small, asked-whole}
+use Rattle.editor.specs.Packed.Laws.{unpack-pack, plays-from, translation-small, rehearsal-small, capped-back, asked-small, asked-whole, asked-never-1}
 
 -- ---- a book that is longer than a book can be
 -- of the first 12,601 words of more words
@@ -349,6 +350,28 @@ module _ (bs : List ℕ) (p r t : ℕ) where
 
   pub asked-unpacked : unpack (pack (capped (askedBytes bs p r t))) ≡ capped (askedBytes bs p r t)
   asked-unpacked = unpack-pack (capped (askedBytes bs p r t)) asked-bytes-small
+
+  -- the number is 256 exactly for yes, and 0 exactly for no
+  said-by : (v : ℕ) → v < 4294967295 → unpack (256 * v) ≡ said 0 (v ∷ []) → pack (capped (askedBytes bs p r t)) ≡ 256 * v
+      → askedBytes bs p r t ≡ said 0 (v ∷ [])
+  said-by v l u e = capped-back (askedBytes bs p r t) 0 v l (sym asked-unpacked ∙ ap unpack e ∙ u)
+
+  pub asked-yes : (pack (capped (askedBytes bs p r t)) ≡ 256) ↔ (askedBytes bs p r t ≡ said 0 (1 ∷ []))
+  unfolding pack unpack pick
+  asked-yes = (λ e. said-by 1 (omega arith) refl e, λ e. ap (λ s. pack (capped s)) e)
+
+  pub asked-no : (pack (capped (askedBytes bs p r t)) ≡ 0) ↔ (askedBytes bs p r t ≡ said 0 (0 ∷ []))
+  unfolding pack unpack pick
+  asked-no = (λ e. said-by 0 (omega arith) refl e, λ e. ap (λ s. pack (capped s)) e)
+
+  -- refusal 1 exactly for bytes that make no whole words
+  pub asked-odd : (askedBytes bs p r t .number ≡ 1) ↔ (uneven bs ≡ true)
+  asked-odd = (λ e. go (uneven bs) refl e, λ e. ap (λ (s : Said). s .number) (of-odd-summary e))
+    where
+      go : (v : Bool) → uneven bs ≡ v → askedBytes bs p r t .number ≡ 1 → uneven bs ≡ true
+      go true e f = e
+      go false e f =
+          absurd (asked-never-1 (wordsIn bs) p r t (ap (λ (s : Said). s .number) (sym (of-whole-summary e)) ∙ f))
 
 -- the bytes of words are asked as the words are, and nothing of the answer is lost where the words are no more than 32 bits count
 module _ (ws : List ℕ) (low : All (λ w. w < 4294967296) ws) (p r t : ℕ) where

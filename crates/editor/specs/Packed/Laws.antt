@@ -2,7 +2,7 @@
 -- to a question. Assumes nothing.
 use Prim.Native.Nat.{ℕ, zero, suc, _+_, _*_, _/_, _%_, _≤_, _<_, min}
 use mathlib.Core.Bool.{Bool, true, false}
-use mathlib.Core.List.{List, [], _∷_, append-nil}
+use mathlib.Core.List.{List, [], _∷_, map, append-nil}
 use mathlib.Core.Path.{_≡_, refl, sym, ap, ap₂, _∙_}
 use native.Mathlib.Omega.{arith}
 use native.Mathlib.Decide.{ℕ-discrete, decLt}
@@ -152,6 +152,29 @@ asked-small s p r t =
     line-says (λ x. Small (capped x)) 20 1 _ _ _ rest (λ i h m. Small.one {n = 20} (omega arith) (omega arith) (omega arith)) (λ fits.
     line-says (λ x. Small (capped x)) 21 3 _ _ [] rest (λ i h m. Small.one {n = 21} (omega arith) (omega arith) (omega arith)) (λ inside.
     last-says (λ x. Small (capped x)) rest (Small.one {n = 0} (omega arith) (omega arith) (omega arith))))
+
+pub asked-never-1 : (s : List ℕ) (p r t : ℕ) → asked s p r t .number ≡ 1 → ⊥
+unfolding asked lengthLine questionLine
+asked-never-1 s p r t =
+    let rest = said 0 (answered s p r t ∷ []) in
+    line-says (λ x. x .number ≡ 1 → ⊥) 20 1 _ _ _ rest (λ i h m e. omega arith) (λ fits.
+    line-says (λ x. x .number ≡ 1 → ⊥) 21 3 _ _ [] rest (λ i h m e. omega arith) (λ inside.
+    last-says (λ x. x .number ≡ 1 → ⊥) rest (λ e. omega arith)))
+
+-- a value below the cap was told as it is
+pub capped-back : (s : Said) (n v : ℕ) → v < 4294967295 → capped s ≡ said n (v ∷ []) → s ≡ said n (v ∷ [])
+capped-back s n v l e = go (s .number) (s .values) e
+  where
+    go : (k : ℕ) (vs : List ℕ) → capped (said k vs) ≡ said n (v ∷ []) → said k vs ≡ said n (v ∷ [])
+    go k [] f = let z : 0 ≡ length (v ∷ []) = ap (λ (x : Said). length (x .values)) f in absurd (omega arith)
+    go k (w ∷ []) f =
+        let number : k ≡ n = ap (λ (x : Said). x .number) f in
+        let value : min 4294967295 w ≡ v = ap (λ (x : Said). getD (x .values) 0 0) f in
+        let same : w ≡ v = omega arith in
+        ap₂ (λ x y. said x (y ∷ [])) number same
+    go k (w ∷ x ∷ vs) f =
+        let z : suc (suc (length (map (min 4294967295) vs))) ≡ length (v ∷ []) = ap (λ (y : Said). length (y .values)) f in
+        absurd (omega arith)
 
 -- where the words are no more than 32 bits count, and so are the numbers of the question, nothing is lost
 pub asked-whole : (s : List ℕ) (p r t : ℕ) → length s < 4294967296 → p < 4294967296 → r < 4294967296 → t < 4294967296

@@ -1,4 +1,5 @@
 pub mod Summary
 pub mod Found
 pub mod Reply
+pub mod Writing
 pub mod Trials

@@ -38,9 +38,16 @@ heldFrom b p r = first (holds b p r) (steps b + 1)
 abbrev pub summaryWords : List ℕ → ℕ
 summaryWords b = 3 + parties b * rows b
 
+-- the words of party p, and those of the first q parties
+abbrev pub heldWords : List ℕ → ℕ → List ℕ
+heldWords b p = values (heldFrom b p) 0 (rows b)
+
+abbrev pub heldTo : List ℕ → ℕ → List ℕ
+heldTo b q = joined (values (heldWords b) 0 q)
+
 -- "Q, T, L, then for each party and row"
 unfoldable pub summary : List ℕ → List ℕ
-summary b = parties b ∷ rows b ∷ steps b ∷ joined (values (λ p. values (heldFrom b p) 0 (rows b)) 0 (parties b))
+summary b = parties b ∷ rows b ∷ steps b ∷ heldTo b (parties b)
 
 -- the book's refusal, and 12 is the last
 unfoldable pub summarySays : List ℕ → List ℕ → Said

@@ -1,17 +1,34 @@
-// Who knew what, when. `ask` answers from the words of a summary alone, whatever words they are: did the party hold the row after the
-// step? `find` says where the answer stands, by the summary's length and its first three words, wherever these lie; `decide` is what the
+// Who knew what, when. `write_summary` answers, for any words and any lent words, the first refusal of 1 to 10 and 12 that applies, or
+// leaves the summary; no other lent word changes. `ask` answers from the words of a summary alone, whatever words they are: did the party
+// hold the row after the step? `find` says where the answer stands, by the summary's length and its first three words, wherever these lie; `decide` is what the
 // word there answers.
+use book::ByRow;
+use book::Reading;
 use book::Refusal;
+use book::parties;
+use book::rows;
+use book::steps;
+use translation::Answer;
+use translator::survey;
+use walking::since_when;
+use words::put_all;
+use words::put3;
 use words::wide;
 ghost use mathlib.Core.Path.{_≡_};
 ghost use mathlib.Core.List.{[], _∷_};
 ghost use mathlib.Core.Bool.{not};
 ghost use Prim.Native.Nat.{_+_, _*_};
 ghost use lib.Dec.{leb, eqb};
-ghost use lib.ListN.{getD};
+ghost use lib.ListN.{length, getD};
 ghost use Rattle.words.specs.Choice.{pick};
+ghost use Rattle.words.specs.Overlay.{Wrote};
+ghost use Rattle.book.specs.Layout.{rows as rowsOf, parties as partiesOf};
 ghost use Rattle.book.specs.Said.{said};
-ghost use Rattle.summary.specs.Summary.{asked};
+ghost use Rattle.translation.specs.Outcome.{came, Plays};
+ghost use Rattle.walking.specs.Marked.{Unmarked};
+ghost use Rattle.translator.specs.Ready.{Writable};
+ghost use Rattle.summary.specs.Summary.{heldWords, heldTo, summarized, asked};
+ghost use Rattle.summary.specs.Writing.{PartyReady};
 ghost use Rattle.summary.specs.Found.{Finds};
 ghost use Rattle.summary.specs.Reply.{replySays};
 
@@ -45,11 +62,18 @@ fn word(summary: &[u32], i: usize) -> u32
     0
 }
 
+// The words of a summary of so many parties and rows.
+fn size(parties: u32, rows: u32) -> usize
+    ensures { λ r. ⌜ r ≡ 3 + parties * rows ⌝ }
+{
+    Front::WORDS + wide(parties) * wide(rows)
+}
+
 // So many words are no summary of so many parties and rows.
 fn misfits(n: usize, parties: u32, rows: u32) -> bool
     ensures { λ r. ⌜ r ≡ not (eqb n (3 + parties * rows)) ⌝ }
 {
-    n != Front::WORDS + wide(parties) * wide(rows)
+    n != size(parties, rows)
 }
 
 // The place of the word of a party and a row.
@@ -105,5 +129,88 @@ pub fn ask(summary: &[u32], party: u32, row: u32, step: u32) -> Reply
     match found {
         Found::Refused(why) => Reply::Refused(why),
         Found::At(i) => decide(word(summary, i), step),
+    }
+}
+
+// Since when a party holds each row, marked first and then written.
+fn write_marks(
+    book: &[u32],
+    since: &ByRow,
+    partners: &ByRow,
+    party: u32,
+    marks: &mut [u32],
+    out: &mut [u32],
+    at: usize,
+) -> usize
+    requires { ⌜ PartyReady (now book) (now since) (now partners) party × Unmarked (now book) (now marks) × (length (now marks) ≡ rowsOf (now book)) ⌝ }
+    ensures { λ r. ⌜ Wrote (heldWords (now (book .entry)) party) (now (out .entry)) at (now (out .exit)) r × (length (now (marks .exit)) ≡ length (now (marks .entry))) ⌝ }
+{
+    since_when(book, since, partners, party, marks);
+    put_all(out, at, marks, marks.len())
+}
+
+// The words of one party.
+fn write_party(
+    book: &[u32],
+    since: &ByRow,
+    partners: &ByRow,
+    party: u32,
+    out: &mut [u32],
+    at: usize,
+) -> usize
+    requires { ⌜ PartyReady (now book) (now since) (now partners) party ⌝ }
+    ensures { λ r. ⌜ Wrote (heldWords (now (book .entry)) party) (now (out .entry)) at (now (out .exit)) r ⌝ }
+{
+    let never = steps(book) + 1;
+    let mut marks = [never; 1024];
+    let n = wide(rows(book));
+    write_marks(book, since, partners, party, &mut marks[..n], out, at)
+}
+
+// The words of all parties, in their order.
+fn write_parties(book: &[u32], since: &ByRow, partners: &ByRow, out: &mut [u32], at: usize) -> usize
+    requires { ⌜ Writable (now book) (now since) (now partners) ⌝ }
+    ensures { λ r. ⌜ Wrote (heldTo (now (book .entry)) (partiesOf (now (book .entry)))) (now (out .entry)) at (now (out .exit)) r ⌝ }
+{
+    let n = parties(book);
+    let mut next = at;
+    let mut party = 0;
+    while party < n {
+        next = write_party(book, since, partners, party, out, next);
+        party += 1;
+    }
+    next
+}
+
+// Refusal 12 of an accepted book, or its summary.
+fn summarize_accepted(book: &[u32], since: &ByRow, partners: &ByRow, out: &mut [u32]) -> Answer
+    requires { ⌜ Plays (now book) × Writable (now book) (now since) (now partners) ⌝ }
+    ensures { λ r. ⌜ came r (now (out .exit)) ≡ summarized (now (book .entry)) (now (out .entry)) ⌝ }
+{
+    let q = parties(book);
+    let t = rows(book);
+    let l = steps(book);
+    let n = size(q, t);
+    if out.len() < n {
+        return Answer::Refused(Refusal::Room(n));
+    }
+    let next = put3(out, 0, q, t, l);
+    write_parties(book, since, partners, out, next);
+    Answer::Written(n)
+}
+
+// The summary of any words into any lent buffer, or the first refusal that applies.
+pub fn write_summary(book: &[u32], out: &mut [u32]) -> Answer
+    ensures { λ r. ⌜ came r (now (out .exit)) ≡ summarized (now (book .entry)) (now (out .entry)) ⌝ }
+{
+    let all = survey(book);
+    let reading = all.reading;
+    match reading {
+        Reading::Refused(why) => Answer::Refused(why),
+        Reading::Accepted => {
+            let since = all.since;
+            let partners = all.partners;
+            summarize_accepted(book, &since, &partners, out)
+        }
     }
 }

@@ -1,39 +1,20 @@
--- `summary::misfits` meets its contract: the length that is asked for fits 64 bits, and is compared. Assumes nothing.
-use Prim.Native.Nat.{_+_, _*_}
+-- `summary::misfits` meets its contract: the length is compared with a summary's. Assumes nothing.
 use mathlib.Core.Bool.{not}
-use mathlib.Core.Path.{ap₂}
-use native.Mathlib.Omega.{arith}
+use mathlib.Core.Path.{ap}
 use lib.Dec.{eqb}
 use borrow.Author.Needs.{needs}
-use Rattle.summary.proofs.Bounds.{product-low}
 use Rattle.summary.proofs.misfits.Statement.{statement}
 use Rattle.summary.proofs.misfits.Tie as tie
 
-mul-result : tie.Need-mul-result
-mul-result c =
-    let rows : tie.After-wide2 = search in
-    let parties : tie.After-wide = search in
-    omega (arith, product-low (parties .wide .ensures .1) (rows .wide2 .ensures .1))
-
-add-result : tie.Need-add-result
-add-result c =
-    let rows : tie.After-wide2 = search in
-    let parties : tie.After-wide = search in
-    omega (arith, product-low (parties .wide .ensures .1) (rows .wide2 .ensures .1))
-
 returns : tie.Need-returns
 returns c =
-    let rows : tie.After-wide2 = search in
-    let parties : tie.After-wide = search in
+    let after-size : tie.After-size = search in
     let start : tie.Start = search in
-    ap₂ (λ x y. not (eqb (start .args .n) (3 + x * y))) (parties .wide .ensures .0) (rows .wide2 .ensures .0)
+    ap (λ x. not (eqb (start .args .n) x)) (after-size .size .ensures)
 
 pub misfits-spec : {M : Type 1} → statement M
 misfits-spec =
     tie.close
     (tie.spec
-    (λ c κs. search needs)  -- wide-requires
-    (λ c κs. search needs)  -- wide-requires-2
-    mul-result
-    add-result
+    (λ c κs. search needs)  -- size-requires
     returns)

@@ -20,10 +20,13 @@ use Rattle.translation.specs.Outcome.Laws.{came-refused, came-written, laid-kee
 use Rattle.translator.specs.declared.Findings.{Findings}
 use Rattle.translator.specs.Surveyed.{Surveyed, fitted}
 use Rattle.translator.specs.Surveyed.Laws.{fitted-says}
-use Rattle.playing.specs.Rehearsal.{eventsDone, rehearsalSays, rehearsal}
+use Rattle.playing.specs.Rehearsal.{eventsDone, rehearsalSays}
 use Rattle.playing.specs.Rehearsal.Laws.{exactly-played, played-says, done-length}
-use Rattle.editor.specs.Bytes.{translated, rehearsed}
-use Rattle.editor.specs.Bytes.Laws.{room-enough}
+use Rattle.editor.specs.Bytes.{translated}
+use Rattle.summary.specs.Summary.{summary, summarySays}
+use Rattle.summary.specs.Summary.Laws.{summary-length}
+use Rattle.summary.specs.Summary.Written.{exactly-summarized, summarized-says}
+use Rattle.editor.specs.Bytes.Laws.{room-enough, summary-room-enough}
 use Rattle.editor.specs.Packed.{pack, Small, returned, packed}
 
 -- ---- an output that is laid over what was lent keeps its length
@@ -57,49 +60,61 @@ module _ {b : List ℕ} {r : Findings} (out : List ℕ) (s : Surveyed b r) {n : 
   written-came {i} {new = new} k w =
       came-written _ out (bytesOfAll (listing b)) new i (sym (sym (ap answerSays k) ∙ e ∙ fitted-says s (wordsIn out) (d ∙ sym (words-length out)))) (w .list)
 
--- ---- a rehearsal keeps the length of what it is lent
-pub rehearsed-length : (b ms lent new : List ℕ) (answer : Answer) → came answer new ≡ rehearsal b ms lent → length new ≡ length lent
-unfolding rehearsal
-rehearsed-length b ms lent new answer r =
-    ap (λ (o : Outcome). length (o .lent)) r ∙ laid-length (rehearsalSays b ms lent) lent (eventsDone b ms)
+-- ---- an output ws into words, and from there, as bytes, to what was lent. Of the words between s is said, and t of those that the bytes
+-- make; both are the same, as there are as many words between as the output can have
+module _ {t : Said} (s : Said) (ws lent new : List ℕ) (answer : Answer) (out : List ℕ) (same : s ≡ t) (r : came answer new ≡ laid s lent ws) where
+  pub through-length : length new ≡ length lent
+  through-length = ap (λ (o : Outcome). length (o .lent)) r ∙ laid-length s lent ws
 
--- ---- a rehearsal into words, of which there are as many as parties can be
-module _ (b ms lent new : List ℕ) (answer : Answer) (out : List ℕ) (size : length lent ≡ min 16 (length out / 4))
-    (r : came answer new ≡ rehearsal b ms lent) where
-  played : answerSays answer ≡ rehearsalSays b ms (wordsIn out)
-  unfolding rehearsal
-  played =
-      let n = words-length out in
-      ap (λ (o : Outcome). o .says) r ∙ room-enough b ms (wordsIn out) lent (omega arith)
+  told : answerSays answer ≡ t
+  told = ap (λ (o : Outcome). o .says) r ∙ same
 
-  pub refused-rehearsed : {f : Refusal} → answer ≡ Refused f → came (Refused f) out ≡ rehearsed b ms out
-  refused-rehearsed {f} k = came-refused _ out (bytesOfAll (eventsDone b ms)) f (sym (sym (ap answerSays k) ∙ played))
+  pub through-refused : {f : Refusal} → answer ≡ Refused f → came (Refused f) out ≡ laid t out (bytesOfAll ws)
+  through-refused {f} k = came-refused t out (bytesOfAll ws) f (sym (sym (ap answerSays k) ∙ told))
 
   -- where it is accepted, the words are in front
-  module _ {n : ℕ} (k : answer ≡ Written n) where
-    number : rehearsalSays b ms lent .number ≡ 0
-    unfolding rehearsal
+  module _ {n : ℕ} (k : answer ≡ Written n) (fits : s .number ≡ 0 → (s ≡ said 0 (length ws ∷ [])) × (length ws ≤ length lent)) where
+    number : s .number ≡ 0
     number = sym (ap (λ (o : Outcome). o .says .number) r) ∙ ap (λ (a : Answer). answerSays a .number) k
 
-    pub done-many : (n ≡ parties b) × (parties b ≤ length lent)
-    unfolding rehearsal
-    done-many =
-        let fits = exactly-played b ms lent .0 number in
-        let says = played-says b ms lent (fits .0) (fits .1) (fits .2) (fits .3) in
-        let same = sym (ap answerSays k) ∙ ap (λ (o : Outcome). o .says) r ∙ says in
-        (ap (λ (s : Said). getD (s .values) 0 0) same, fits .3)
+    pub through-many : (n ≡ length ws) × (length ws ≤ length lent)
+    through-many =
+        let says = sym (ap answerSays k) ∙ ap (λ (o : Outcome). o .says) r ∙ fits number .0 in
+        (ap (λ (x : Said). getD (x .values) 0 0) says, fits number .1)
 
-    pub done-front : take n new ≡ eventsDone b ms
-    unfolding rehearsal
-    done-front =
-        let d = done-length b ms in
-        let e = done-many .0 in
-        let l = done-many .1 in
-        let done = eventsDone b ms in
-        let lays : new ≡ sets lent 0 done = ap (λ (o : Outcome). o .lent) r ∙ laid-lays (rehearsalSays b ms lent) lent done number in
-        let front = sets-eq done lent 0 (omega arith) in
-        ap₂ take (e ∙ sym d) (lays ∙ front) ∙ take-append-seam done (drop (0 + length done) lent)
+    pub through-front : take n new ≡ ws
+    through-front =
+        let e = through-many .0 in
+        let l = through-many .1 in
+        let lays : new ≡ sets lent 0 ws = ap (λ (o : Outcome). o .lent) r ∙ laid-lays s lent ws number in
+        let front = sets-eq ws lent 0 (omega arith) in
+        ap₂ take e (lays ∙ front) ∙ take-append-seam ws (drop (0 + length ws) lent)
 
-    pub written-rehearsed : {after : List ℕ} {j : ℕ} → Wrote (bytesOfAll (eventsDone b ms)) out 0 after j
-        → came (Written n) after ≡ rehearsed b ms out
-    written-rehearsed {after} w = came-written _ out (bytesOfAll (eventsDone b ms)) after n (sym (sym (ap answerSays k) ∙ played)) (w .list)
+    pub through-written : {after : List ℕ} {j : ℕ} → Wrote (bytesOfAll (take n new)) out 0 after j
+        → came (Written n) after ≡ laid t out (bytesOfAll ws)
+    through-written {after} w =
+        came-written t out (bytesOfAll ws) after n (sym (sym (ap answerSays k) ∙ told)) (w .list ∙ ap (λ l. sets out 0 (bytesOfAll l)) through-front)
+
+-- a rehearsal, and a summary
+pub rehearsal-fits : (b ms lent : List ℕ) → rehearsalSays b ms lent .number ≡ 0
+    → (rehearsalSays b ms lent ≡ said 0 (length (eventsDone b ms) ∷ [])) × (length (eventsDone b ms) ≤ length lent)
+rehearsal-fits b ms lent z =
+    let fits = exactly-played b ms lent .0 z in
+    let d = done-length b ms in
+    let room = fits .3 in
+    (played-says b ms lent (fits .0) (fits .1) (fits .2) (fits .3) ∙ ap (λ k. said 0 (k ∷ [])) (sym d), omega arith)
+
+pub summary-fits : (b lent : List ℕ) → summarySays b lent .number ≡ 0
+    → (summarySays b lent ≡ said 0 (length (summary b) ∷ [])) × (length (summary b) ≤ length lent)
+summary-fits b lent z =
+    let fits = exactly-summarized b lent .0 z in
+    let d = summary-length b in
+    let room = fits .1 in
+    (summarized-says b lent (fits .0) (fits .1) ∙ ap (λ k. said 0 (k ∷ [])) (sym d), omega arith)
+
+-- as many words between as the bytes make, or as parties can be, or as a summary can have
+pub between-rehearsal : (b ms lent out : List ℕ) → length lent ≡ min 16 (length out / 4) → rehearsalSays b ms lent ≡ rehearsalSays b ms (wordsIn out)
+between-rehearsal b ms lent out size = let n = words-length out in room-enough b ms (wordsIn out) lent (omega arith)
+
+pub between-summary : (b lent out : List ℕ) → length lent ≡ min 16387 (length out / 4) → summarySays b lent ≡ summarySays b (wordsIn out)
+between-summary b lent out size = let n = words-length out in summary-room-enough b (wordsIn out) lent (omega arith)

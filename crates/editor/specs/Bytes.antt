@@ -13,7 +13,7 @@ use Rattle.book.specs.Said.{Said, said}
 use Rattle.translation.specs.Listing.{listing}
 use Rattle.translation.specs.Outcome.{Outcome, translationSays, laid}
 use Rattle.playing.specs.Rehearsal.{eventsDone, rehearsalSays}
-use Rattle.summary.specs.Summary.{asked}
+use Rattle.summary.specs.Summary.{summary, summarySays, asked}
 pub mod Laws
 
 -- the bytes make no whole words
@@ -32,12 +32,18 @@ translated b out = laid (translationSays b (wordsIn out)) out (bytesOfAll (listi
 abbrev pub rehearsed : List ℕ → List ℕ → List ℕ → Outcome
 rehearsed b ms out = laid (rehearsalSays b ms (wordsIn out)) out (bytesOfAll (eventsDone b ms))
 
+abbrev pub summarizedOn : List ℕ → List ℕ → Outcome
+summarizedOn b out = laid (summarySays b (wordsIn out)) out (bytesOfAll (summary b))
+
 -- of the bytes of a book, and of a schedule
 unfoldable pub translationBytes : List ℕ → List ℕ → Outcome
 translationBytes bs out = pick (uneven bs) (odd out) (translated (wordsIn bs) out)
 
 unfoldable pub rehearsalBytes : List ℕ → List ℕ → List ℕ → Outcome
 rehearsalBytes bs ms out = pick (uneven bs || uneven ms) (odd out) (rehearsed (wordsIn bs) (wordsIn ms) out)
+
+unfoldable pub summaryBytes : List ℕ → List ℕ → Outcome
+summaryBytes bs out = pick (uneven bs) (odd out) (summarizedOn (wordsIn bs) out)
 
 -- of the bytes of a summary: document 02, [4], has its question answered from the summary alone, and here that is its bytes
 unfoldable pub askedBytes : List ℕ → ℕ → ℕ → ℕ → Said

@@ -38,7 +38,7 @@ ghost use Rattle.translator.specs.Parts.{HeadsIn, bodiesOf};
 ghost use Rattle.translator.specs.Ready.{Writable};
 ghost use Rattle.summary.specs.Summary.{asked};
 ghost use Rattle.summary.specs.Reply.{replySays};
-ghost use Rattle.editor.specs.Bytes.{uneven, translated, rehearsed, translationBytes, rehearsalBytes, askedBytes};
+ghost use Rattle.editor.specs.Bytes.{uneven, translated, rehearsed, summarizedOn, translationBytes, rehearsalBytes, summaryBytes, askedBytes};
 ghost use Rattle.editor.specs.Events.{EventsReady, WroteEvents};
 ghost use Rattle.editor.specs.Packed.{pack as packOf, capped as cappedOf, Small, returned, packed};
 
@@ -57,6 +57,9 @@ impl Most {
     const PAIRS: usize = 2048;
 
     const PARTIES: usize = 16;
+
+    // The words of a summary: 3, and 1,024 for each of 16 parties.
+    const SUMMARY: usize = 16387;
 }
 
 // Behind a party's events: where the next byte goes, and the words of the pairs that it stored.
@@ -285,6 +288,43 @@ pub fn ask(summary: &[u8], party: u32, row: u32, step: u32) -> Reply
     ask_words(summary, party, row, step)
 }
 
+// A summary into words, and from there, as bytes, to the output. There are as many words as the output has room for, or as a summary can
+// have.
+fn summarize_through(book: &[u32], told: &mut [u32], out: &mut [u8]) -> Answer
+    requires { ⌜ length (now told) ≡ min 16387 (length (now out) / 4) ⌝ }
+    ensures { λ r. ⌜ came r (now (out .exit)) ≡ summarizedOn (now (book .entry)) (now (out .entry)) ⌝ }
+{
+    let answer = summary::write_summary(book, told);
+    match answer {
+        Answer::Refused(why) => Answer::Refused(why),
+        Answer::Written(n) => {
+            put_words(out, 0, told, n);
+            Answer::Written(n)
+        }
+    }
+}
+
+// The summary of any words into any lent bytes, or the first refusal that applies.
+fn summarize_words(book: &[u32], out: &mut [u8]) -> Answer
+    ensures { λ r. ⌜ came r (now (out .exit)) ≡ summarizedOn (now (book .entry)) (now (out .entry)) ⌝ }
+{
+    let mut told = [0u32; Most::SUMMARY];
+    let room = smaller(Most::SUMMARY, out.len() / 4);
+    summarize_through(book, &mut told[..room], out)
+}
+
+// The same for the bytes of a book.
+pub fn summarize(book: &[u8], out: &mut [u8]) -> Answer
+    ensures { λ r. ⌜ came r (now (out .exit)) ≡ summaryBytes (now (book .entry)) (now (out .entry)) ⌝ }
+{
+    if is_uneven(book) {
+        return Answer::Refused(Refusal::Short);
+    }
+    let mut words = [0u32; Most::WORDS];
+    let n = load(book, &mut words);
+    summarize_words(&words[..n], out)
+}
+
 // An answer's number and values in one number.
 fn pack_told(told: Told) -> u64
     requires { ⌜ Small (toldSays told) ⌝ }
@@ -343,6 +383,15 @@ pub extern "C" fn nghiralum_translate(book: &[u8], out: &mut [u8]) -> u64
     ensures { λ r. ⌜ returned r (now (out .exit)) ≡ packed (translationBytes (now (book .entry)) (now (out .entry))) ⌝ }
 {
     let answer = translate(book, out);
+    pack(answer)
+}
+
+// The summary for them.
+#[no_mangle]
+pub extern "C" fn nghiralum_summary(book: &[u8], out: &mut [u8]) -> u64
+    ensures { λ r. ⌜ returned r (now (out .exit)) ≡ packed (summaryBytes (now (book .entry)) (now (out .entry))) ⌝ }
+{
+    let answer = summarize(book, out);
     pack(answer)
 }
 

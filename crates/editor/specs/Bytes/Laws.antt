@@ -33,10 +33,12 @@ use Rattle.translation.specs.Outcome.Laws.{laid-keeps, laid-lays, exactly-readi
 use Rattle.playing.specs.Rehearsal.{eventsDone, rehearsalSays, rehearsal, BadMoves}
 use Rattle.playing.specs.Rehearsal.Laws.{rehearsal-acceptance-first, rehearsal-exactly-reading, rehearsal-exactly-11, exactly-played, done-length}
 use Rattle.playing.specs.Rehearsal.Low.{done-low}
-use Rattle.summary.specs.Summary.{asked}
-use Rattle.editor.specs.Bytes.{uneven, odd, translated, rehearsed, translationBytes, rehearsalBytes, askedBytes, AsWords}
+use Rattle.summary.specs.Summary.{summaryWords, summary, summarySays, summarized, asked}
+use Rattle.summary.specs.Summary.Laws.{summary-length, summary-low, summary-most}
+use Rattle.summary.specs.Summary.Written.{summary-exactly-reading, exactly-summarized}
+use Rattle.editor.specs.Bytes.{uneven, odd, translated, rehearsed, summarizedOn, translationBytes, rehearsalBytes, summaryBytes, askedBytes, AsWords}
 use Rattle.editor.specs.Packed.{pack, unpack, capped, packed, Small}
-use Rattle.editor.specs.Packed.Laws.{unpack-pack, plays-from, translation-small, rehearsal-small, capped-back, asked-small, asked-whole, asked-never-1}
+use Rattle.editor.specs.Packed.Laws.{unpack-pack, plays-from, translation-small, rehearsal-small, summary-small, capped-back, asked-small, asked-whole, asked-never-1}
 
 -- ---- a book that is longer than a book can be
 -- of the first 12,601 words of more words
@@ -176,33 +178,35 @@ refused-same : (s t : Said) (out ws vs : List ℕ) → s ≡ t → (t .number �
 refused-same s t out ws vs e n =
     ap₂ of e (laid-keeps s out ws (λ z. n (ap (λ (x : Said). x .number) (sym e) ∙ z)) ∙ sym (laid-keeps t out vs n))
 
--- so much of a book is enough
+-- so much of a book is enough, whatever is said of it, if refusals 1 to 9 are the reader's
+enough : (b out : List ℕ) (says : List ℕ → Said) (ws : List ℕ → List ℕ)
+    → ((c : List ℕ) (n : ℕ) → 0 < n → n ≤ 9 → (vs : List ℕ) → verdict c ≡ said n vs → says c ≡ said n vs)
+    → laid (says (take 12601 b)) out (ws (take 12601 b)) ≡ laid (says b) out (ws b)
+enough b out says ws reads = elim (decLt 12601 (length b)) [
+  | yes h ↦
+      let m = misfit b h in
+      let some = m .some in
+      let theirs = reads b (m .number) (m .some) (m .few) (m .values) (m .other) in
+      refused-same _ _ out (ws (take 12601 b)) (ws b) (reads (take 12601 b) (m .number) (m .some) (m .few) (m .values) (m .one) ∙ sym theirs)
+      (λ z. let e = ap (λ (s : Said). s .number) theirs in absurd (omega arith))
+  | no h ↦ ap (λ (c : List ℕ). laid (says c) out (ws c)) (take-all 12601 b (omega arith))
+]
+
 module _ (b ms out : List ℕ) where
   pub long-book : translated (take 12601 b) out ≡ translated b out
-  long-book = elim (decLt 12601 (length b)) [
-    | yes h ↦
-        let m = misfit b h in
-        let says : (c : List ℕ) → verdict c ≡ said (m .number) (m .values) → translationSays c (wordsIn out) ≡ said (m .number) (m .values) =
-        λ c. exactly-reading c (wordsIn out) (m .number) (m .some) (m .few) (m .values) .1 in
-        let some = m .some in
-        let theirs = says b (m .other) in
-        refused-same _ _ out (bytesOfAll (listing (take 12601 b))) (bytesOfAll (listing b)) (says (take 12601 b) (m .one) ∙ sym theirs)
-        (λ z. let e = ap (λ (s : Said). s .number) theirs in absurd (omega arith))
-    | no h ↦ ap (λ (c : List ℕ). translated c out) (take-all 12601 b (omega arith))
-  ]
+  long-book =
+      enough b out (λ c. translationSays c (wordsIn out)) (λ c. bytesOfAll (listing c))
+      (λ c n p h vs. exactly-reading c (wordsIn out) n p h vs .1)
 
   pub long-played-book : rehearsed (take 12601 b) ms out ≡ rehearsed b ms out
-  long-played-book = elim (decLt 12601 (length b)) [
-    | yes h ↦
-        let m = misfit b h in
-        let says : (c : List ℕ) → verdict c ≡ said (m .number) (m .values) → rehearsalSays c ms (wordsIn out) ≡ said (m .number) (m .values) =
-        λ c. rehearsal-exactly-reading c ms (wordsIn out) (m .number) (m .some) (m .few) (m .values) .1 in
-        let some = m .some in
-        let theirs = says b (m .other) in
-        refused-same _ _ out (bytesOfAll (eventsDone (take 12601 b) ms)) (bytesOfAll (eventsDone b ms)) (says (take 12601 b) (m .one) ∙ sym theirs)
-        (λ z. let e = ap (λ (s : Said). s .number) theirs in absurd (omega arith))
-    | no h ↦ ap (λ (c : List ℕ). rehearsed c ms out) (take-all 12601 b (omega arith))
-  ]
+  long-played-book =
+      enough b out (λ c. rehearsalSays c ms (wordsIn out)) (λ c. bytesOfAll (eventsDone c ms))
+      (λ c n p h vs. rehearsal-exactly-reading c ms (wordsIn out) n p h vs .1)
+
+  pub long-summarized-book : summarizedOn (take 12601 b) out ≡ summarizedOn b out
+  long-summarized-book =
+      enough b out (λ c. summarySays c (wordsIn out)) (λ c. bytesOfAll (summary c))
+      (λ c n p h vs. summary-exactly-reading c (wordsIn out) n p h vs .1)
 
   -- so much of a schedule is enough
   pub long-schedule : rehearsed b (take 4097 ms) out ≡ rehearsed b ms out
@@ -224,11 +228,11 @@ module _ (b ms out : List ℕ) where
     ]
   ]
 
--- ---- a rehearsal needs room for no more than 16 words
-room-most : (room q : ℕ) → q ≤ 16 → ltb (min 16 room) q ≡ ltb room q
-room-most room q h = elim (decLt room q) [
-  | yes l ↦ lt-ltb (min 16 room) q (omega arith) ∙ sym (lt-ltb room q l)
-  | no l ↦ le-ltb (min 16 room) q (omega arith) ∙ sym (le-ltb room q (omega arith))
+-- ---- a rehearsal needs room for no more than 16 words, a summary for no more than 16,387
+room-most : (most room need : ℕ) → need ≤ most → ltb (min most room) need ≡ ltb room need
+room-most most room need h = elim (decLt room need) [
+  | yes l ↦ lt-ltb (min most room) need (omega arith) ∙ sym (lt-ltb room need l)
+  | no l ↦ le-ltb (min most room) need (omega arith) ∙ sym (le-ltb room need (omega arith))
 ]
 
 pub room-enough : (b ms out lent : List ℕ) → length lent ≡ min 16 (length out) → rehearsalSays b ms lent ≡ rehearsalSays b ms out
@@ -237,7 +241,14 @@ room-enough b ms out lent e = elim (ℕ-discrete (acceptance b .number) 0) [
   | no n ↦ book-first b _ _ n ∙ sym (book-first b _ _ n)
   | yes z ↦
       let few = valid-headed b (plays-from b z .valid) .fewParties in
-      rw (e, room-most (length out) (parties b) few)
+      rw (e, room-most 16 (length out) (parties b) few)
+]
+
+pub summary-room-enough : (b out lent : List ℕ) → length lent ≡ min 16387 (length out) → summarySays b lent ≡ summarySays b out
+unfolding summarySays roomLine
+summary-room-enough b out lent e = elim (ℕ-discrete (acceptance b .number) 0) [
+  | no n ↦ book-first b _ _ n ∙ sym (book-first b _ _ n)
+  | yes z ↦ rw (e, room-most 16387 (length out) (summaryWords b) (summary-most b (plays-from b z .valid)))
 ]
 
 -- ---- the outcome on words
@@ -293,7 +304,25 @@ module _ (bs out : List ℕ) (e : uneven bs ≡ false) where
         let room = fits .3 in
         (done-low (wordsIn bs) (wordsIn ms) (fits .1), omega arith)))
 
+  pub of-whole-summarized : summaryBytes bs out ≡ summarizedOn (wordsIn bs) out
+  unfolding summaryBytes
+  of-whole-summarized = pick-false _ _ _ e
+
+  pub summary-words : AsWords (summarized (wordsIn bs) (wordsIn out)) out (summaryBytes bs out)
+  unfolding summarized
+  summary-words =
+      rw of-whole-summarized (laid-words (summarySays (wordsIn bs) (wordsIn out)) out (summary (wordsIn bs))
+      (λ z. let fits = exactly-summarized (wordsIn bs) (wordsIn out) .0 z in
+      let n = words-length out in
+      let d = summary-length (wordsIn bs) in
+      let room = fits .1 in
+      (summary-low (wordsIn bs) (fits .0 .valid), omega arith)))
+
 -- ---- refusal 1, place 0, before all else
+pub of-odd-summarized : (bs out : List ℕ) → uneven bs ≡ true → summaryBytes bs out ≡ odd out
+unfolding summaryBytes
+of-odd-summarized bs out n = pick-true _ _ _ n
+
 pub of-odd : (bs out : List ℕ) → uneven bs ≡ true → translationBytes bs out ≡ odd out
 unfolding translationBytes
 of-odd bs out n = pick-true _ _ _ n
@@ -325,11 +354,21 @@ rehearsal-bytes-small bs ms out = go (uneven bs) refl (uneven ms) refl
     go false e true f = rw (of-odd-schedule bs ms out e f) odd-small
     go true e w f = rw (of-odd-book bs ms out e) odd-small
 
+pub summary-bytes-small : (bs out : List ℕ) → Small (summaryBytes bs out .says)
+summary-bytes-small bs out = go (uneven bs) refl
+  where
+    go : (v : Bool) → uneven bs ≡ v → Small (summaryBytes bs out .says)
+    go false e = rw (of-whole-summarized bs out e) (summary-small (wordsIn bs) (wordsIn out))
+    go true e = rw (of-odd-summarized bs out e) odd-small
+
 pub translation-unpacked : (bs out : List ℕ) → unpack (packed (translationBytes bs out) .answer) ≡ translationBytes bs out .says
 translation-unpacked bs out = unpack-pack (translationBytes bs out .says) (translation-bytes-small bs out)
 
 pub rehearsal-unpacked : (bs ms out : List ℕ) → unpack (packed (rehearsalBytes bs ms out) .answer) ≡ rehearsalBytes bs ms out .says
 rehearsal-unpacked bs ms out = unpack-pack (rehearsalBytes bs ms out .says) (rehearsal-bytes-small bs ms out)
+
+pub summary-unpacked : (bs out : List ℕ) → unpack (packed (summaryBytes bs out) .answer) ≡ summaryBytes bs out .says
+summary-unpacked bs out = unpack-pack (summaryBytes bs out .says) (summary-bytes-small bs out)
 
 -- ---- a question to the bytes of a summary
 module _ (bs : List ℕ) (p r t : ℕ) where

@@ -2,7 +2,7 @@
 -- to a question. Assumes nothing.
 use Prim.Native.Nat.{ℕ, zero, suc, _+_, _*_, _/_, _%_, _≤_, _<_, min}
 use mathlib.Core.Bool.{Bool, true, false}
-use mathlib.Core.List.{List, [], _∷_, map, append-nil}
+use mathlib.Core.List.{List, [], _∷_, _++_, map, append-nil}
 use mathlib.Core.Path.{_≡_, refl, sym, ap, ap₂, _∙_}
 use native.Mathlib.Omega.{arith}
 use native.Mathlib.Decide.{ℕ-discrete, decLt}
@@ -25,7 +25,8 @@ use Rattle.translation.specs.Low.Laws.{taken-low}
 use Rattle.translation.specs.Outcome.{takenLine, roomLine, acceptance, translationSays, Plays}
 use Rattle.translation.specs.Outcome.Laws.{ten, ten-lines, book-first, keep-plays, plays-keep}
 use Rattle.playing.specs.Rehearsal.{longLine, moveLine, rehearsalSays}
-use Rattle.summary.specs.Summary.{lengthLine, questionLine, answered, asked}
+use Rattle.summary.specs.Summary.{summaryWords, summarySays, lengthLine, questionLine, answered, asked}
+use Rattle.summary.specs.Summary.Laws.{summary-most}
 use Rattle.editor.specs.Packed.{pack, unpack, capped, Small}
 
 -- ---- read back
@@ -109,20 +110,29 @@ module _ (b : List ℕ) where
       keep-plays b (none-given (ten b) accepted (omega arith)
       (ap (λ (ls : List Line). firstOf ls accepted .number) (sym (ten-lines b [] ∙ append-nil _)) ∙ z))
 
-  -- ---- and 12, or acceptance
-  pub translation-small : (out : List ℕ) → Small (translationSays b out)
-  unfolding translationSays roomLine
-  translation-small out = elim (ℕ-discrete (acceptance b .number) 0) [
-    | no n ↦ rw (book-first b (roomLine (length out) (length (listing b)) ∷ []) (said 0 (length (listing b) ∷ [])) n) (acceptance-small n)
+  -- ---- and 12, or acceptance: of an output whose length fits
+  room-small : (out : List ℕ) (need : ℕ) → (Plays b → need < 4294967296)
+      → Small (firstOf (readingTable b ++ takenLine b ∷ roomLine (length out) need ∷ []) (said 0 (need ∷ [])))
+  unfolding roomLine
+  room-small out need low = elim (ℕ-discrete (acceptance b .number) 0) [
+    | no n ↦ rw (book-first b (roomLine (length out) need ∷ []) (said 0 (need ∷ [])) n) (acceptance-small n)
     | yes z ↦
         let p = plays-from z in
-        let short = listing-short b (p .valid) in
-        let rest = said 0 (length (listing b) ∷ []) in
-        let line12 = roomLine (length out) (length (listing b)) in
+        let short = low p in
+        let rest = said 0 (need ∷ []) in
+        let line12 = roomLine (length out) need in
         rw (ten-lines b (line12 ∷ []), all-keep (ten b) (line12 ∷ []) rest (plays-keep b p))
         (line-says Small 12 1 _ _ [] rest (λ i h t. Small.one {n = 12} (omega arith) (omega arith) (omega arith))
         (λ room. last-says Small rest (Small.one {n = 0} (omega arith) (omega arith) (omega arith))))
   ]
+
+  pub translation-small : (out : List ℕ) → Small (translationSays b out)
+  unfolding translationSays
+  translation-small out = room-small out (length (listing b)) (λ p. let short = listing-short b (p .valid) in omega arith)
+
+  pub summary-small : (out : List ℕ) → Small (summarySays b out)
+  unfolding summarySays
+  summary-small out = room-small out (summaryWords b) (λ p. let most = summary-most b (p .valid) in omega arith)
 
   -- ---- of a rehearsal 11, too
   pub rehearsal-small : (ms out : List ℕ) → Small (rehearsalSays b ms out)

@@ -1,7 +1,7 @@
 -- Laws of the summary: what is held stays held; the summary's length and its words, each exactly when; and the answer from the summary
 -- is the answer of the full walk. Assumes nothing.
 use Prim.Native.Nat.{ℕ, zero, suc, _+_, _*_, _≤_, _<_}
-use native.Mathlib.Nat.{suc-mul, zero-mul, zero-add}
+use native.Mathlib.Nat.{suc-mul, zero-mul, zero-add, mul-le-mul}
 use mathlib.Core.Bool.{Bool, true, false}
 use mathlib.Core.List.{List, [], _∷_, _++_, map, List·Memᴰ, List·Memᴰ·head, List·Memᴰ·tail, List·Memᴰ·cases-cons, List·Memᴰ·not-nil}
 use mathlib.Core.Logic.{_↔_, ⊎-elim}
@@ -254,3 +254,10 @@ summary-low b v =
     let l = headed .fewSteps in
     let word : (p r : ℕ) → heldFrom b p r < wordLimit = λ p r. (let low = heldFrom-low b p r in omega arith) in
     (omega arith, (omega arith, (omega arith, low-joined _ (λ p. low-values (heldFrom b p) (word p) 0 (rows b)) 0 (parties b))))
+
+-- and it has at most 16,387 of them
+pub summary-most : (b : List ℕ) → Valid b → summaryWords b ≤ 16387
+summary-most b v =
+    let headed = valid-headed b v in
+    let product = mul-le-mul {n₂ = 16} {m₂ = 1024} (headed .fewParties) (headed .fewRows) in
+    omega arith

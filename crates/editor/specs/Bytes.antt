@@ -1,6 +1,6 @@
 -- The outcome on bytes, of any length each. Document 02, [1]: "translation and rehearsal callable .. on plain byte slices, low byte
 -- first, same answers. A book or schedule whose byte length isn't a multiple of four is refusal 1, before all else, place 0. Refusal
--- 12 still counts words; up to three spare output bytes are untouched."
+-- 12 still counts words; up to three spare output bytes are untouched." Summaries, [4], are written and asked about in the same way.
 use Prim.Native.Nat.{ℕ, _%_}
 use mathlib.Core.Bool.{Bool, not, _||_}
 use mathlib.Core.List.{List, [], _∷_}

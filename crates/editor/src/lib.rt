@@ -1,6 +1,6 @@
-// The faces on bytes, low byte first, for callers in other languages. `nghiralum_translate`, `nghiralum_rehearse` and `nghiralum_ask`
-// answer for any bytes what the faces on words answer for the words that they make, in one number, and leave the same words as bytes; a
-// book, a schedule or a summary that makes no whole words is refused before all else.
+// The faces on bytes, low byte first, for callers in other languages. `nghiralum_translate`, `nghiralum_rehearse`, `nghiralum_summary` and
+// `nghiralum_ask` answer for any bytes what the faces on words answer for the words that they make, in one number, and leave the same words
+// as bytes; a book, a schedule or a summary that makes no whole words is refused before all else.
 use book::ByRow;
 use book::Code;
 use book::Refusal;

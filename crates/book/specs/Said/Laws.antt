@@ -32,7 +32,7 @@ refusal-number (Question n) e = omega arith
 abbrev pub valueAt : Said → ℕ → ℕ
 valueAt s i = getD (s .values) i 0
 
--- by number: 0 is no refusal's, and so are 13 to 19
+-- by number: 0 is no refusal's, nor are 13 to 19
 abbrev pub refusalOf : Said → Refusal
 refusalOf s =
     getD

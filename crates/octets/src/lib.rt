@@ -1,5 +1,5 @@
-// Words and bytes, low byte first. `word_at` is one of the words that bytes make, and `load` lays them over lent words; `put_word` and `put_words` write words as
-// bytes, each byte whose place is inside, and answer the next place, also past the end.
+// Words and bytes, low byte first. `word_at` is one of the words that bytes make, and `load` lays them over lent words; `put_word` and
+// `put_words` write words as bytes, each byte whose place is inside, and answer the next place, also past the end.
 use words::Place;
 use words::put;
 ghost use mathlib.Core.Path.{_≡_};

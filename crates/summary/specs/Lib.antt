@@ -3,3 +3,4 @@ pub mod Found
 pub mod Reply
 pub mod Writing
 pub mod Trials
+pub mod Idle

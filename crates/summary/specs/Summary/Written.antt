@@ -18,6 +18,8 @@ use Rattle.book.specs.Refusals.{firstOf, verdict}
 use Rattle.book.specs.Valid.{Valid}
 use Rattle.translation.specs.Outcome.{takenLine, roomLine, acceptance, Outcome, came, Unplayable, Plays}
 use Rattle.translation.specs.Outcome.Laws.{room-line, ends-in-room, room-exact, room-says, fits-exact, laid-keeps, laid-lays, laid-past, taken-line, ten, ten-lines, reading-exact, book-first, book-came, came-refused, came-written, takenLine-exact, keep-plays, plays-keep}
+use Rattle.translation.specs.Outcome.Returned.{came-injective}
+use Rattle.translation.specs.declared.Answer.{Answer}
 use Rattle.translation.specs.declared.Answer.the-variants.{Written, Refused}
 use Rattle.summary.specs.Summary.{holds, summaryWords, summary, summarySays, summarized, asked}
 use Rattle.summary.specs.Summary.Laws.{summary-length, summary-exact}
@@ -113,3 +115,8 @@ module _ (b out : List ℕ) where
 -- ---- no two outcomes keep one promise
 pub summarized-one : (b out : List ℕ) (o p : Outcome) → o ≡ summarized b out → p ≡ summarized b out → o ≡ p
 summarized-one b out o p e f = e ∙ sym f
+
+-- nor do two answers, or two states of the lent words
+pub write-summary-one : (b out : List ℕ) (r s : Answer) (new old : List ℕ) → came r new ≡ summarized b out → came s old ≡ summarized b out
+    → (r ≡ s) × (new ≡ old)
+write-summary-one b out r s new old e f = came-injective r s new old (e ∙ sym f)

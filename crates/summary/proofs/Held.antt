@@ -56,24 +56,27 @@ pub marks-wrote : {b : List ℕ} (marks : List ℕ) {new out outAfter : List ℕ
     → Wrote (heldWords b p) out at outAfter next
 marks-wrote marks {new} l e f g w = wrote-as w (sym (take-length new ∙ marks-words l (f ∙ e) g))
 
--- so many words of a list that has `never` everywhere are marked nowhere
-pub fresh-marks : {b : List ℕ} {n t never : ℕ} → Valid b → t ≡ rows b → n ≡ t → never ≡ steps b
-    → Unmarked b (take n (replicate 1024 (never + 1))) × (length (take n (replicate {A = ℕ} 1024 (never + 1))) ≡ rows b)
-fresh-marks {b} {n} {never = never} v dt dn d =
+-- so many words of a list that has one more than all steps everywhere are marked nowhere
+pub fresh-size : {b : List ℕ} {n t : ℕ} (x : ℕ) → Valid b → t ≡ rows b → n ≡ t → length (take n (replicate {A = ℕ} 1024 x)) ≡ rows b
+fresh-size {b} {n} x v dt dn =
     let few = few-rows b v in
-    let whole = length-replicate 1024 (never + 1) in
-    let size = length-take-le n (replicate {A = ℕ} 1024 (never + 1)) (omega arith) in (
-      record {
-        few = omega arith;
-        each = λ r h. getD-take n (replicate 1024 (never + 1)) r 0 (omega arith) ∙ everywhere 1024 (never + 1) r (omega arith) ∙ ap (λ k. k + 1) d;
-      },
-      omega arith,
-    )
-  where
-    everywhere : (m x r : ℕ) → r < m → getD (replicate m x) r 0 ≡ x
-    everywhere zero x r h = absurd (omega arith)
-    everywhere (suc m) x zero h = refl
-    everywhere (suc m) x (suc r) h = everywhere m x r (omega arith)
+    let whole = length-replicate 1024 x in
+    let size = length-take-le n (replicate {A = ℕ} 1024 x) (omega arith) in
+    omega arith
+
+everywhere : (m x r : ℕ) → r < m → getD (replicate m x) r 0 ≡ x
+everywhere zero x r h = absurd (omega arith)
+everywhere (suc m) x zero h = refl
+everywhere (suc m) x (suc r) h = everywhere m x r (omega arith)
+
+pub fresh-marks : {b : List ℕ} {n t : ℕ} (x : ℕ) → Valid b → t ≡ rows b → n ≡ t → x ≡ steps b + 1 → Unmarked b (take n (replicate 1024 x))
+fresh-marks {b} {n} x v dt dn d =
+    let few = few-rows b v in
+    let size = fresh-size {b = b} {n = n} x v dt dn in
+    record {
+      few = omega arith;
+      each = λ r h. getD-take n (replicate 1024 x) r 0 (omega arith) ∙ everywhere 1024 x r (omega arith) ∙ d;
+    }
 
 -- ---- all parties
 joined-append : (ls : List (List ℕ)) (l : List ℕ) → joined (ls ++ l ∷ []) ≡ joined ls ++ l

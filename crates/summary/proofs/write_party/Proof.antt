@@ -4,7 +4,7 @@ use native.Mathlib.Omega.{arith}
 use lib.ListN.{length-take}
 use borrow.Author.Needs.{needs}
 use Rattle.book.specs.Headed.Laws.{valid-headed, few-rows, few-steps}
-use Rattle.summary.proofs.Held.{fresh-marks}
+use Rattle.summary.proofs.Held.{fresh-marks, fresh-size}
 use Rattle.summary.proofs.write_party.Statement.{statement}
 use Rattle.summary.proofs.write_party.Tie as tie
 
@@ -14,9 +14,12 @@ write-marks-requires c κs =
     let after-rows : tie.After-rows = search in
     let after-steps : tie.After-steps = search in
     let start : tie.Start = search in
-    let (fresh, size) = fresh-marks (start .pre .ready .valid) (after-rows .rows .ensures) (after-wide .wide .ensures .0)
-    (after-steps .steps .ensures) in
-    (start .pre, fresh, size)
+    let valid = start .pre .ready .valid in
+    let all = after-steps .steps .ensures in (
+      start .pre,
+      fresh-marks _ valid (after-rows .rows .ensures) (after-wide .wide .ensures .0) (omega arith),
+      fresh-size _ valid (after-rows .rows .ensures) (after-wide .wide .ensures .0),
+    )
 
 pub write-party-spec : {M : Type 1} → statement M
 write-party-spec =

@@ -45,7 +45,7 @@ measure-requires c κs =
       claims = ready .claims;
       partners = ready .partners;
       party = omega arith;
-      within = among-within (at-loop .loop .inv .found);
+      within = let upto = among-within (at-loop .loop .inv .found) in omega arith;
       low = omega arith;
     }
 

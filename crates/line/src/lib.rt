@@ -15,7 +15,7 @@ ghost use Rattle.translation.specs.Outcome.{came};
 ghost use Rattle.line.specs.Line.{spacedAll, ended, listingLine, refusalText, refusalLine, readingLine, lineOf, Inside, Put, PutNumber};
 
 // Puts a text at a place of the line; answers the place behind it.
-fn put_text(line: &mut [u8], at: usize, text: &[u8]) -> usize
+pub fn put_text(line: &mut [u8], at: usize, text: &[u8]) -> usize
     requires { ⌜ at + length (now text) ≤ length (now line) ⌝ }
     ensures { λ r. ⌜ Put (now (text .entry)) (now (line .entry)) at (now (line .exit)) r ⌝ }
 {
@@ -97,7 +97,7 @@ fn listing_line(line: &mut [u8], words: &[u32]) -> usize
     end(line, at)
 }
 
-fn refusal_line(line: &mut [u8], refusal: Refusal) -> usize
+pub fn refusal_line(line: &mut [u8], refusal: Refusal) -> usize
     requires { ⌜ 71 ≤ length (now line) ⌝ }
     ensures { λ r. ⌜ Counts r (now (line .exit)) ⌝ }
     ensures { λ r. ⌜ take r (now (line .exit)) ≡ refusalLine (refusalSays refusal) ⌝ }

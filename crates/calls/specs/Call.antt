@@ -1,47 +1,94 @@
 -- What the program prints of a call: the line of what the function answers, picked by its number. The numbers stand in docs/CALLS.md.
 use Prim.Native.Nat.{ℕ, _*_, _≤_}
+use mathlib.Core.Bool.{Bool, true, false}
 use mathlib.Core.List.{List, []}
+use mathlib.Core.Path.{_≡_}
 use lib.Dec.{eqb, ltb}
+use lib.ListN.{getD}
 use Rattle.words.specs.Choice.{pick}
 use Rattle.octets.specs.Octets.{wordsIn}
+use Rattle.book.specs.Said.{Said}
 use Rattle.book.specs.Refusals.{verdict}
 use Rattle.translation.specs.Outcome.{Outcome, acceptance, outcome}
 use Rattle.playing.specs.Rehearsal.{rehearsal}
-use Rattle.editor.specs.Bytes.{translationBytes, rehearsalBytes}
+use Rattle.summary.specs.Summary.{summarized, asked}
+use Rattle.editor.specs.Bytes.{translationBytes, rehearsalBytes, summaryBytes, askedBytes}
 use Rattle.line.specs.Line.{readingLine, lineOf}
+use Rattle.calls.specs.Reply.{replyLine}
 pub mod Laws
+pub mod Numbers
 
--- the numbers that are some function's, and those of the functions on words
+-- ---- the functions
+-- the numbers that are some function's
 abbrev pub Known : ℕ → Type 0
-Known f = (1 ≤ f) × (f ≤ 6)
+Known f = (1 ≤ f) × (f ≤ 10)
 
-abbrev pub OnWords : ℕ → Type 0
-OnWords f = (1 ≤ f) × (f ≤ 4)
+-- the slices are of bytes: of 5, 6, 9 and 10
+unfoldable pub onBytes : ℕ → Bool
+onBytes f = pick (ltb f 5) false (pick (ltb f 7) true (ltb 8 f))
 
--- how many slices the function f has: a reading one, a rehearsal three, a translation two
+-- a question is answered: by 8 and 10
+unfoldable pub asks : ℕ → Bool
+asks f = pick (eqb f 8) true (eqb f 10)
+
+-- how many slices the function f has: a reading and a question one, a rehearsal three, the others two
 unfoldable pub slicesOf : ℕ → ℕ
-slicesOf f = pick (ltb f 3) 1 (pick (eqb f 4) 3 (pick (ltb 5 f) 3 2))
+slicesOf f = pick (ltb f 3) 1 (pick (asks f) 1 (pick (eqb f 4) 3 (pick (eqb f 6) 3 2)))
 
--- the bytes of a slice of the function f whose count is n: of words, or of bytes
+-- how many numbers it has behind them: a question three
+unfoldable pub numbersOf : ℕ → ℕ
+numbersOf f = pick (asks f) 3 0
+
+-- the bytes of a slice of the function f whose count is n: of bytes, or of words
 unfoldable pub sliceSize : ℕ → ℕ → ℕ
-sliceSize f n = pick (ltb f 5) (4 * n) n
+sliceSize f n = pick (onBytes f) n (4 * n)
 
--- of the slices of the function f, in the order of its parameters: 1 `read` and 2 `accept` of a book, 3 `translate` of a book and lent
--- words, 4 `rehearse` of a book, a schedule and lent words
+-- ---- their lines
+-- without an output: 1 `read` and 2 `accept` of a book
+unfoldable pub verdictLine : ℕ → List ℕ → List ℕ
+verdictLine f a = pick (eqb f 1) (readingLine (verdict a)) (pick (eqb f 2) (readingLine (acceptance a)) [])
+
+-- on words, of the slices in the order of the function's parameters: those, 3 `translate` of a book and lent words, 4 `rehearse` of a book,
+-- a schedule and lent words, 7 `write_summary` of a book and lent words
 unfoldable pub wordsLine : ℕ → List ℕ → List ℕ → List ℕ → List ℕ
 wordsLine f a b c =
-    pick (eqb f 1) (readingLine (verdict a))
-    (pick (eqb f 2) (readingLine (acceptance a))
+    pick (ltb f 3) (verdictLine f a)
     (pick (eqb f 3) (lineOf (outcome a b))
-    (pick (eqb f 4) (lineOf (rehearsal a b c)) [])))
+    (pick (eqb f 4) (lineOf (rehearsal a b c))
+    (pick (eqb f 7) (lineOf (summarized a b)) [])))
+
+-- the numbers that have a line here
+abbrev pub OnWords : ℕ → Type 0
+OnWords f = (1 ≤ f) × (f ≤ 7) × (f ≡ 5 → ⊥) × (f ≡ 6 → ⊥)
 
 -- of an outcome on bytes: the output's words are those that the lent bytes make
 abbrev pub inWords : Outcome → Outcome
 inWords o = record { says = o .says; lent = wordsIn (o .lent) }
 
--- of the bytes that were read of each: 5 `nghiralum_translate`, 6 `nghiralum_rehearse`, or one on words
-unfoldable pub callLine : ℕ → List ℕ → List ℕ → List ℕ → List ℕ
-callLine f a b c =
+-- on bytes: 5 `nghiralum_translate`, 6 `nghiralum_rehearse`, 9 `nghiralum_summary`
+unfoldable pub bytesLine : ℕ → List ℕ → List ℕ → List ℕ → List ℕ
+bytesLine f a b c =
     pick (eqb f 5) (lineOf (inWords (translationBytes a b)))
     (pick (eqb f 6) (lineOf (inWords (rehearsalBytes a b c)))
-    (wordsLine f (wordsIn a) (wordsIn b) (wordsIn c)))
+    (pick (eqb f 9) (lineOf (inWords (summaryBytes a b))) []))
+
+abbrev pub OnBytes : ℕ → Type 0
+OnBytes f = (5 ≤ f) × (f ≤ 9) × (f ≡ 7 → ⊥) × (f ≡ 8 → ⊥)
+
+-- number i of those that stand behind a slice, a word each
+abbrev pub number : List ℕ → ℕ → ℕ
+number bs i = getD (wordsIn bs) i 0
+
+-- of a question about the summary a: its party, row and step are the numbers that the bytes b make, in this order
+abbrev pub question : (List ℕ → ℕ → ℕ → ℕ → Said) → List ℕ → List ℕ → Said
+question answer a b = answer a (number b 0) (number b 1) (number b 2)
+
+-- of questions: 8 `ask`, 10 `nghiralum_ask`
+unfoldable pub questionLine : ℕ → List ℕ → List ℕ → List ℕ
+questionLine f a b =
+    pick (eqb f 8) (replyLine (question asked (wordsIn a) b)) (pick (eqb f 10) (replyLine (question askedBytes a b)) [])
+
+-- of the bytes that were read of each slice, and of a question's numbers
+unfoldable pub callLine : ℕ → List ℕ → List ℕ → List ℕ → List ℕ
+callLine f a b c =
+    pick (asks f) (questionLine f a b) (pick (onBytes f) (bytesLine f a b c) (wordsLine f (wordsIn a) (wordsIn b) (wordsIn c)))

@@ -1,19 +1,25 @@
-// Any call without code: reads requests from standard input, each a function's number and its slices, calls the function and prints
-// its answer on one line. `call_line` leaves exactly the line's bytes, for any bytes of the slices; the rest reads and prints.
+// Any call without code: reads requests from standard input, each a function's number, its slices and its numbers, calls the function and
+// prints its answer on one line. `call_line` leaves exactly the line's bytes, for any bytes that were read; the rest reads and prints.
 use input::Input;
 use libc::STDERR_FILENO;
 use libc::STDIN_FILENO;
+use summary::Reply;
 use translation::Answer;
 ghost use mathlib.Core.Path.{_≡_};
+ghost use mathlib.Core.Bool.{true};
 ghost use Prim.Native.Nat.{_/_, _^_, _≤_, _<_};
 ghost use lib.ListN.{length, take};
 ghost use Rattle.io.specs.Counts.{Counts};
 ghost use Rattle.octets.specs.Octets.{wordAt, wordsIn};
 ghost use Rattle.translation.specs.Outcome.{came};
+ghost use Rattle.summary.specs.Summary.{asked};
+ghost use Rattle.summary.specs.Reply.{replySays};
 ghost use Rattle.input.specs.Input.{Within};
 ghost use Rattle.line.specs.Line.{Inside, lineOf};
-ghost use Rattle.calls.specs.Call.{OnWords, Known, slicesOf, sliceSize, wordsLine, callLine};
+ghost use Rattle.calls.specs.Call.{Known, onBytes, asks, slicesOf, numbersOf, sliceSize};
+ghost use Rattle.calls.specs.Call.{OnWords, OnBytes, verdictLine, wordsLine, bytesLine, questionLine, callLine};
 ghost use Rattle.calls.specs.Next.{Asked};
+ghost use Rattle.calls.specs.Reply.{replyLine};
 
 // What is read and printed at most.
 struct Most {}
@@ -23,6 +29,9 @@ impl Most {
     const WORDS: usize = 16384;
 
     const BYTES: usize = 65536;
+
+    // Behind the summary of a question: a party, a row and a step.
+    const NUMBERS: usize = 3;
 
     // A word takes up to eleven bytes of the line, as `line` counts them.
     const LINE: usize = 180234;
@@ -46,6 +55,14 @@ impl Function {
     const TRANSLATE_BYTES: u32 = 5;
 
     const REHEARSE_BYTES: u32 = 6;
+
+    const WRITE_SUMMARY: u32 = 7;
+
+    const ASK: u32 = 8;
+
+    const SUMMARY_BYTES: u32 = 9;
+
+    const ASK_BYTES: u32 = 10;
 }
 
 // What came next: a call of a function, or nothing more, and where that is no proper end, it was told.
@@ -54,8 +71,42 @@ enum Next {
     Nothing,
 }
 
-// The line of a call on words, into the front of `line`; answers its length. The slices stand in the order of the function's
-// parameters; what it has none for is not looked at.
+// The function's slices are of bytes.
+fn on_bytes(function: u32) -> bool
+    ensures { λ r. ⌜ r ≡ onBytes function ⌝ }
+{
+    if function < Function::TRANSLATE_BYTES {
+        return false;
+    }
+    if function < Function::WRITE_SUMMARY {
+        return true;
+    }
+    Function::ASK < function
+}
+
+// The function answers a question: numbers stand behind its slice.
+fn is_question(function: u32) -> bool
+    ensures { λ r. ⌜ r ≡ asks function ⌝ }
+{
+    if function == Function::ASK {
+        return true;
+    }
+    function == Function::ASK_BYTES
+}
+
+// The line of a call that has no output, into the front of `line`; answers its length.
+fn verdict_line(line: &mut [u8], function: u32, book: &[u32]) -> usize
+    requires { ⌜ (1 ≤ function) × (function < 3) × (71 ≤ length (now line)) ⌝ }
+    ensures { λ r. ⌜ Counts r (now (line .exit)) ⌝ }
+    ensures { λ r. ⌜ take r (now (line .exit)) ≡ verdictLine function (now (book .entry)) ⌝ }
+{
+    if function == Function::READ {
+        return line::reading_line(line, reader::read(book));
+    }
+    line::reading_line(line, translator::accept(book))
+}
+
+// The line of a call on words. The slices stand in the order of the function's parameters; what it has none for is not looked at.
 fn words_line(
     line: &mut [u8],
     function: u32,
@@ -67,14 +118,15 @@ fn words_line(
     ensures { λ r. ⌜ Counts r (now (line .exit)) ⌝ }
     ensures { λ r. ⌜ take r (now (line .exit)) ≡ wordsLine function (now (first .entry)) (now (second .entry)) (now (third .entry)) ⌝ }
 {
-    if function == Function::READ {
-        return line::reading_line(line, reader::read(first));
-    }
-    if function == Function::ACCEPT {
-        return line::reading_line(line, translator::accept(first));
+    if function < Function::TRANSLATE {
+        return verdict_line(line, function, first);
     }
     if function == Function::TRANSLATE {
         let answer = translator::translate(first, second);
+        return line::answer_line(line, answer, second);
+    }
+    if function == Function::WRITE_SUMMARY {
+        let answer = summary::write_summary(first, second);
         return line::answer_line(line, answer, second);
     }
     let answer = rehearsal::rehearse(first, second, third);
@@ -107,7 +159,69 @@ fn lent_line(line: &mut [u8], answer: Answer, lent: &[u8]) -> usize
     line::answer_line(line, answer, &words[..n])
 }
 
-// The line of a call, of the bytes that were read of its slices.
+// The line of a call on bytes that has an output.
+fn bytes_line(
+    line: &mut [u8],
+    function: u32,
+    first: &[u8],
+    second: &mut [u8],
+    third: &mut [u8],
+) -> usize
+    requires { ⌜ OnBytes function × (length (now second) ≤ 65536) × (length (now third) ≤ 65536) × (180234 ≤ length (now line)) ⌝ }
+    ensures { λ r. ⌜ Counts r (now (line .exit)) ⌝ }
+    ensures { λ r. ⌜ take r (now (line .exit)) ≡ bytesLine function (now (first .entry)) (now (second .entry)) (now (third .entry)) ⌝ }
+{
+    if function == Function::TRANSLATE_BYTES {
+        let answer = editor::translate(first, second);
+        return lent_line(line, answer, second);
+    }
+    if function == Function::SUMMARY_BYTES {
+        let answer = editor::summarize(first, second);
+        return lent_line(line, answer, second);
+    }
+    let answer = editor::rehearse(first, second, third);
+    lent_line(line, answer, third)
+}
+
+// The reply to a question about the words that the bytes of a summary make.
+fn ask_words(summary: &[u8], party: u32, row: u32, step: u32) -> Reply
+    requires { ⌜ length (now summary) ≤ 65536 ⌝ }
+    ensures { λ r. ⌜ replySays r ≡ asked (wordsIn (now (summary .entry))) party row step ⌝ }
+{
+    let mut words = [0u32; Most::WORDS];
+    let n = octets::load(summary, &mut words);
+    summary::ask(&words[..n], party, row, step)
+}
+
+// The line of what is replied to a question: the word "yes" or "no", or its refusal.
+fn reply_line(line: &mut [u8], reply: Reply) -> usize
+    requires { ⌜ 71 ≤ length (now line) ⌝ }
+    ensures { λ r. ⌜ Counts r (now (line .exit)) ⌝ }
+    ensures { λ r. ⌜ take r (now (line .exit)) ≡ replyLine (replySays reply) ⌝ }
+{
+    match reply {
+        Reply::Yes => line::put_text(line, 0, b"yes\n"),
+        Reply::No => line::put_text(line, 0, b"no\n"),
+        Reply::Refused(refusal) => line::refusal_line(line, refusal),
+    }
+}
+
+// The line of a question about a summary, of the bytes of both: the numbers are a party, a row and a step.
+fn question_line(line: &mut [u8], function: u32, summary: &[u8], numbers: &[u8]) -> usize
+    requires { ⌜ (asks function ≡ true) × (length (now summary) ≤ 65536) × (71 ≤ length (now line)) ⌝ }
+    ensures { λ r. ⌜ Counts r (now (line .exit)) ⌝ }
+    ensures { λ r. ⌜ take r (now (line .exit)) ≡ questionLine function (now (summary .entry)) (now (numbers .entry)) ⌝ }
+{
+    let party = octets::word_at(numbers, 0);
+    let row = octets::word_at(numbers, 1);
+    let step = octets::word_at(numbers, 2);
+    if function == Function::ASK {
+        return reply_line(line, ask_words(summary, party, row, step));
+    }
+    reply_line(line, editor::ask(summary, party, row, step))
+}
+
+// The line of a call, of the bytes that were read of its slices; of a question the second are its numbers.
 fn call_line(
     line: &mut [u8],
     function: u32,
@@ -119,13 +233,11 @@ fn call_line(
     ensures { λ r. ⌜ Counts r (now (line .exit)) ⌝ }
     ensures { λ r. ⌜ take r (now (line .exit)) ≡ callLine function (now (first .entry)) (now (second .entry)) (now (third .entry)) ⌝ }
 {
-    if function == Function::TRANSLATE_BYTES {
-        let answer = editor::translate(first, second);
-        return lent_line(line, answer, second);
+    if is_question(function) {
+        return question_line(line, function, first, second);
     }
-    if function == Function::REHEARSE_BYTES {
-        let answer = editor::rehearse(first, second, third);
-        return lent_line(line, answer, third);
+    if on_bytes(function) {
+        return bytes_line(line, function, first, second, third);
     }
     loaded_line(line, function, first, second, third)
 }
@@ -150,10 +262,10 @@ fn slice_size(function: u32, head: &[u8; 4]) -> usize
     ensures { λ r. ⌜ (r ≡ sliceSize function (wordAt (now (head .entry)) 0)) × (r < 2 ^ 34) ⌝ }
 {
     let count = words::wide(octets::word(head[0], head[1], head[2], head[3]));
-    if function < Function::TRANSLATE_BYTES {
-        return 4 * count;
+    if on_bytes(function) {
+        return count;
     }
-    count
+    4 * count
 }
 
 // Reads a slice of a function: its count, and then so many words or bytes. Where bytes don't fill the last word, it is filled up, and
@@ -177,34 +289,63 @@ fn read_slice(function: u32, bytes: &mut [u8]) -> Input
     Input::Bytes(size)
 }
 
-// How many slices a function has: a reading one, a rehearsal three, a translation two.
+// How many slices a function has: a reading and a question one, a rehearsal three, what writes into lent ones alone two.
 fn slices(function: u32) -> usize
     ensures { λ r. ⌜ r ≡ slicesOf function ⌝ }
 {
     if function < Function::TRANSLATE {
         return 1;
     }
+    if is_question(function) {
+        return 1;
+    }
     if function == Function::REHEARSE {
         return 3;
     }
-    if Function::TRANSLATE_BYTES < function {
+    if function == Function::REHEARSE_BYTES {
         return 3;
     }
     2
 }
 
-// Reads slice k of a function, counted from 0; where it has none, no bytes come.
+// How many numbers a function has behind its slices: a question three.
+fn numbers(function: u32) -> usize
+    ensures { λ r. ⌜ (r ≡ numbersOf function) × (r ≤ 3) ⌝ }
+{
+    if is_question(function) {
+        return Most::NUMBERS;
+    }
+    0
+}
+
+// Reads the numbers of a function, a word each; answers how many bytes they have.
+fn read_numbers(function: u32, bytes: &mut [u8]) -> Input
+    requires { ⌜ 65536 ≤ length (now bytes) ⌝ }
+    ensures { λ r. ⌜ Within r 65536 ⌝ }
+{
+    let size = 4 * numbers(function);
+    if !read_all(&mut bytes[0..size]) {
+        return Input::Failed;
+    }
+    Input::Bytes(size)
+}
+
+// Reads slice k of a function, counted from 0, or behind its slices all of its numbers; where it has none, no bytes come.
 fn read_nth(function: u32, k: usize, bytes: &mut [u8]) -> Input
     requires { ⌜ 65536 ≤ length (now bytes) ⌝ }
     ensures { λ r. ⌜ Within r 65536 ⌝ }
 {
-    if k < slices(function) {
+    let n = slices(function);
+    if k < n {
         return read_slice(function, bytes);
+    }
+    if k == n {
+        return read_numbers(function, bytes);
     }
     Input::Bytes(0)
 }
 
-// Reads the slices of a call, and prints its line; whether all of them came.
+// Reads the slices and the numbers of a call, and prints its line; whether all of them came.
 fn answer(function: u32) -> bool
     requires { ⌜ Known function ⌝ }
 {
@@ -259,7 +400,7 @@ fn read_next() -> Next
     if function < Function::READ {
         return stop(b"there is no function of this number\n");
     }
-    if Function::REHEARSE_BYTES < function {
+    if Function::ASK_BYTES < function {
         return stop(b"there is no function of this number\n");
     }
     Next::Call(function)

@@ -1,12 +1,12 @@
 -- `calls::loaded_line` meets its contract: what is called are the words that the bytes of each slice make, all of
--- them (`words-loaded`). Assumes nothing.
+-- them (`loaded-all`). Assumes nothing.
 use Prim.Native.Nat.{_≤_}
 use mathlib.Core.Path.{refl, _∙_}
 use native.Mathlib.Omega.{arith}
 use lib.ListN.{length-take}
 use borrow.Author.Needs.{needs}
-use Rattle.octets.specs.Octets.Laws.{loaded-many, loaded-front}
-use Rattle.calls.specs.Call.Laws.{words-loaded}
+use Rattle.octets.specs.Octets.Laws.{loaded-many, loaded-all}
+use Rattle.calls.specs.Call.Laws.{words-same}
 use Rattle.calls.proofs.loaded_line.Statement.{statement}
 use Rattle.calls.proofs.loaded_line.Tie as tie
 
@@ -32,12 +32,11 @@ returns c =
     let start : tie.Start = search in
     let args = start .args in
     let (counts, line) = after-words-line .words-line .ensures in
-    let pre = start .pre in
-    let a = loaded-front _ {n = 16384} refl (first .load .ensures) (omega arith) in
-    let b = loaded-front _ {n = 16384} refl (second .load2 .ensures) (omega arith) in
-    let c = loaded-front _ {n = 16384} refl (third .load3 .ensures) (omega arith) in
-    let all = words-loaded (args .function) (args .first .now) (args .second .now) (args .third .now) in
-    (counts, line ∙ all (pre .1) (pre .2) (pre .3) a b c)
+    let (_, few, few2, few3, _) = start .pre in
+    let a = loaded-all _ {n = 16384} refl (first .load .ensures) (omega arith) (omega arith) in
+    let b = loaded-all _ {n = 16384} refl (second .load2 .ensures) (omega arith) (omega arith) in
+    let c = loaded-all _ {n = 16384} refl (third .load3 .ensures) (omega arith) (omega arith) in
+    (counts, line ∙ words-same (args .function) a b c)
 
 words-line-requires : tie.Need-words-line-requires
 words-line-requires c κs =

@@ -8,25 +8,31 @@ use Rattle.calls.specs.Call.Laws.{size-words, size-bytes}
 use Rattle.calls.proofs.slice_size.Statement.{statement}
 use Rattle.calls.proofs.slice_size.Tie as tie
 
--- of words
+-- of bytes
 returns : tie.Need-returns
 unfolding wordAt
 returns c =
+    let then1 : tie.Then1 = search in
+    let tested : tie.After-on-bytes = search in
     let after-wide : tie.After-wide = search in
     let after-word : tie.After-word = search in
     let start : tie.Start = search in
     let (count, few) = after-wide .wide .ensures in
-    (size-words (start .args .function) (omega arith) (count ∙ after-word .word .ensures), omega arith)
+    let size = size-bytes (start .args .function) (tested .on-bytes .ensures) (then1 .if1 .taken) in
+    (size (count ∙ after-word .word .ensures), omega arith)
 
--- of bytes
+-- of words
 returns-2 : tie.Need-returns-2
 unfolding wordAt
 returns-2 c =
+    let else1 : tie.Else1 = search in
+    let tested : tie.After-on-bytes = search in
     let after-wide : tie.After-wide = search in
     let after-word : tie.After-word = search in
     let start : tie.Start = search in
     let (count, few) = after-wide .wide .ensures in
-    (size-bytes (start .args .function) (omega arith) (count ∙ after-word .word .ensures), omega arith)
+    let size = size-words (start .args .function) (tested .on-bytes .ensures) (else1 .if1 .left) in
+    (size (count ∙ after-word .word .ensures), omega arith)
 
 pub slice-size-spec : {M : Type 1} → statement M
 slice-size-spec =
@@ -38,6 +44,7 @@ slice-size-spec =
     (λ c. search needs)  -- element-copy-out-word-4
     (λ c κs. search needs)  -- word-requires
     (λ c κs. search needs)  -- wide-requires
-    (λ c. search needs)  -- mul-result
+    (λ c κs. search needs)  -- on-bytes-requires
     returns
+    (λ c. search needs)  -- mul-result
     returns-2)

@@ -1,12 +1,15 @@
--- Laws of a call: its slices and their sizes; the function that has the number is picked, and called with them; what it writes has room. Assumes nothing.
+-- Laws of a call: its slices, their sizes and its numbers; the function that has the number is picked, and called with them; what it
+-- writes has room. Assumes nothing.
 use Prim.Native.Nat.{ℕ, _*_, _/_, _≤_, _<_}
-use mathlib.Core.Bool.{Bool, true, false}
+use mathlib.Core.Bool.{Bool, true, false, not, true≢false}
 use mathlib.Core.List.{List}
 use mathlib.Core.Path.{_≡_, refl, sym, _∙_, ap, ap₂}
 use native.Mathlib.Omega.{arith}
-use lib.ListN.{length, take}
-use lib.Seq.{take-all}
-use borrow.Author.Tests.{eq-eqb, ne-eqb, lt-ltb, le-ltb}
+use native.Mathlib.Decide.{decLt}
+use lib.ListN.{length, getD}
+use lib.Dec.{eqb, ltb}
+use borrow.Author.Tests.{eq-eqb, ne-eqb, eqb-true, lt-ltb, le-ltb}
+use Rattle.words.specs.Choice.{pick}
 use Rattle.words.specs.Choice.Laws.{pick-true, pick-false}
 use Rattle.octets.specs.Octets.{wordsIn}
 use Rattle.octets.specs.Octets.Laws.{words-length}
@@ -16,90 +19,204 @@ use Rattle.translation.specs.Outcome.{Outcome, acceptance, outcome, came}
 use Rattle.translation.specs.declared.Answer.{Answer}
 use Rattle.translation.specs.declared.Answer.the-variants.{Written, Refused}
 use Rattle.playing.specs.Rehearsal.{rehearsal}
-use Rattle.editor.specs.Bytes.{uneven, odd, translationBytes, rehearsalBytes, AsWords}
-use Rattle.editor.specs.Bytes.Laws.{translation-words, rehearsal-words, of-odd, of-odd-book, of-odd-schedule}
+use Rattle.summary.specs.Summary.{summarized, asked}
+use Rattle.summary.specs.Summary.Written.{exactly-summarized, summarized-says}
+use Rattle.editor.specs.Bytes.{uneven, odd, translationBytes, rehearsalBytes, summaryBytes, askedBytes, AsWords}
+use Rattle.editor.specs.Bytes.Laws.{translation-words, rehearsal-words, summary-words, of-odd, of-odd-book, of-odd-schedule, of-odd-summarized}
 use Rattle.line.specs.Line.{readingLine, lineOf, Inside}
 use Rattle.line.specs.Line.Laws.{inside-outcome, inside-rehearsal}
-use Rattle.calls.specs.Call.{slicesOf, sliceSize, wordsLine, inWords, callLine}
+use Rattle.calls.specs.Reply.{replyLine}
+use Rattle.calls.specs.Call.{Known, onBytes, asks, slicesOf, numbersOf, sliceSize, OnWords, OnBytes, inWords, number, question}
+use Rattle.calls.specs.Call.{verdictLine, wordsLine, bytesLine, questionLine, callLine}
 
--- how many slices: of a reading, of a rehearsal on words and on bytes, of a translation
+-- ---- onBytes and asks: as the code tests the number
+module _ (f : ℕ) where
+  pub bytes-before : f < 5 → false ≡ onBytes f
+  unfolding onBytes
+  bytes-before h = sym (pick-true _ _ _ (lt-ltb f 5 h))
+
+  pub bytes-early : 5 ≤ f → f < 7 → true ≡ onBytes f
+  unfolding onBytes
+  bytes-early h l = sym (pick-false _ _ _ (le-ltb f 5 h) ∙ pick-true _ _ _ (lt-ltb f 7 l))
+
+  pub bytes-late : 5 ≤ f → 7 ≤ f → ltb 8 f ≡ onBytes f
+  unfolding onBytes
+  bytes-late h l = sym (pick-false _ _ _ (le-ltb f 5 h) ∙ pick-false _ _ _ (le-ltb f 7 l))
+
+  bytes-from : onBytes f ≡ true → 5 ≤ f
+  bytes-from e = elim (decLt f 5) [
+    | yes p ↦ absurd (true≢false (sym e ∙ sym (bytes-before p)))
+    | no p ↦ omega arith
+  ]
+
+  pub asks-words : f ≡ 8 → true ≡ asks f
+  unfolding asks
+  asks-words e = sym (pick-true _ _ _ (eq-eqb f 8 e))
+
+  pub asks-other : (f ≡ 8 → ⊥) → eqb f 10 ≡ asks f
+  unfolding asks
+  asks-other n = sym (pick-false _ _ _ (ne-eqb f 8 n))
+
+  -- a question that is not on words is on bytes
+  pub asks-bytes : asks f ≡ true → (f ≡ 8 → ⊥) → f ≡ 10
+  asks-bytes e n = eqb-true f 10 (asks-other n ∙ e)
+
+-- a number at which a test answers otherwise is another
+apart : (test : ℕ → Bool) (f n : ℕ) → test n ≡ true → test f ≡ false → f ≡ n → ⊥
+apart test f n t e q = true≢false (sym t ∙ ap test (sym q) ∙ e)
+
+-- what is no question is on words or on bytes
+module _ {f : ℕ} {t u : Bool} (known : Known f) (asking : t ≡ asks f) (no : t ≡ false) (tested : u ≡ onBytes f) where
+  pub on-words : u ≡ false → OnWords f
+  unfolding onBytes asks pick
+  on-words e =
+      let no-question = sym asking ∙ no in
+      let no-bytes = sym tested ∙ e in
+      let is-no-8 = apart asks f 8 refl no-question in
+      let is-no-9 = apart onBytes f 9 refl no-bytes in
+      let is-no-10 = apart asks f 10 refl no-question in
+      (known .0, omega arith, apart onBytes f 5 refl no-bytes, apart onBytes f 6 refl no-bytes)
+
+  pub on-bytes : u ≡ true → OnBytes f
+  unfolding onBytes asks pick
+  on-bytes e =
+      let no-question = sym asking ∙ no in
+      let bytes = sym tested ∙ e in
+      let is-no-10 = apart asks f 10 refl no-question in
+      (bytes-from f bytes, omega arith, apart (λ n. not (onBytes n)) f 7 refl (ap not bytes), apart asks f 8 refl no-question)
+
+-- ---- slicesOf and numbersOf
 module _ (f : ℕ) where
   pub slices-read : f < 3 → 1 ≡ slicesOf f
   unfolding slicesOf
   slices-read h = sym (pick-true _ _ _ (lt-ltb f 3 h))
 
+  -- of a rehearsal on words and on bytes
   pub slices-rehearse : f ≡ 4 → 3 ≡ slicesOf f
-  unfolding slicesOf
-  slices-rehearse e = sym (pick-false _ _ _ (le-ltb f 3 (omega arith)) ∙ pick-true _ _ _ (eq-eqb f 4 e))
+  unfolding slicesOf asks pick
+  slices-rehearse e = ap slicesOf (sym e)
 
-  pub slices-rehearse-bytes : 5 < f → 3 ≡ slicesOf f
-  unfolding slicesOf
-  slices-rehearse-bytes h =
-      sym (pick-false _ _ _ (le-ltb f 3 (omega arith)) ∙ pick-false _ _ _ (ne-eqb f 4 (λ z. omega arith)) ∙ pick-true _ _ _ (lt-ltb 5 f h))
+  pub slices-rehearse-bytes : f ≡ 6 → 3 ≡ slicesOf f
+  unfolding slicesOf asks pick
+  slices-rehearse-bytes e = ap slicesOf (sym e)
 
-  pub slices-translate : 3 ≤ f → (f ≡ 4 → ⊥) → f ≤ 5 → 2 ≡ slicesOf f
-  unfolding slicesOf
-  slices-translate h n m = sym (pick-false _ _ _ (le-ltb f 3 h) ∙ pick-false _ _ _ (ne-eqb f 4 n) ∙ pick-false _ _ _ (le-ltb 5 f m))
+  -- by whether it asks
+  module _ {t : Bool} (tested : t ≡ asks f) where
+    pub slices-ask : 3 ≤ f → t ≡ true → 1 ≡ slicesOf f
+    unfolding slicesOf
+    slices-ask h e = sym (pick-false _ _ _ (le-ltb f 3 h) ∙ pick-true _ _ _ (sym tested ∙ e))
 
--- the size of a slice of words, and of bytes
-pub size-words : (f : ℕ) {n m : ℕ} → f < 5 → m ≡ n → 4 * m ≡ sliceSize f n
-unfolding sliceSize
-size-words f h e = ap (λ (k : ℕ). 4 * k) e ∙ sym (pick-true _ _ _ (lt-ltb f 5 h))
+    pub slices-lent : 3 ≤ f → t ≡ false → (f ≡ 4 → ⊥) → (f ≡ 6 → ⊥) → 2 ≡ slicesOf f
+    unfolding slicesOf
+    slices-lent h e n m =
+        sym (pick-false _ _ _ (le-ltb f 3 h) ∙ pick-false _ _ _ (sym tested ∙ e) ∙ pick-false _ _ _ (ne-eqb f 4 n)
+        ∙ pick-false _ _ _ (ne-eqb f 6 m))
 
-pub size-bytes : (f : ℕ) {n m : ℕ} → 5 ≤ f → m ≡ n → m ≡ sliceSize f n
-unfolding sliceSize
-size-bytes f h e = e ∙ sym (pick-false _ _ _ (le-ltb f 5 h))
+    pub numbers-ask : t ≡ true → 3 ≡ numbersOf f
+    unfolding numbersOf
+    numbers-ask e = sym (pick-true _ _ _ (sym tested ∙ e))
 
--- the line of what the reader said, of what was said of acceptance, and of what came of a translation and of a rehearsal
+    pub numbers-none : t ≡ false → 0 ≡ numbersOf f
+    unfolding numbersOf
+    numbers-none e = sym (pick-false _ _ _ (sym tested ∙ e))
+
+-- ---- sliceSize: of bytes, and of words
+module _ (f : ℕ) {n m : ℕ} {t : Bool} (tested : t ≡ onBytes f) where
+  pub size-bytes : t ≡ true → m ≡ n → m ≡ sliceSize f n
+  unfolding sliceSize
+  size-bytes h e = e ∙ sym (pick-true _ _ _ (sym tested ∙ h))
+
+  pub size-words : t ≡ false → m ≡ n → 4 * m ≡ sliceSize f n
+  unfolding sliceSize
+  size-words h e = ap (λ (k : ℕ). 4 * k) e ∙ sym (pick-false _ _ _ (sym tested ∙ h))
+
+-- ---- verdictLine: of what the reader said, and of what was said of acceptance
+module _ (f : ℕ) (a : List ℕ) where
+  pub calls-read : {s : Said} → f ≡ 1 → s ≡ verdict a → readingLine s ≡ verdictLine f a
+  unfolding verdictLine pick
+  calls-read e q = ap readingLine q ∙ ap (λ n. verdictLine n a) (sym e)
+
+  pub calls-accept : {s : Said} → f ≡ 2 → s ≡ acceptance a → readingLine s ≡ verdictLine f a
+  unfolding verdictLine pick
+  calls-accept e q = ap readingLine q ∙ ap (λ n. verdictLine n a) (sym e)
+
+-- ---- wordsLine: of a verdict, and of what came of a translation, of a rehearsal and of a summary
 module _ (f : ℕ) (a b c : List ℕ) where
-  pub calls-read : {s : Said} → f ≡ 1 → s ≡ verdict a → readingLine s ≡ wordsLine f a b c
+  pub calls-verdict : f < 3 → verdictLine f a ≡ wordsLine f a b c
   unfolding wordsLine
-  calls-read e q = ap readingLine q ∙ sym (pick-true _ _ _ (eq-eqb f 1 e))
-
-  pub calls-accept : {s : Said} → f ≡ 2 → s ≡ acceptance a → readingLine s ≡ wordsLine f a b c
-  unfolding wordsLine
-  calls-accept e q = ap readingLine q ∙ sym (pick-false _ _ _ (ne-eqb f 1 (λ z. omega arith)) ∙ pick-true _ _ _ (eq-eqb f 2 e))
+  calls-verdict h = sym (pick-true _ _ _ (lt-ltb f 3 h))
 
   pub calls-translate : {o : Outcome} → f ≡ 3 → o ≡ outcome a b → lineOf o ≡ wordsLine f a b c
-  unfolding wordsLine
-  calls-translate e q =
-      ap lineOf q
-      ∙ sym (pick-false _ _ _ (ne-eqb f 1 (λ z. omega arith)) ∙ pick-false _ _ _ (ne-eqb f 2 (λ z. omega arith)) ∙ pick-true _ _ _ (eq-eqb f 3 e))
+  unfolding wordsLine pick
+  calls-translate e q = ap lineOf q ∙ ap (λ n. wordsLine n a b c) (sym e)
 
   pub calls-rehearse : {o : Outcome} → f ≡ 4 → o ≡ rehearsal a b c → lineOf o ≡ wordsLine f a b c
-  unfolding wordsLine
-  calls-rehearse e q =
-      ap lineOf q
-      ∙ sym (pick-false _ _ _ (ne-eqb f 1 (λ z. omega arith)) ∙ pick-false _ _ _ (ne-eqb f 2 (λ z. omega arith))
-      ∙ pick-false _ _ _ (ne-eqb f 3 (λ z. omega arith)) ∙ pick-true _ _ _ (eq-eqb f 4 e))
+  unfolding wordsLine pick
+  calls-rehearse e q = ap lineOf q ∙ ap (λ n. wordsLine n a b c) (sym e)
 
--- as many words as are loaded are all that the bytes make
-pub all-loaded : (bs : List ℕ) → length bs ≤ 65536 → take 16384 (wordsIn bs) ≡ wordsIn bs
-all-loaded bs few = let l = words-length bs in take-all 16384 (wordsIn bs) (omega arith)
+  pub calls-summary : {o : Outcome} → f ≡ 7 → o ≡ summarized a b → lineOf o ≡ wordsLine f a b c
+  unfolding wordsLine pick
+  calls-summary e q = ap lineOf q ∙ ap (λ n. wordsLine n a b c) (sym e)
 
--- what is called are the words that were loaded of each slice
-pub words-loaded : (f : ℕ) {a b c : List ℕ} (xs bs cs : List ℕ) → length xs ≤ 65536 → length bs ≤ 65536 → length cs ≤ 65536
-    → a ≡ take 16384 (wordsIn xs) → b ≡ take 16384 (wordsIn bs) → c ≡ take 16384 (wordsIn cs)
-    → wordsLine f a b c ≡ wordsLine f (wordsIn xs) (wordsIn bs) (wordsIn cs)
-words-loaded f {b = b} {c = c} xs bs cs few few2 few3 e e2 e3 =
-    ap (λ (ws : List ℕ). wordsLine f ws b c) (e ∙ all-loaded xs few)
-    ∙ ap₂ (wordsLine f (wordsIn xs)) (e2 ∙ all-loaded bs few2) (e3 ∙ all-loaded cs few3)
+-- of the same slices
+pub words-same : (f : ℕ) {a b c x y z : List ℕ} → a ≡ x → b ≡ y → c ≡ z → wordsLine f a b c ≡ wordsLine f x y z
+words-same f {b = b} {c = c} {x = x} e e2 e3 = ap (λ ws. wordsLine f ws b c) e ∙ ap₂ (wordsLine f x) e2 e3
 
--- the functions on bytes
+-- ---- bytesLine
 module _ (f : ℕ) (a b c : List ℕ) where
-  pub calls-words : (f ≡ 5 → ⊥) → (f ≡ 6 → ⊥) → wordsLine f (wordsIn a) (wordsIn b) (wordsIn c) ≡ callLine f a b c
-  unfolding callLine
-  calls-words n m = sym (pick-false _ _ _ (ne-eqb f 5 n) ∙ pick-false _ _ _ (ne-eqb f 6 m))
+  pub calls-translate-bytes : {o : Outcome} → f ≡ 5 → o ≡ translationBytes a b → lineOf (inWords o) ≡ bytesLine f a b c
+  unfolding bytesLine pick
+  calls-translate-bytes e q = ap (λ o. lineOf (inWords o)) q ∙ ap (λ n. bytesLine n a b c) (sym e)
 
-  pub calls-translate-bytes : {o : Outcome} → f ≡ 5 → o ≡ translationBytes a b → lineOf (inWords o) ≡ callLine f a b c
-  unfolding callLine
-  calls-translate-bytes e q = ap (λ (o : Outcome). lineOf (inWords o)) q ∙ sym (pick-true _ _ _ (eq-eqb f 5 e))
+  pub calls-rehearse-bytes : {o : Outcome} → f ≡ 6 → o ≡ rehearsalBytes a b c → lineOf (inWords o) ≡ bytesLine f a b c
+  unfolding bytesLine pick
+  calls-rehearse-bytes e q = ap (λ o. lineOf (inWords o)) q ∙ ap (λ n. bytesLine n a b c) (sym e)
 
-  pub calls-rehearse-bytes : {o : Outcome} → f ≡ 6 → o ≡ rehearsalBytes a b c → lineOf (inWords o) ≡ callLine f a b c
+  pub calls-summary-bytes : {o : Outcome} → f ≡ 9 → o ≡ summaryBytes a b → lineOf (inWords o) ≡ bytesLine f a b c
+  unfolding bytesLine pick
+  calls-summary-bytes e q = ap (λ o. lineOf (inWords o)) q ∙ ap (λ n. bytesLine n a b c) (sym e)
+
+-- ---- questionLine
+-- what is asked with the numbers as they were read
+asks-numbers : (answer : List ℕ → ℕ → ℕ → ℕ → Said) (a b : List ℕ) {p r t : ℕ} → p ≡ number b 0 → r ≡ number b 1 → t ≡ number b 2
+    → answer a p r t ≡ question answer a b
+asks-numbers answer a b {r = r} {t = t} x y z = ap (λ n. answer a n r t) x ∙ ap₂ (answer a (number b 0)) y z
+
+module _ (f : ℕ) (a b : List ℕ) {s : Said} {p r t : ℕ} (party : p ≡ number b 0) (row : r ≡ number b 1) (step : t ≡ number b 2) where
+  pub calls-ask : f ≡ 8 → s ≡ asked (wordsIn a) p r t → replyLine s ≡ questionLine f a b
+  unfolding questionLine pick
+  calls-ask e q = ap replyLine (q ∙ asks-numbers asked (wordsIn a) b party row step) ∙ ap (λ n. questionLine n a b) (sym e)
+
+  pub calls-ask-bytes : f ≡ 10 → s ≡ askedBytes a p r t → replyLine s ≡ questionLine f a b
+  unfolding questionLine pick
+  calls-ask-bytes e q = ap replyLine (q ∙ asks-numbers askedBytes a b party row step) ∙ ap (λ n. questionLine n a b) (sym e)
+
+-- ---- callLine
+module _ (f : ℕ) (a b c : List ℕ) where
+  pub calls-question : {t : Bool} → t ≡ asks f → t ≡ true → questionLine f a b ≡ callLine f a b c
   unfolding callLine
-  calls-rehearse-bytes e q =
-      ap (λ (o : Outcome). lineOf (inWords o)) q
-      ∙ sym (pick-false _ _ _ (ne-eqb f 5 (λ z. omega arith)) ∙ pick-true _ _ _ (eq-eqb f 6 e))
+  calls-question asking e = sym (pick-true _ _ _ (sym asking ∙ e))
+
+  module _ {t u : Bool} (asking : t ≡ asks f) (no : t ≡ false) (tested : u ≡ onBytes f) where
+    pub calls-bytes : u ≡ true → bytesLine f a b c ≡ callLine f a b c
+    unfolding callLine
+    calls-bytes e = sym (pick-false _ _ _ (sym asking ∙ no) ∙ pick-true _ _ _ (sym tested ∙ e))
+
+    pub calls-words : u ≡ false → wordsLine f (wordsIn a) (wordsIn b) (wordsIn c) ≡ callLine f a b c
+    unfolding callLine
+    calls-words e = sym (pick-false _ _ _ (sym asking ∙ no) ∙ pick-false _ _ _ (sym tested ∙ e))
+
+-- ---- Inside
+-- a summary lies in the lent words
+pub inside-summarized : (a : Answer) (b lent new : List ℕ) {room : ℕ} → came a new ≡ summarized b lent → length lent ≤ room
+    → Inside a room
+unfolding summarized
+inside-summarized (Written n) b lent new e h =
+    let says = ap (λ (o : Outcome). o .says) e in
+    let fits = exactly-summarized b lent .0 (sym (ap (λ (s : Said). s .number) says)) in
+    let long = ap (λ (s : Said). getD (s .values) 0 0) (says ∙ summarized-says b lent (fits .0) (fits .1)) in
+    omega (arith, fits .1)
+inside-summarized (Refused f) b lent new e h = tt
 
 -- what a function on bytes writes lies in the lent bytes
 inside-odd : (a : Answer) (lent new : List ℕ) (room : ℕ) → came a new ≡ odd lent → Inside a room
@@ -133,3 +250,13 @@ inside-rehearsed a bs ms lent new {room} e h = go (uneven bs) refl (uneven ms) r
         inside-rehearsal a (wordsIn bs) (wordsIn ms) (wordsIn lent) (wordsIn new) played (omega arith)
     go false q true p = inside-odd a lent new room (e ∙ of-odd-schedule bs ms lent q p)
     go true q w p = inside-odd a lent new room (e ∙ of-odd-book bs ms lent q)
+
+pub inside-summarized-bytes : (a : Answer) (bs lent new : List ℕ) {room : ℕ} → came a new ≡ summaryBytes bs lent
+    → length lent / 4 ≤ room → Inside a room
+inside-summarized-bytes a bs lent new {room} e h = go (uneven bs) refl
+  where
+    go : (v : Bool) → uneven bs ≡ v → Inside a room
+    go false q =
+        let l = words-length lent in
+        inside-summarized a (wordsIn bs) (wordsIn lent) (wordsIn new) (same-words a new lent e (summary-words bs lent q)) (omega arith)
+    go true q = inside-odd a lent new room (e ∙ of-odd-summarized bs lent q)

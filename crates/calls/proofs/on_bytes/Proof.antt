@@ -1,0 +1,22 @@
+-- `calls::on_bytes` meets its contract: by the number (`bytes-before` and its kin). Assumes nothing.
+use native.Mathlib.Omega.{arith}
+use Rattle.calls.specs.Call.Laws.{bytes-before, bytes-early, bytes-late}
+use Rattle.calls.proofs.on_bytes.Statement.{statement}
+use Rattle.calls.proofs.on_bytes.Tie as tie
+
+returns : tie.Need-returns
+returns c = let start : tie.Start = search in bytes-before (start .args .function) (omega arith)
+
+returns-2 : tie.Need-returns-2
+returns-2 c = let start : tie.Start = search in bytes-early (start .args .function) (omega arith) (omega arith)
+
+returns-3 : tie.Need-returns-3
+returns-3 c = let start : tie.Start = search in bytes-late (start .args .function) (omega arith) (omega arith)
+
+pub on-bytes-spec : {M : Type 1} → statement M
+on-bytes-spec =
+    tie.close
+    (tie.spec
+    returns
+    returns-2
+    returns-3)

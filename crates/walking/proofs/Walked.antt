@@ -70,14 +70,14 @@ walked-skip {b} {p} w g l d n m z f u =
     }
 
 -- ---- at the start the party holds what it knows, and has had no event
-pub walked-start : {b : List ℕ} {p i a : ℕ} {log out e sends receives marks₀ marks : List ℕ} {d : Dictionary} → Valid b
+pub walked-start : {b : List ℕ} {p i a k : ℕ} {log out e sends receives marks₀ marks : List ℕ} {d : Dictionary} → Valid b
     → length e ≡ 1024 → view b e ≡ start (map (term (table b)) (known b p)) → (d .entries ≡ e) × (d .next ≡ 0) × (d .kept ≡ 0)
-    → Unmarked b marks₀ → Marks e 0 marks₀ marks → IdleUntil b p 0 i
-    → Walked b p i log log a out out (record { dictionary = d; at = a }) 0 sends sends receives receives marks marks
-walked-start {b} {p} {e = e} v l h w fresh m idle =
+    → Unmarked b marks₀ → Marks (d .entries) 0 marks₀ marks → IdleUntil b p 0 i → k ≡ 0
+    → Walked b p i log log a out out (record { dictionary = d; at = a }) k sends sends receives receives marks marks
+walked-start {b} {p} {e = e} v l h w fresh m idle none =
     walked-skip idle (rw (w .0, w .1, w .2) (doing-as (rw (← h) (doing-none {b = b} {x = e})) (before-none b p))) (ap length (w .0) ∙ l)
-    (sym (ap (λ (k : Did). length (k .events)) (before-none b p))) noted-start
-    (marked-on v (fresh .few) (omega arith) (h ∙ sym (ap (λ (k : Did). k .dictionary) (before-none b p))) (marked-none fresh) m) refl
+    (none ∙ sym (ap (λ (k : Did). length (k .events)) (before-none b p))) noted-start
+    (marked-on v (fresh .few) (omega arith) (ap (view b) (w .0) ∙ h ∙ sym (ap (λ (k : Did). k .dictionary) (before-none b p))) (marked-none fresh) m) refl
     (let size = m .size in let few = fresh .few in omega arith) (λ k l. absurd (omega arith))
 
 module _ {b l ps : List ℕ} {p upto i a e : ℕ} {log₀ log out₀ out sends₀ sends receives₀ receives marks₀ marks : List ℕ} {x : Received}
@@ -142,9 +142,9 @@ module _ {b l ps : List ℕ} {p upto i a e : ℕ} {log₀ log out₀ out sends�
     exact = w .found ∙ found-exact b i in-book l p _ (ready .claims) (ready .party) (g .along .holds)
 
     module _ {sendsAfter receivesAfter marksAfter : List ℕ} (n : NotedStep b p i (e + ahead) sends sendsAfter receives receivesAfter)
-        (m : Marks (y .dictionary .entries) (i + 1) marks marksAfter) where
+        {word : ℕ} (m : Marks (y .dictionary .entries) word marks marksAfter) (after : word ≡ i + 1) where
       marked : Marked b p (i + 1 + 1) marksAfter
-      marked = let j = in-book in marked-on (ready .valid) (g .few) (omega arith) (further .holds) (g .marked) m
+      marked = let j = in-book in marked-on (ready .valid) (g .few) (omega arith) (further .holds) (g .marked) (rw after at m)
 
       noted : StepsNoted b p (i + 1) sends₀ sendsAfter receives₀ receivesAfter
       noted = noted-on (g .noted) n send-there receive-there

@@ -206,7 +206,7 @@ pub fn walk(
 {
     let entries = start(book, party);
     let mut held = Dictionary::new(entries, 0);
-    mark(&entries, 0, marks);
+    mark(&held.entries, 0, marks);
     let mut last = at;
     let mut events = 0;
     let mut i = next_own(book, party, 0);

@@ -2,7 +2,7 @@
 -- step at which something is found is the last. Assumes nothing.
 use Prim.Native.Nat.{ℕ, _+_, _-_, _≤_, _<_}
 use mathlib.Core.List.{List}
-use mathlib.Core.Path.{_≡_, _∙_}
+use mathlib.Core.Path.{_≡_, refl, _∙_}
 use lib.ListN.{length}
 use native.Mathlib.Omega.{arith}
 use borrow.Author.Needs.{needs}
@@ -39,7 +39,7 @@ loop-holds c =
     let (ready, fresh) = start .pre in (
       ready,
       walked-start (ready .valid) (search needs) (after-start .start .ensures) (after-new .new .ensures) fresh
-          (after-mark .mark .ensures) (c .next-own .ensures),
+          (after-mark .mark .ensures) (c .next-own .ensures) refl,
     )
 
 -- there is room for the placeholders and the words of all steps, so for those of this one
@@ -128,7 +128,7 @@ returns c =
     let here : in-walk tie.At-loop = search in
     let (ready, walked) = here .loop .inv in
     walked-stops ready (in-loop .loop-test .taken) walked (after-act .act .ensures)
-    (after-note .note .ensures) (after-mark2 .mark2 .ensures)
+    (after-note .note .ensures) (after-mark2 .mark2 .ensures) refl
     (after-mark2 .mark2 .ensures .size ∙ marks-same here) (c .if1 .taken)
 
 -- nothing was found, and nothing is to do before the party's next step
@@ -143,7 +143,7 @@ loop-again c =
     let (ready, walked) = here .loop .inv in (
       ready,
       walked-on ready (in-loop .loop-test .taken) walked (after-act .act .ensures)
-          (after-note .note .ensures) (after-mark2 .mark2 .ensures) (else1 .if1 .left) (c .next-own2 .ensures),
+          (after-note .note .ensures) (after-mark2 .mark2 .ensures) refl (else1 .if1 .left) (c .next-own2 .ensures),
     )
 
 -- nothing was found in the steps before `upto`

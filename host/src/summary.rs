@@ -65,7 +65,7 @@ pub fn ask(summary: &[u32], party: u32, row: u32, step: u32) -> Result<bool, Ref
     Ok(words[at] <= step + 1)
 }
 
-/// Refusal 21, with "the first offending number": each number has to be below its count.
+/// Refusal 21, with the first of party, row and step that is out of range: each has to be below its count.
 fn in_range(numbers: [(u32, u32); 3]) -> Result<(), Refusal> {
     match numbers.into_iter().find(|(number, count)| number >= count) {
         Some((number, _)) => Err(Refusal::new(21, &[number])),

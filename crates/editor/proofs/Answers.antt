@@ -58,7 +58,8 @@ module _ {b : List ℕ} {r : Findings} (out : List ℕ) (s : Surveyed b r) {n : 
   pub written-came : {i j : ℕ} {new : List ℕ} → a ≡ Written i → Wrote (bytesOfAll (listing b)) out 0 new j
       → came (Written i) new ≡ translated b out
   written-came {i} {new = new} k w =
-      came-written _ out (bytesOfAll (listing b)) new i (sym (sym (ap answerSays k) ∙ e ∙ fitted-says s (wordsIn out) (d ∙ sym (words-length out)))) (w .list)
+      came-written _ out (bytesOfAll (listing b)) new i
+      (sym (sym (ap answerSays k) ∙ e ∙ fitted-says s (wordsIn out) (d ∙ sym (words-length out)))) (w .list)
 
 -- ---- an output ws into words, and from there, as bytes, to what was lent. Of the words between s is said, and t of those that the bytes
 -- make; both are the same, as there are as many words between as the output can have

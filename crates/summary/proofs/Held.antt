@@ -118,8 +118,8 @@ party-ready {p = p} w h =
     }
 
 -- ---- the whole
-pub summary-wrote : (b : List ℕ) {old middle new : List ℕ} {q t l p r : ℕ} → q ≡ parties b → t ≡ rows b → l ≡ steps b → Wrote (q ∷ t ∷ l ∷ []) old 0 middle p
-    → Wrote (heldTo b (parties b)) middle p new r → Wrote (summary b) old 0 new r
+pub summary-wrote : (b : List ℕ) {old middle new : List ℕ} {q t l p r : ℕ} → q ≡ parties b → t ≡ rows b → l ≡ steps b
+    → Wrote (q ∷ t ∷ l ∷ []) old 0 middle p → Wrote (heldTo b (parties b)) middle p new r → Wrote (summary b) old 0 new r
 unfolding summary
 summary-wrote b dq dt dl x y = wrote-as (wrote-then x y) (rw (dq, dt, dl))
 

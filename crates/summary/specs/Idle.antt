@@ -57,7 +57,8 @@ ignores-step-caught f n h =
     omega arith
 
 -- the same counts, and a row that is given at the start or never held
-pub ignores-words-caught : (f : Asker) → ((q w l x y : ℕ) (p r t : ℕ) → f (q ∷ w ∷ l ∷ x ∷ []) p r t ≡ f (q ∷ w ∷ l ∷ y ∷ []) p r t) → AskerCaught f
+pub ignores-words-caught : (f : Asker)
+    → ((q w l x y : ℕ) (p r t : ℕ) → f (q ∷ w ∷ l ∷ x ∷ []) p r t ≡ f (q ∷ w ∷ l ∷ y ∷ []) p r t) → AskerCaught f
 unfolding computed answer misfits lengthLine questionLine answered asked
 ignores-words-caught f n h =
     let e : _≡_ {A = ℕ} 1 0 = ap answer (sym (h (1 ∷ 1 ∷ 2 ∷ 0 ∷ []) 0 0 0) ∙ n 1 1 2 0 3 0 0 0 ∙ h (1 ∷ 1 ∷ 2 ∷ 3 ∷ []) 0 0 0) in

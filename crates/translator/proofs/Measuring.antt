@@ -24,16 +24,17 @@ use Rattle.translator.proofs.Placing.{PartiesNoted, parties-start, part
 
 -- of the first q of n parties: while nothing is found, the heads, the length and the places are those of the programs; the numbers fit in
 -- any case
-pub record Measuring (b : List ℕ) (n q : ℕ) (old : List ℕ) (at : ℕ) (new : List ℕ) (next : ℕ) (x y z : List ℕ) (end step taken : ℕ) : Type 0 where
-  pub valid : Valid b
-  pub few : q ≤ n
-  pub same : length new ≡ length old
-  pub low : end ≤ 1 + 2 * parties b + mostPart * q
-  pub lists : Lists x y z
-  pub wrote : taken ≡ 0 → Wrote (heads (1 + 2 * parties b) (programsTo b q)) old at new next
-  pub ends : taken ≡ 0 → end ≡ 1 + 2 * parties b + length (bodies (programsTo b q))
-  pub placed : taken ≡ 0 → PartiesNoted b q x y z
-  pub found : FoundAmong b q step taken
+pub record Measuring (b : List ℕ) (n q : ℕ) (old : List ℕ) (at : ℕ) (new : List ℕ) (next : ℕ) (x y z : List ℕ) (end step taken : ℕ) : Type 0
+  where
+    pub valid : Valid b
+    pub few : q ≤ n
+    pub same : length new ≡ length old
+    pub low : end ≤ 1 + 2 * parties b + mostPart * q
+    pub lists : Lists x y z
+    pub wrote : taken ≡ 0 → Wrote (heads (1 + 2 * parties b) (programsTo b q)) old at new next
+    pub ends : taken ≡ 0 → end ≡ 1 + 2 * parties b + length (bodies (programsTo b q))
+    pub placed : taken ≡ 0 → PartiesNoted b q x y z
+    pub found : FoundAmong b q step taken
 
 module _ {b : List ℕ} {n : ℕ} (e : n ≡ parties b) where
   -- nothing is written, and nobody was asked: every step is still free

@@ -152,8 +152,8 @@ module _ {b : List ℕ} {p s : ℕ} {x : Received} {f n z y : ℕ} where
       record { to-kept = omega arith; to-next = omega arith; given = omega arith }
 
   pub acts-receive : {ps l log logAfter out middle outAfter : List ℕ} {a c m : ℕ} {r : Received}
-      → ActReady b ps p s x → f ≡ stepFirst b s → n ≡ stepCount b s → z ≡ sender b s → (z ≡ p → ⊥) → y ≡ receiver b s → y ≡ p → c ≡ n
-      → Wrote (3 ∷ s ∷ x .dictionary .next ∷ c ∷ []) out (x .at) middle a
+      → ActReady b ps p s x → f ≡ stepFirst b s → n ≡ stepCount b s → z ≡ sender b s → (z ≡ p → ⊥) → y ≡ receiver b s → y ≡ p
+      → c ≡ n → Wrote (3 ∷ s ∷ x .dictionary .next ∷ c ∷ []) out (x .at) middle a
       → Brought b (listDid b f n x) (record { dictionary = x .dictionary; at = a }) log logAfter middle outAfter r
       → m ≡ (r .dictionary .kept - x .dictionary .kept) / 2
       → Acting b l p s x log logAfter out outAfter r 0 (1 + (r .dictionary .next - x .dictionary .next) - m) 0

@@ -176,8 +176,8 @@ module _ {b l ps : List ℕ} {p upto i a e : ℕ} {log₀ log out₀ out sends�
           (let size = m .size in let few = g .few in omega arith) (unrefused-on b p i t exact (g .unrefused) z)
 
 -- ---- what was lent keeps its length
-module _ {b l : List ℕ} {p i a e : ℕ} {log₀ log logAfter out₀ out outAfter sends₀ sends receives₀ receives marks₀ marks : List ℕ} {x y : Received}
-    {ahead more t : ℕ} (g : Walked b p i log₀ log a out₀ out x e sends₀ sends receives₀ receives marks₀ marks)
+module _ {b l : List ℕ} {p i a e : ℕ} {log₀ log logAfter out₀ out outAfter sends₀ sends receives₀ receives marks₀ marks : List ℕ}
+    {x y : Received} {ahead more t : ℕ} (g : Walked b p i log₀ log a out₀ out x e sends₀ sends receives₀ receives marks₀ marks)
     (w : Acting b l p i x log logAfter out outAfter y ahead more t) where
   pub acted-log : length logAfter ≡ length log₀
   acted-log = wrote-length (w .doing .keeps) ∙ wrote-length (g .along .keeps)
@@ -185,7 +185,8 @@ module _ {b l : List ℕ} {p i a e : ℕ} {log₀ log logAfter out₀ out outAft
   pub acted-out : length outAfter ≡ length out₀
   acted-out = wrote-length (w .doing .wrote) ∙ wrote-length (g .along .wrote)
 
-module _ {b : List ℕ} {p i a e : ℕ} {log₀ log out₀ out sends₀ sends sendsAfter receives₀ receives receivesAfter marks₀ marks : List ℕ} {x : Received} {k : ℕ}
+module _ {b : List ℕ} {p i a e : ℕ} {log₀ log out₀ out sends₀ sends sendsAfter receives₀ receives receivesAfter marks₀ marks : List ℕ}
+    {x : Received} {k : ℕ}
     (g : Walked b p i log₀ log a out₀ out x e sends₀ sends receives₀ receives marks₀ marks)
     (n : NotedStep b p i k sends sendsAfter receives receivesAfter) where
   pub noted-sends : length sendsAfter ≡ length sends₀

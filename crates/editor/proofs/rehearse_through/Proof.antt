@@ -12,7 +12,8 @@ use Rattle.editor.proofs.rehearse_through.Statement.{statement}
 use Rattle.editor.proofs.rehearse_through.Tie as tie
 
 -- what came of the rehearsal into the words between
-as-laid : (b ms out : List ℕ) {o : Outcome} → o ≡ rehearsal b ms out → o ≡ laid (rehearsalSays b ms out) out (eventsDone b ms)
+as-laid : (b ms out : List ℕ) {o : Outcome} → o ≡ rehearsal b ms out
+    → o ≡ laid (rehearsalSays b ms out) out (eventsDone b ms)
 unfolding rehearsal
 as-laid b ms out e = e
 
@@ -26,7 +27,8 @@ returns c =
     let moves = start .args .schedule .now in
     let done = start .args .done .now in
     let out = start .args .out .now in
-    through-refused (rehearsalSays book moves done) (eventsDone book moves) done _ (after-rehearse .rehearse .result) out
+    through-refused (rehearsalSays book moves done) (eventsDone book moves) done _
+    (after-rehearse .rehearse .result) out
     (between-rehearsal book moves done out (start .pre)) (as-laid book moves done (after-rehearse .rehearse .ensures))
     (after-answer .answer .given .1)
 
@@ -42,9 +44,12 @@ put-words-requires c κs =
     let out = start .args .out .now in
     let same = between-rehearsal book moves done out (start .pre) in
     let laid-there = as-laid book moves done (after-rehearse .rehearse .ensures) in
-    let size = through-length (rehearsalSays book moves done) (eventsDone book moves) done _ (after-rehearse .rehearse .result) out same laid-there in
-    let many = through-many (rehearsalSays book moves done) (eventsDone book moves) done _ (after-rehearse .rehearse .result) out same laid-there
-    (after-answer .answer2 .given .1) (rehearsal-fits book moves done) in
+    let size = through-length (rehearsalSays book moves done) (eventsDone book moves) done _
+    (after-rehearse .rehearse .result) out same
+    laid-there in
+    let many = through-many (rehearsalSays book moves done) (eventsDone book moves) done _
+    (after-rehearse .rehearse .result) out same
+    laid-there (after-answer .answer2 .given .1) (rehearsal-fits book moves done) in
     omega arith
 
 -- and they are the events done
@@ -58,7 +63,8 @@ returns-2 c =
     let moves = start .args .schedule .now in
     let done = start .args .done .now in
     let out = start .args .out .now in
-    through-written (rehearsalSays book moves done) (eventsDone book moves) done _ (after-rehearse .rehearse .result) out
+    through-written (rehearsalSays book moves done) (eventsDone book moves) done _
+    (after-rehearse .rehearse .result) out
     (between-rehearsal book moves done out (start .pre)) (as-laid book moves done (after-rehearse .rehearse .ensures))
     (after-answer .answer2 .given .1) (rehearsal-fits book moves done) (after-put-words .put-words .ensures)
 

@@ -23,7 +23,8 @@ returns : tie.Need-returns
 returns c =
     let tested : tie.After-is-uneven = search in
     let start : tie.Start = search in
-    sym (of-odd-summarized (start .args .book .now) (start .args .out .now) (sym (tested .is-uneven .ensures) ∙ c .if1 .taken))
+    sym (of-odd-summarized (start .args .book .now) (start .args .out .now)
+    (sym (tested .is-uneven .ensures) ∙ c .if1 .taken))
 
 -- they are, and the words that were loaded are as good as all
 returns-2 : tie.Need-returns-2

@@ -25,7 +25,8 @@ returns c =
     let book = start .args .book .now in
     let told = start .args .told .now in
     let out = start .args .out .now in
-    through-refused (summarySays book told) (summary book) told _ (after-write-summary .write-summary .result) out
+    through-refused (summarySays book told) (summary book) told _
+    (after-write-summary .write-summary .result) out
     (between-summary book told out (start .pre)) (as-laid book told (after-write-summary .write-summary .ensures))
     (after-answer .answer .given .1)
 
@@ -40,9 +41,12 @@ put-words-requires c κs =
     let out = start .args .out .now in
     let same = between-summary book told out (start .pre) in
     let laid-there = as-laid book told (after-write-summary .write-summary .ensures) in
-    let size = through-length (summarySays book told) (summary book) told _ (after-write-summary .write-summary .result) out same laid-there in
-    let many = through-many (summarySays book told) (summary book) told _ (after-write-summary .write-summary .result) out same laid-there
-    (after-answer .answer2 .given .1) (summary-fits book told) in
+    let size = through-length (summarySays book told) (summary book) told _
+    (after-write-summary .write-summary .result) out same
+    laid-there in
+    let many = through-many (summarySays book told) (summary book) told _
+    (after-write-summary .write-summary .result) out same
+    laid-there (after-answer .answer2 .given .1) (summary-fits book told) in
     omega arith
 
 -- and they are the summary
@@ -55,7 +59,8 @@ returns-2 c =
     let book = start .args .book .now in
     let told = start .args .told .now in
     let out = start .args .out .now in
-    through-written (summarySays book told) (summary book) told _ (after-write-summary .write-summary .result) out
+    through-written (summarySays book told) (summary book) told _
+    (after-write-summary .write-summary .result) out
     (between-summary book told out (start .pre)) (as-laid book told (after-write-summary .write-summary .ensures))
     (after-answer .answer2 .given .1) (summary-fits book told) (after-put-words .put-words .ensures)
 

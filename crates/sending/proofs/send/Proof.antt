@@ -13,8 +13,8 @@ module _ (c : tie.After-make-list) where
   abbrev start : tie.Start
   start = search
 
-  words : News (start .args .book .now) (start .args .entries .now) (start .args .first) (start .args .n) (start .args .at)
-      (c .make-list .result)
+  words : News (start .args .book .now) (start .args .entries .now) (start .args .first) (start .args .n)
+      (start .args .at) (c .make-list .result)
   words = news (start .pre) (c .make-list .ensures)
 
 returns : tie.Need-returns
@@ -25,8 +25,8 @@ returns c =
     let after-narrow : tie.After-narrow = search in
     let after-make-list : tie.After-make-list = search in
     let here : tie.Start = search in
-    sends (here .pre) (after-narrow .narrow .ensures) (after-make-list .make-list .ensures) (after-put3 .put3 .ensures) refl
-    (after-write-images .write-images .ensures) (after-narrow2 .narrow2 .ensures)
+    sends (here .pre) (after-narrow .narrow .ensures) (after-make-list .make-list .ensures)
+    (after-put3 .put3 .ensures) refl (after-write-images .write-images .ensures) (after-narrow2 .narrow2 .ensures)
 
 pub send-spec : {M : Type 1} → statement M
 send-spec =

@@ -17,8 +17,11 @@ returns c =
     let after-since-when : tie.After-since-when = search in
     let start : tie.Start = search in
     let (party, fresh, size) = start .pre in
-    let (marked, same) = after-since-when .since-when .ensures in
-    (marks-wrote (start .args .marks .now) (party .ready .party) size same marked (after-put-all .put-all .ensures), same)
+    let (marked, same) = after-since-when .since-when .ensures in (
+      marks-wrote (start .args .marks .now) (party .ready .party) size same marked
+          (after-put-all .put-all .ensures),
+      same,
+    )
 
 pub write-marks-spec : {M : Type 1} → statement M
 write-marks-spec =

@@ -21,6 +21,9 @@ write-marks-requires c κs =
       fresh-size _ valid (after-rows .rows .ensures) (after-wide .wide .ensures .0),
     )
 
+returns : tie.Need-returns
+returns c = let after-write-marks : tie.After-write-marks = search in after-write-marks .write-marks .ensures .0
+
 pub write-party-spec : {M : Type 1} → statement M
 write-party-spec =
     tie.close
@@ -33,4 +36,4 @@ write-party-spec =
     (λ c. let start : tie.Start = search in simp length-take (omega (arith, few-rows)))  -- slice-aggregate-write-marks
     write-marks-requires
     (λ c. search needs)  -- same-length
-    (λ c. let after-write-marks : tie.After-write-marks = search in after-write-marks .write-marks .ensures .0))  -- returns
+    returns)

@@ -1,7 +1,8 @@
 -- `translator::write_heads` meets its contract: the heads of the parties passed are written while nothing is found
 -- (`heads-on`), and of what is found the smallest step is kept (`heads-off`). Assumes nothing.
 use mathlib.Core.Logic.{inl, inr}
-use mathlib.Core.Path.{ap}
+use mathlib.Core.Path.{_≡_, sym, ap, _∙_}
+use lib.ListN.{length}
 use Prim.Native.Nat.{_+_, _-_, _*_}
 use native.Mathlib.Omega.{arith}
 use borrow.Author.Needs.{needs}
@@ -67,10 +68,10 @@ loop-again c =
     let measured = part .measure .ensures in
     let head = put .put2 .ensures in
     elim (c .if1 .came) [
-      | inl j ↦ heads-off all inside so-far measured (place .wide2 .ensures .0) (ended .put .ensures) (offset .narrow .ensures)
-          (count .narrow2 .ensures) head (j .0 .taken) (j .1) (j .2)
-      | inr j ↦ heads-on all inside so-far measured (place .wide2 .ensures .0) (ended .put .ensures) (offset .narrow .ensures)
-          (count .narrow2 .ensures) head (j .0 .left) (j .1) (j .2)
+      | inl j ↦ heads-off all inside so-far measured (place .wide2 .ensures .0) (ended .put .ensures)
+          (offset .narrow .ensures) (count .narrow2 .ensures) head (j .0 .taken) (j .1) (j .2)
+      | inr j ↦ heads-on all inside so-far measured (place .wide2 .ensures .0) (ended .put .ensures)
+          (offset .narrow .ensures) (count .narrow2 .ensures) head (j .0 .left) (j .1) (j .2)
     ]
 
 -- the loop ends behind the last party
@@ -87,6 +88,15 @@ module _ (c : in-heads tie.After-loop) where
 
   abbrev at-loop : in-heads tie.At-loop
   at-loop = search
+
+  sends-same : length (at-loop .loop .sends) ≡ length (start .args .sends .now)
+  sends-same = at-loop .loop .inv .lists .sends ∙ sym (start .pre .1 .sends)
+
+  receives-same : length (at-loop .loop .receives) ≡ length (start .args .receives .now)
+  receives-same = at-loop .loop .inv .lists .receives ∙ sym (start .pre .1 .receives)
+
+  ends-same : length (at-loop .loop .ends) ≡ length (start .args .ends .now)
+  ends-same = at-loop .loop .inv .lists .ends ∙ sym (start .pre .1 .ends)
 
 pub write-heads-spec : {M : Type 1} → statement M
 write-heads-spec =
@@ -111,7 +121,7 @@ write-heads-spec =
     (λ c. search needs)  -- loop-less
     loop-again
     (λ c. search needs)  -- same-length
-    (λ c. let here = start (search) .pre .1 .sends in let there = at-loop (search) .loop .inv .lists .sends in omega arith)  -- same-length-2
-    (λ c. let here = start (search) .pre .1 .receives in let there = at-loop (search) .loop .inv .lists .receives in omega arith)  -- same-length-3
-    (λ c. let here = start (search) .pre .1 .ends in let there = at-loop (search) .loop .inv .lists .ends in omega arith)  -- same-length-4
+    (λ c. sends-same (search))  -- same-length-2
+    (λ c. receives-same (search))  -- same-length-3
+    (λ c. ends-same (search))  -- same-length-4
     returns)

@@ -49,8 +49,8 @@ module _ (place : ℕ → ℕ) where
   pub noted-as : {P Q : ℕ → Type 0} {k l : List ℕ} → Noted place P k l → ((s : ℕ) → Q s → P s) → Noted place Q k l
   noted-as f h = record { keeps = f .keeps; notes = λ s q. f .notes s (h s q); size = f .size }
 
-  pub noted-then : {P Q : ℕ → Type 0} (R : ℕ → Type 0) {k l m : List ℕ} → Noted place P k l → Noted place Q l m → ((s : ℕ) → R s → P s ⊎ Q s)
-      → Noted place R k m
+  pub noted-then : {P Q : ℕ → Type 0} (R : ℕ → Type 0) {k l m : List ℕ} → Noted place P k l → Noted place Q l m
+      → ((s : ℕ) → R s → P s ⊎ Q s) → Noted place R k m
   noted-then {P} {Q} R {m = m} f g h =
       record { keeps = λ s e. g .keeps s (f .keeps s e); notes = λ s r i. go s i (h s r); size = g .size ∙ f .size }
     where

@@ -6,7 +6,7 @@ use native.Mathlib.Omega.{arith}
 use lib.ListN.{length-take}
 use borrow.Author.Needs.{needs}
 use Rattle.octets.specs.Octets.Laws.{loaded-many, loaded-all}
-use Rattle.calls.specs.Call.Laws.{words-same}
+use Rattle.calls.specs.Call.Laws.{words-loaded}
 use Rattle.calls.proofs.loaded_line.Statement.{statement}
 use Rattle.calls.proofs.loaded_line.Tie as tie
 
@@ -36,7 +36,8 @@ returns c =
     let a = loaded-all _ {n = 16384} refl (first .load .ensures) (omega arith) (omega arith) in
     let b = loaded-all _ {n = 16384} refl (second .load2 .ensures) (omega arith) (omega arith) in
     let c = loaded-all _ {n = 16384} refl (third .load3 .ensures) (omega arith) (omega arith) in
-    (counts, line ∙ words-same (args .function) a b c)
+    let all = words-loaded (args .function) (args .first .now) (args .second .now) (args .third .now) in
+    (counts, line ∙ all a b c)
 
 words-line-requires : tie.Need-words-line-requires
 words-line-requires c κs =

@@ -158,9 +158,10 @@ module _ (f : ℕ) (a b c : List ℕ) where
   unfolding wordsLine pick
   calls-summary e q = ap lineOf q ∙ ap (λ n. wordsLine n a b c) (sym e)
 
--- of the same slices
-pub words-same : (f : ℕ) {a b c x y z : List ℕ} → a ≡ x → b ≡ y → c ≡ z → wordsLine f a b c ≡ wordsLine f x y z
-words-same f {b = b} {c = c} {x = x} e e2 e3 = ap (λ ws. wordsLine f ws b c) e ∙ ap₂ (wordsLine f x) e2 e3
+-- of the words that were loaded of each slice
+pub words-loaded : (f : ℕ) {a b c : List ℕ} (xs bs cs : List ℕ) → a ≡ wordsIn xs → b ≡ wordsIn bs → c ≡ wordsIn cs
+    → wordsLine f a b c ≡ wordsLine f (wordsIn xs) (wordsIn bs) (wordsIn cs)
+words-loaded f {b = b} {c = c} xs bs cs e e2 e3 = ap (λ ws. wordsLine f ws b c) e ∙ ap₂ (wordsLine f (wordsIn xs)) e2 e3
 
 -- ---- bytesLine
 module _ (f : ℕ) (a b c : List ℕ) where

@@ -97,7 +97,7 @@ pub fn run(library: &Path, seed: u64, count: usize, folders: &[PathBuf], out: &m
     let missing = proved.missing();
     if !missing.is_empty() {
         let missing = format!("it has no {}", missing.join(", no "));
-        let advice = "`host/library shared shelf editor` makes a library with all of them";
+        let advice = "`host/library shared calls editor` makes a library with all of them";
         return Err(files::told(library, format!("{missing}; {advice}")));
     }
     let trials = Trials::new(folders, seed, count)?.with_long();

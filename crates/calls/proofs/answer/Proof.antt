@@ -1,9 +1,11 @@
 -- `calls::answer` meets its contract: no more bytes came of a slice than there was room for. Assumes nothing.
 use Prim.Native.Nat.{_≤_}
+use mathlib.Core.Path.{sym}
 use native.Mathlib.Omega.{arith}
-use lib.ListN.{length-take}
+use lib.Seq.{length-take-le}
 use borrow.Author.Needs.{needs}
 use Rattle.input.specs.Input.Laws.{within-bytes}
+use Rattle.calls.specs.Call.Laws.{front-few}
 use Rattle.calls.proofs.answer.Statement.{statement}
 use Rattle.calls.proofs.answer.Tie as tie
 
@@ -25,13 +27,22 @@ third-few c =
     let after-read-nth : tie.After-read-nth3 = search in
     within-bytes (c .n .given .1) (after-read-nth .read-nth3 .ensures)
 
+array-share-prefix-first : tie.Need-array-share-prefix-first
+array-share-prefix-first c = omega (arith, first-few (search))
+
+array-borrow-prefix-second : tie.Need-array-borrow-prefix-second
+array-borrow-prefix-second c = omega (arith, second-few (search))
+
+array-borrow-prefix-third : tie.Need-array-borrow-prefix-third
+array-borrow-prefix-third c = omega (arith, third-few (search))
+
 call-line-requires : tie.Need-call-line-requires
 call-line-requires c κs =
     let start : tie.Start = search in (
       start .pre,
-      simp length-take (omega (arith, first-few (search))),
-      simp length-take (omega (arith, second-few (search))),
-      simp length-take (omega (arith, third-few (search))),
+      front-few _ _ (first-few (search)),
+      front-few _ _ (second-few (search)),
+      front-few _ _ (third-few (search)),
       search needs,
     )
 
@@ -55,12 +66,12 @@ answer-spec =
     (λ c. search needs)  -- enum-told-3
     (λ c. search needs)  -- returns-3
     (λ c. search needs)  -- slice-aggregate-call-line
-    (λ c. omega (arith, first-few (search)))  -- array-share-prefix-first
-    (λ c. simp length-take (omega (arith, first-few (search))))  -- slice-aggregate-call-line-2
-    (λ c. omega (arith, second-few (search)))  -- array-borrow-prefix-second
-    (λ c. simp length-take (omega (arith, second-few (search))))  -- slice-aggregate-call-line-3
-    (λ c. omega (arith, third-few (search)))  -- array-borrow-prefix-third
-    (λ c. simp length-take (omega (arith, third-few (search))))  -- slice-aggregate-call-line-4
+    array-share-prefix-first
+    (λ c. sym (length-take-le _ _ (array-share-prefix-first (search))))  -- slice-aggregate-call-line-2
+    array-borrow-prefix-second
+    (λ c. sym (length-take-le _ _ (array-borrow-prefix-second (search))))  -- slice-aggregate-call-line-3
+    array-borrow-prefix-third
+    (λ c. sym (length-take-le _ _ (array-borrow-prefix-third (search))))  -- slice-aggregate-call-line-4
     call-line-requires
     (λ c. search needs)  -- array-share-prefix-line
     (λ c. search needs)  -- slice-aggregate-print

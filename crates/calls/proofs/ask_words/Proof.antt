@@ -1,12 +1,13 @@
--- `calls::ask_words` meets its contract: what is asked are all the words that the bytes make (`loaded-all`). Assumes
+-- `calls::ask_words` meets its contract: what is asked are all the words that the bytes make (`loaded-words`). Assumes
 -- nothing.
 use Prim.Native.Nat.{_≤_}
 use mathlib.Core.Path.{refl, _∙_, ap}
 use native.Mathlib.Omega.{arith}
 use lib.ListN.{length-take}
 use borrow.Author.Needs.{needs}
-use Rattle.octets.specs.Octets.Laws.{loaded-many, loaded-all}
+use Rattle.octets.specs.Octets.Laws.{loaded-many}
 use Rattle.summary.specs.Summary.{asked}
+use Rattle.calls.specs.Call.Laws.{loaded-words}
 use Rattle.calls.proofs.ask_words.Statement.{statement}
 use Rattle.calls.proofs.ask_words.Tie as tie
 
@@ -20,8 +21,7 @@ returns c =
     let after-load : tie.After-load = search in
     let start : tie.Start = search in
     let args = start .args in
-    let words = loaded-all (args .summary .now) refl (after-load .load .ensures) in
-    let all = words (omega arith) (omega (arith, start .pre)) in
+    let all = loaded-words (args .summary .now) refl (after-load .load .ensures) (start .pre) in
     after-ask .ask .ensures ∙ ap (λ ws. asked ws (args .party) (args .row) (args .step)) all
 
 pub ask-words-spec : {M : Type 1} → statement M

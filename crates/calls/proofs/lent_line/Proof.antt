@@ -1,13 +1,14 @@
--- `calls::lent_line` meets its contract: the words of the line are all that the lent bytes make (`loaded-all`).
+-- `calls::lent_line` meets its contract: the words of the line are all that the lent bytes make (`loaded-words`).
 -- Assumes nothing.
 use Prim.Native.Nat.{_≤_}
 use mathlib.Core.Path.{refl, _∙_, ap}
 use native.Mathlib.Omega.{arith}
 use lib.ListN.{length, length-take}
 use borrow.Author.Needs.{needs}
-use Rattle.octets.specs.Octets.Laws.{words-length, loaded-many, loaded-all}
+use Rattle.octets.specs.Octets.Laws.{words-length, loaded-many}
 use Rattle.translation.specs.Outcome.{came}
 use Rattle.line.specs.Line.{lineOf}
+use Rattle.calls.specs.Call.Laws.{loaded-words}
 use Rattle.calls.proofs.lent_line.Statement.{statement}
 use Rattle.calls.proofs.lent_line.Tie as tie
 
@@ -21,7 +22,7 @@ answer-line-requires c κs =
     let after-load : tie.After-load = search in
     let start : tie.Start = search in
     let lent = start .args .lent .now in
-    let all = loaded-all lent refl (after-load .load .ensures) (omega arith) (omega (arith, start .pre .0)) in
+    let all = loaded-words lent refl (after-load .load .ensures) (start .pre .0) in
     let many = ap length all ∙ words-length lent in
     (omega arith, omega (arith, start .pre .1), rw many (start .pre .2))
 
@@ -33,7 +34,7 @@ returns c =
     let args = start .args in
     let (counts, line) = after-answer-line .answer-line .ensures in
     let lent = args .lent .now in
-    let all = loaded-all lent refl (after-load .load .ensures) (omega arith) (omega (arith, start .pre .0)) in
+    let all = loaded-words lent refl (after-load .load .ensures) (start .pre .0) in
     (counts, line ∙ ap (λ ws. lineOf (came (args .answer) ws)) all)
 
 pub lent-line-spec : {M : Type 1} → statement M

@@ -1,12 +1,12 @@
 -- `calls::loaded_line` meets its contract: what is called are the words that the bytes of each slice make, all of
--- them (`loaded-all`). Assumes nothing.
+-- them (`loaded-words`). Assumes nothing.
 use Prim.Native.Nat.{_≤_}
-use mathlib.Core.Path.{refl, _∙_}
+use mathlib.Core.Path.{refl, sym, _∙_}
 use native.Mathlib.Omega.{arith}
-use lib.ListN.{length-take}
+use lib.Seq.{length-take-le}
 use borrow.Author.Needs.{needs}
-use Rattle.octets.specs.Octets.Laws.{loaded-many, loaded-all}
-use Rattle.calls.specs.Call.Laws.{words-loaded}
+use Rattle.octets.specs.Octets.Laws.{loaded-many}
+use Rattle.calls.specs.Call.Laws.{loaded-words, front-few, words-loaded}
 use Rattle.calls.proofs.loaded_line.Statement.{statement}
 use Rattle.calls.proofs.loaded_line.Tie as tie
 
@@ -22,6 +22,15 @@ second-few c = loaded-many _ refl (c .load2 .ensures)
 third-few : (c : tie.After-load3) → c .load3 .result ≤ 16384
 third-few c = loaded-many _ refl (c .load3 .ensures)
 
+array-share-prefix-a : tie.Need-array-share-prefix-a
+array-share-prefix-a c = omega (arith, first-few (search))
+
+array-borrow-prefix-b : tie.Need-array-borrow-prefix-b
+array-borrow-prefix-b c = omega (arith, second-few (search))
+
+array-borrow-prefix-c : tie.Need-array-borrow-prefix-c
+array-borrow-prefix-c c = omega (arith, third-few (search))
+
 -- each slice's words are those of its own bytes
 returns : tie.Need-returns
 returns c =
@@ -33,9 +42,9 @@ returns c =
     let args = start .args in
     let (counts, line) = after-words-line .words-line .ensures in
     let (_, few, few2, few3, _) = start .pre in
-    let a = loaded-all _ {n = 16384} refl (first .load .ensures) (omega arith) (omega arith) in
-    let b = loaded-all _ {n = 16384} refl (second .load2 .ensures) (omega arith) (omega arith) in
-    let c = loaded-all _ {n = 16384} refl (third .load3 .ensures) (omega arith) (omega arith) in
+    let a = loaded-words _ refl (first .load .ensures) few in
+    let b = loaded-words _ refl (second .load2 .ensures) few2 in
+    let c = loaded-words _ refl (third .load3 .ensures) few3 in
     let all = words-loaded (args .function) (args .first .now) (args .second .now) (args .third .now) in
     (counts, line ∙ all a b c)
 
@@ -44,8 +53,8 @@ words-line-requires c κs =
     let start : tie.Start = search in
     let (known, _, _, _, room) = start .pre in (
       known,
-      simp length-take (omega (arith, second-few (search))),
-      simp length-take (omega (arith, third-few (search))),
+      front-few _ _ (second-few (search)),
+      front-few _ _ (third-few (search)),
       room,
     )
 
@@ -59,12 +68,12 @@ loaded-line-spec =
     (λ c κs. search needs)  -- load-requires-2
     (λ c. search needs)  -- slice-aggregate-load-3
     (λ c κs. search needs)  -- load-requires-3
-    (λ c. omega (arith, first-few (search)))  -- array-share-prefix-a
-    (λ c. simp length-take (omega (arith, first-few (search))))  -- slice-aggregate-words-line
-    (λ c. omega (arith, second-few (search)))  -- array-borrow-prefix-b
-    (λ c. simp length-take (omega (arith, second-few (search))))  -- slice-aggregate-words-line-2
-    (λ c. omega (arith, third-few (search)))  -- array-borrow-prefix-c
-    (λ c. simp length-take (omega (arith, third-few (search))))  -- slice-aggregate-words-line-3
+    array-share-prefix-a
+    (λ c. sym (length-take-le _ _ (array-share-prefix-a (search))))  -- slice-aggregate-words-line
+    array-borrow-prefix-b
+    (λ c. sym (length-take-le _ _ (array-borrow-prefix-b (search))))  -- slice-aggregate-words-line-2
+    array-borrow-prefix-c
+    (λ c. sym (length-take-le _ _ (array-borrow-prefix-c (search))))  -- slice-aggregate-words-line-3
     words-line-requires
     (λ c. search needs)  -- same-length
     returns)

@@ -6,13 +6,14 @@ use mathlib.Core.List.{List}
 use mathlib.Core.Path.{_≡_, refl, sym, _∙_, ap, ap₂}
 use native.Mathlib.Omega.{arith}
 use native.Mathlib.Decide.{decLt}
-use lib.ListN.{length, getD}
+use lib.ListN.{length, getD, take, length-take}
 use lib.Dec.{eqb, ltb}
 use borrow.Author.Tests.{eq-eqb, ne-eqb, eqb-true, lt-ltb, le-ltb}
 use Rattle.words.specs.Choice.{pick}
 use Rattle.words.specs.Choice.Laws.{pick-true, pick-false}
 use Rattle.octets.specs.Octets.{wordsIn}
-use Rattle.octets.specs.Octets.Laws.{words-length}
+use Rattle.words.specs.Overlay.{Wrote}
+use Rattle.octets.specs.Octets.Laws.{words-length, loaded-all}
 use Rattle.book.specs.Said.{Said}
 use Rattle.book.specs.Refusals.{verdict}
 use Rattle.translation.specs.Outcome.{Outcome, acceptance, outcome, came}
@@ -206,6 +207,14 @@ module _ (f : ℕ) (a b c : List ℕ) where
     pub calls-words : u ≡ false → wordsLine f (wordsIn a) (wordsIn b) (wordsIn c) ≡ callLine f a b c
     unfolding callLine
     calls-words e = sym (pick-false _ _ _ (sym asking ∙ no) ∙ pick-false _ _ _ (sym tested ∙ e))
+
+-- ---- what was loaded into 16,384 words, and the front of a slice
+pub loaded-words : (bs : List ℕ) {old new : List ℕ} {r : ℕ} → length old ≡ 16384 → Wrote (take (length old) (wordsIn bs)) old 0 new r
+    → length bs ≤ 65536 → take r new ≡ wordsIn bs
+loaded-words bs size w few = loaded-all bs size w (omega arith) (omega arith)
+
+pub front-few : (n : ℕ) (l : List ℕ) {m : ℕ} → n ≤ m → length (take n l) ≤ m
+front-few n l h = let e = length-take n l in omega arith
 
 -- ---- Inside
 -- a summary lies in the lent words

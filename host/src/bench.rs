@@ -7,7 +7,7 @@ mod plot;
 mod tables;
 mod timing;
 
-use crate::book::{Refusal, MOST_PARTIES};
+use crate::book::{Refusal, COUNTS, MOST_PARTIES};
 use crate::files;
 use crate::lean;
 use crate::library::Library;
@@ -103,7 +103,7 @@ fn rehearsals(library: &Library, groups: &[Group], say: Say) -> Result<(), Strin
 
 /// The parties of a book, within their bounds whatever its words are.
 fn parties(book: &[u32]) -> u32 {
-    book.get(2).copied().unwrap_or(1).clamp(1, MOST_PARTIES)
+    book.get(COUNTS[1]).copied().unwrap_or(1).clamp(1, MOST_PARTIES)
 }
 
 /// As many moves as there may be, by one party after another.

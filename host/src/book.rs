@@ -7,16 +7,32 @@ use std::fmt;
 use std::hash::BuildHasherDefault;
 
 /// The header's words: four counts, each with the offset of its section.
-pub const HEADER: u64 = 8;
+pub const HEADER: usize = 8;
+/// Which words of the header are counts, and which offsets: of rows, parties, steps and pool.
+pub const COUNTS: [usize; 4] = [0, 2, 4, 6];
+pub const OFFSETS: [usize; 4] = [1, 3, 5, 7];
+/// The words of a row: kind, tag, first, count.
+pub const ROW: usize = 4;
+/// Of a party: name, first, count.
+pub const PARTY: usize = 3;
+/// Of a step: sender, receiver, first, count.
+pub const STEP: usize = 4;
+
 pub const MOST_ROWS: u32 = 1_024;
 pub const MOST_PARTIES: u32 = 16;
 pub const MOST_STEPS: u32 = 64;
 pub const MOST_POOL: u32 = 8_192;
-/// "Total length is exactly 8+4T+3Q+4L+W, so at most 12,600 words."
-pub const LONGEST: usize = 12_600;
+/// The bounds of the four counts, least and most.
+pub const BOUNDS: [(u32, u32); 4] = [(1, MOST_ROWS), (1, MOST_PARTIES), (0, MOST_STEPS), (0, MOST_POOL)];
+/// The words of the longest book.
+pub const LONGEST: usize = Layout::of([MOST_ROWS, MOST_PARTIES, MOST_STEPS, MOST_POOL]).end;
+/// The words that a program reads: "one word more than the longest book", and no further.
+pub const READ: usize = LONGEST + 1;
+
 pub const MOST_TAG: u32 = 65_535;
-/// A cipher's key and its 8 contents.
-pub const MOST_PARTS: u32 = 9;
+pub const MOST_ARGUMENTS: u32 = 8;
+/// A cipher's key and its contents, of which there may be as many as an operation has arguments.
+pub const MOST_PARTS: u32 = 1 + MOST_ARGUMENTS;
 pub const MOST_KNOWN: u32 = 256;
 pub const MOST_MESSAGES: u32 = 8;
 /// "No size exceeds 1,024."
@@ -32,7 +48,7 @@ pub const PRIVATE: u32 = 4;
 pub fn parts(kind: u32) -> Option<(u32, u32)> {
     match kind {
         ATOM => Some((0, 0)),
-        OPERATION => Some((0, 8)),
+        OPERATION => Some((0, MOST_ARGUMENTS)),
         CIPHER => Some((1, MOST_PARTS)),
         PUBLIC | PRIVATE => Some((1, 1)),
         _ => None,
@@ -76,7 +92,7 @@ pub struct Book {
     pub steps: Vec<Step>,
 }
 
-/// A refusal: its number in document 01's table, and its place (two numbers for refusal 10: step and row).
+/// A refusal: its number in the papers' table, and its place (two numbers where a walk stops: step and row).
 #[derive(Clone, PartialEq, Eq, Debug)]
 pub struct Refusal {
     pub number: u32,
@@ -92,6 +108,30 @@ impl Refusal {
     }
 }
 
+/// Where the walk through a book's steps stops: the first atom that can't be made, and why.
+#[derive(Clone, Copy, PartialEq, Eq, Debug)]
+pub struct Stop {
+    pub why: Unmade,
+    pub step: u32,
+    pub row: u32,
+}
+
+/// Why an atom can't be made.
+#[derive(Clone, Copy, PartialEq, Eq, Debug)]
+pub enum Unmade {
+    /// "Making a taken atom is refusal 10."
+    Taken,
+}
+
+impl From<Stop> for Refusal {
+    fn from(stop: Stop) -> Refusal {
+        let number = match stop.why {
+            Unmade::Taken => 10,
+        };
+        Refusal::new(number, &[stop.step, stop.row])
+    }
+}
+
 impl fmt::Display for Refusal {
     /// "A refusal as the word "refused", its number and its place, all in decimal on one line with
     /// single spaces."
@@ -104,19 +144,17 @@ impl fmt::Display for Refusal {
 impl Book {
     /// The book's words. Nothing is tested here: a book that breaks a rule is written as it is.
     pub fn words(&self) -> Vec<u32> {
-        let (t, q, l) = (self.rows.len(), self.parties.len(), self.steps.len());
         let lists = (self.rows.iter().map(|row| &row.parts))
             .chain(self.parties.iter().map(|party| &party.known))
             .chain(self.steps.iter().map(|step| &step.messages));
         let pool: Vec<u32> = lists.flatten().copied().collect();
 
-        let rows_at = HEADER as usize;
-        let parties_at = rows_at + 4 * t;
-        let steps_at = parties_at + 3 * q;
-        let pool_at = steps_at + 4 * l;
-        let mut words = Vec::with_capacity(pool_at + pool.len());
-        for number in [t, rows_at, q, parties_at, l, steps_at, pool.len(), pool_at] {
-            words.push(number as u32);
+        let counts = [self.rows.len(), self.parties.len(), self.steps.len(), pool.len()];
+        let counts = counts.map(|count| count as u32);
+        let layout = Layout::of(counts);
+        let mut words = Vec::with_capacity(layout.end);
+        for (count, offset) in counts.into_iter().zip(layout.offsets()) {
+            words.extend([count, offset as u32]);
         }
         // "Each *first* is the sum of the counts before it (also where its own count is 0)."
         let mut first = 0;
@@ -174,6 +212,54 @@ impl Book {
     }
 }
 
+/// Where the sections of a book begin, by their counts, and where the last one ends: "four sections without gaps".
+#[derive(Clone, Copy, PartialEq, Eq, Debug)]
+pub struct Layout {
+    pub rows: usize,
+    pub parties: usize,
+    pub steps: usize,
+    pub pool: usize,
+    pub end: usize,
+}
+
+impl Layout {
+    /// Of so many rows, parties, steps and pool words.
+    pub const fn of([rows, parties, steps, pool]: [u32; 4]) -> Layout {
+        let parties_at = HEADER + ROW * rows as usize;
+        let steps_at = parties_at + PARTY * parties as usize;
+        let pool_at = steps_at + STEP * steps as usize;
+        Layout {
+            rows: HEADER,
+            parties: parties_at,
+            steps: steps_at,
+            pool: pool_at,
+            end: pool_at + pool as usize,
+        }
+    }
+
+    /// By the counts of a header, whatever its offsets are.
+    pub fn counted(header: &[u32]) -> Layout {
+        Layout::of(COUNTS.map(|word| header[word]))
+    }
+
+    pub const fn offsets(self) -> [usize; 4] {
+        [self.rows, self.parties, self.steps, self.pool]
+    }
+
+    /// Where a row's words begin, and so on.
+    pub const fn row(self, number: usize) -> usize {
+        self.rows + ROW * number
+    }
+
+    pub const fn party(self, number: usize) -> usize {
+        self.parties + PARTY * number
+    }
+
+    pub const fn step(self, number: usize) -> usize {
+        self.steps + STEP * number
+    }
+}
+
 /// Reads a book from any words, or gives the first refusal of 1 to 9 that applies.
 pub fn read(words: &[u32]) -> Result<Book, Refusal> {
     let sections = header(words)?;
@@ -204,7 +290,7 @@ pub struct Sections<'w> {
 impl<'w> Sections<'w> {
     /// Only for words that passed refusals 1 to 3.
     pub fn of(words: &'w [u32]) -> Sections<'w> {
-        let [rows, parties, steps, pool] = [1, 3, 5, 7].map(|word| words[word] as usize);
+        let [rows, parties, steps, pool] = OFFSETS.map(|word| words[word] as usize);
         Sections {
             rows: &words[rows..parties],
             parties: &words[parties..steps],
@@ -223,32 +309,23 @@ impl<'w> Sections<'w> {
 
 /// Refusals 1 to 3.
 fn header(words: &[u32]) -> Result<Sections<'_>, Refusal> {
-    if words.len() < HEADER as usize {
+    if words.len() < HEADER {
         return Err(Refusal::new(1, &[0]));
     }
-    let bounds = [
-        (0, 1, MOST_ROWS),
-        (2, 1, MOST_PARTIES),
-        (4, 0, MOST_STEPS),
-        (6, 0, MOST_POOL),
-    ];
-    for (word, least, most) in bounds {
+    for (word, (least, most)) in COUNTS.into_iter().zip(BOUNDS) {
         if !(least..=most).contains(&words[word]) {
             return Err(Refusal::new(2, &[word as u32]));
         }
     }
-    let [t, q, l, w] = [0, 2, 4, 6].map(|word| words[word] as usize);
-    let rows_at = HEADER as usize;
-    let parties_at = rows_at + 4 * t;
-    let steps_at = parties_at + 3 * q;
-    let pool_at = steps_at + 4 * l;
-    for (word, offset) in [(1, rows_at), (3, parties_at), (5, steps_at), (7, pool_at)] {
+    let layout = Layout::counted(words);
+    for (word, offset) in OFFSETS.into_iter().zip(layout.offsets()) {
         if words[word] as usize != offset {
             return Err(Refusal::new(3, &[word as u32]));
         }
     }
-    if words.len() != pool_at + w {
-        return Err(Refusal::new(3, &[8]));
+    // "Smallest header word, or 8 for the length": the place behind the header.
+    if words.len() != layout.end {
+        return Err(Refusal::new(3, &[HEADER as u32]));
     }
     Ok(Sections::of(words))
 }
@@ -275,8 +352,8 @@ impl<'w> Pool<'w> {
 
 /// Refusal 4: the smallest row that breaks its rule.
 fn rows(section: &[u32], pool: &mut Pool) -> Result<Vec<Row>, Refusal> {
-    let mut rows = Vec::with_capacity(section.len() / 4);
-    for (number, words) in section.chunks_exact(4).enumerate() {
+    let mut rows = Vec::with_capacity(section.len() / ROW);
+    for (number, words) in section.chunks_exact(ROW).enumerate() {
         let row = row(number as u32, words, pool);
         rows.push(row.ok_or_else(|| Refusal::new(4, &[number as u32]))?);
     }
@@ -299,7 +376,7 @@ fn row(number: u32, words: &[u32], pool: &mut Pool) -> Option<Row> {
     })
 }
 
-/// Refusal 5. The first size over the bound ends it, so a sum has at most 9 sizes within the bound.
+/// Refusal 5. The first size over the bound ends it, so a sum has no more sizes than a row has parts, all within the bound.
 fn sizes(rows: &[Row]) -> Result<(), Refusal> {
     let mut sizes: Vec<u32> = Vec::with_capacity(rows.len());
     for (number, row) in rows.iter().enumerate() {
@@ -327,8 +404,8 @@ fn repeats(rows: &[Row]) -> Result<(), Refusal> {
 
 /// Refusal 7: the smallest party that breaks its rule.
 fn parties(section: &[u32], rows: &[Row], pool: &mut Pool) -> Result<Vec<Party>, Refusal> {
-    let mut parties: Vec<Party> = Vec::with_capacity(section.len() / 3);
-    for (number, words) in section.chunks_exact(3).enumerate() {
+    let mut parties: Vec<Party> = Vec::with_capacity(section.len() / PARTY);
+    for (number, words) in section.chunks_exact(PARTY).enumerate() {
         let party = party(words, rows, &parties, pool);
         parties.push(party.ok_or_else(|| Refusal::new(7, &[number as u32]))?);
     }
@@ -353,8 +430,8 @@ fn party(words: &[u32], rows: &[Row], earlier: &[Party], pool: &mut Pool) -> Opt
 
 /// Refusal 8: the smallest step that breaks its rule.
 fn steps(section: &[u32], t: usize, q: usize, pool: &mut Pool) -> Result<Vec<Step>, Refusal> {
-    let mut steps = Vec::with_capacity(section.len() / 4);
-    for (number, words) in section.chunks_exact(4).enumerate() {
+    let mut steps = Vec::with_capacity(section.len() / STEP);
+    for (number, words) in section.chunks_exact(STEP).enumerate() {
         let step = step(words, t, q, pool);
         steps.push(step.ok_or_else(|| Refusal::new(8, &[number as u32]))?);
     }

@@ -6,7 +6,7 @@
 mod read;
 mod walk;
 
-use crate::book::{Refusal, MOST_PARTIES, MOST_STEPS};
+use crate::book::{Refusal, MOST_PARTIES, MOST_STEPS, STEP};
 use crate::rehearse::MOST_MOVES;
 use read::{Book, Facts};
 use walk::Walk;
@@ -59,24 +59,24 @@ fn translate_in<const N: usize>(book: &Book, out: &mut [u32]) -> Answer {
     Ok(start)
 }
 
-/// All parties go through their steps, and after each it is told how many words there are; or refusal 10. A party that
-/// comes after one which is refused is asked about the steps before alone, as the smallest step is the place.
+/// All parties go through their steps, and after each it is told how many words there are; or where the walk stops. A
+/// party that comes after one which stops is asked about the steps before alone, as the smallest step is the place.
 fn all<const N: usize>(
     walk: &mut Walk<N>,
     facts: &Facts<N>,
     mut after: impl FnMut(usize, usize),
 ) -> Result<(), Refusal> {
-    let mut refused = None;
+    let mut stopped = None;
     let mut before = u64::MAX;
     for party in 0..walk.book.parties.len() {
-        if let Err((step, row)) = walk.party(party, facts.own[party] & before) {
-            refused = Some([step, row]);
-            before = (1 << step) - 1;
+        if let Err(stop) = walk.party(party, facts.own[party] & before) {
+            stopped = Some(stop);
+            before = (1 << stop.step) - 1;
         }
         after(party, walk.length());
     }
-    match refused {
-        Some(place) => Err(Refusal::new(10, &place)),
+    match stopped {
+        Some(stop) => Err(stop.into()),
         None => Ok(()),
     }
 }
@@ -123,7 +123,7 @@ struct Player {
 /// sender's events, and its receiver waits before the first of its own.
 fn play(
     own: &[u64; MOST_PARTIES as usize],
-    steps: &[[u32; 4]],
+    steps: &[[u32; STEP]],
     events: &[[u32; 2]; MOST_STEPS as usize],
     schedule: &[u32],
 ) -> [u32; MOST_PARTIES as usize] {

@@ -4,8 +4,8 @@
 use host::requests::{self, Calls, Request};
 use host::shelf::Shelf;
 use host::{
-    bench, compare, corpus, edits, files, frames, mutants, narration, random, rehearse, routes, show, translate, types,
-    words,
+    bench, book, compare, corpus, edits, files, frames, mutants, narration, random, rehearse, routes, show, translate,
+    types, words,
 };
 use std::io::{self, Write};
 use std::path::{Path, PathBuf};
@@ -70,16 +70,16 @@ fn run(arguments: &[String]) -> Result<bool, String> {
     match arguments.as_slice() {
         [] | ["help"] => say(USE)?,
         ["translate"] => {
-            let book = files::read(io::stdin(), 4 * translate::READ);
+            let book = files::read(io::stdin(), 4 * book::READ);
             let book = book.map_err(|error| format!("standard input: {error}"))?;
             say(&(translate::print(&book) + "\n"))?;
         }
         ["translate", file] => {
-            let book = first_words(file, translate::READ)?;
+            let book = first_words(file, book::READ)?;
             say(&(translate::print(&book) + "\n"))?;
         }
         ["rehearse", file, schedule] => {
-            let book = first_words(file, translate::READ)?;
+            let book = first_words(file, book::READ)?;
             let schedule = first_words(schedule, rehearse::READ)?;
             say(&(rehearse::print(&book, &schedule) + "\n"))?;
         }
@@ -88,12 +88,12 @@ fn run(arguments: &[String]) -> Result<bool, String> {
             let book = book.map_err(|mistake| format!("{file}: {mistake}"))?;
             give(&words::to_bytes(&book.words()), out.first())?;
         }
-        ["show", file] => match words::of_bytes(&first_words(file, translate::READ)?) {
+        ["show", file] => match words::of_bytes(&first_words(file, book::READ)?) {
             Ok(words) => say(&ended(show::show(&words)))?,
             Err(refusal) => say(&format!("{refusal}\n"))?,
         },
         ["summary", file] => {
-            let words = words::of_bytes(&first_words(file, translate::READ)?);
+            let words = words::of_bytes(&first_words(file, book::READ)?);
             match words.and_then(|words| show::summary(&words)) {
                 Ok(table) => say(&table)?,
                 Err(refusal) => say(&format!("{refusal}\n"))?,

@@ -43,7 +43,7 @@ fn test(schedule: &[u32], parties: usize) -> Result<(), Refusal> {
 
 /// The line for a book's file and a schedule's, without the line's end.
 pub fn print(book: &[u8], schedule: &[u8]) -> String {
-    let book = words::of_bytes(words::first(book, translate::READ));
+    let book = words::of_bytes(words::first(book, book::READ));
     let schedule = words::of_bytes(words::first(schedule, READ));
     let mut out = [0; book::MOST_PARTIES as usize];
     let length = match (book, schedule) {

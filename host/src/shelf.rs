@@ -30,7 +30,7 @@ impl Shelf {
         for file in files::ending(folder, "book")? {
             match words::of_bytes(&files::bytes(&file)?) {
                 // One word more than the longest book is read, and no further.
-                Ok(words) => shelf.add(&words[..words.len().min(translate::READ)]),
+                Ok(words) => shelf.add(&words[..words.len().min(book::READ)]),
                 Err(_) => shelf.left_out.push(file.display().to_string()),
             }
         }
@@ -92,7 +92,7 @@ pub fn schedules(book: &[u32]) -> [Vec<u32>; 6] {
 
 /// The parties that a book says it has; one, if it can't have so many.
 pub fn parties(book: &[u32]) -> u32 {
-    match book.get(2) {
+    match book.get(book::COUNTS[1]) {
         Some(&said @ 1..=book::MOST_PARTIES) => said,
         _ => 1,
     }

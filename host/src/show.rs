@@ -10,7 +10,7 @@ mod why;
 
 pub use summary::summary;
 
-use crate::book::{self, Book, Party, Refusal, Step};
+use crate::book::{self, Book, Party, Refusal, Step, Stop, Unmade};
 use crate::translate;
 use texts::Texts;
 
@@ -34,11 +34,11 @@ pub fn show(words: &[u32]) -> String {
     if !book.steps.is_empty() {
         out.push('\n');
     }
-    let programs = translate::programs(&book);
-    for (number, step) in book.steps.iter().enumerate() {
+    let programs = translate::walk(&book);
+    for (number, step) in (0..).zip(&book.steps) {
         step_line(step, &book, &texts, &mut out);
-        if let Err(refusal) = &programs {
-            mark_step(refusal, number, step, &book, &texts, &mut out);
+        if let Some(stop) = programs.as_ref().err().filter(|stop| stop.step == number) {
+            mark_step(*stop, step, &book, &texts, &mut out);
         }
     }
     for (party, program) in book.parties.iter().zip(programs.iter().flatten()) {
@@ -88,18 +88,14 @@ fn step_line(step: &Step, book: &Book, texts: &Texts, out: &mut String) {
     out.push('\n');
 }
 
-/// Refusal 10 stands right under its step.
-fn mark_step(refusal: &Refusal, number: usize, step: &Step, book: &Book, texts: &Texts, out: &mut String) {
-    let &[at, row] = &refusal.place[..] else {
-        return;
-    };
-    if at as usize != number {
-        return;
-    }
+/// Where the walk stops, its mark stands right under the step.
+fn mark_step(stop: Stop, step: &Step, book: &Book, texts: &Texts, out: &mut String) {
+    let Stop { why, step: at, row } = stop;
     let sender = texts.row(book.parties[step.sender as usize].name);
     let atom = texts.row(row);
-    out.push_str(&format!(
-        "# refused {} at step {at}, row {row}: {sender} would have to make {atom}, which is taken\n",
-        refusal.number
-    ));
+    let reason = match why {
+        Unmade::Taken => format!("{sender} would have to make {atom}, which is taken"),
+    };
+    let number = Refusal::from(stop).number;
+    out.push_str(&format!("# refused {number} at step {at}, row {row}: {reason}\n"));
 }

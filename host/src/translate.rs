@@ -1,12 +1,10 @@
 //! The translation of figure 3 as document 01 reads it, with document 02's order of receiving: one program per party
 //! (refusals 10 and 12), the listing's words, and the line that the small program prints.
 
-use crate::book::{self, Book, Refusal, Step};
+use crate::book::{self, Book, Refusal, Step, Stop, Unmade, READ};
 use crate::term::{Form, Shared, SharedMap, SharedSet};
 use crate::words;
 
-/// "It reads one word more than the longest book, so 12,601 words, and no further."
-pub const READ: usize = book::LONGEST + 1;
 /// "It lends 16,384 words for the output."
 pub const LENT: usize = 16_384;
 
@@ -120,8 +118,8 @@ impl Side {
         first
     }
 
-    /// Sending one message: its image, or the first taken atom that would have to be made.
-    fn build(&mut self, term: &Shared, taken: &Taken) -> Result<Image, u32> {
+    /// Sending one message: its image, or the first atom that would have to be made and can't.
+    fn build(&mut self, term: &Shared, taken: &Taken) -> Result<Image, (Unmade, u32)> {
         // "A row in the dictionary gives its entry. Else parts first, a cipher's key before its
         // contents."
         if let Some(entry) = self.dictionary.images.get(term) {
@@ -139,15 +137,15 @@ impl Side {
         })
     }
 
-    fn build_all(&mut self, terms: &[Shared], taken: &Taken) -> Result<Vec<Image>, u32> {
+    fn build_all(&mut self, terms: &[Shared], taken: &Taken) -> Result<Vec<Image>, (Unmade, u32)> {
         terms.iter().map(|term| self.build(term, taken)).collect()
     }
 
     /// "An atom not in the dictionary is made, and is from then on known as itself. [..] Making a
     /// taken atom is refusal 10."
-    fn make(&mut self, row: u32, atom: &Shared, taken: &Taken) -> Result<Image, u32> {
+    fn make(&mut self, row: u32, atom: &Shared, taken: &Taken) -> Result<Image, (Unmade, u32)> {
         if taken.has(atom) {
-            return Err(row);
+            return Err((Unmade::Taken, row));
         }
         self.events.push(Event::New { row });
         let images = &mut self.dictionary.images;
@@ -245,14 +243,15 @@ impl Translation {
     }
 
     /// The next step: "a party that is neither sender nor receiver does nothing".
-    pub fn step(&mut self, step: &Step) -> Result<(), Refusal> {
+    pub fn step(&mut self, step: &Step) -> Result<(), Stop> {
         let number = self.step;
         self.step += 1;
         let message = |row: &u32| self.terms[*row as usize].clone();
         let messages: Vec<Shared> = step.messages.iter().map(message).collect();
 
         let sender = &mut self.sides[step.sender as usize];
-        let images = (sender.build_all(&messages, &self.taken)).map_err(|atom| Refusal::new(10, &[number, atom]))?;
+        let stop = |(why, row)| Stop { why, step: number, row };
+        let images = sender.build_all(&messages, &self.taken).map_err(stop)?;
         sender.events.push(Event::Send { step: number, images });
 
         let receiver = &mut self.sides[step.receiver as usize];
@@ -279,14 +278,19 @@ impl Translation {
     }
 }
 
-/// One program per party of a book that keeps its rules, or refusal 10. The steps are gone through
-/// in order, so its place is the smallest step.
-pub fn programs(book: &Book) -> Result<Vec<Program>, Refusal> {
+/// One program per party of a book that keeps its rules, or where the walk stops. The steps are gone through in order,
+/// so that is the smallest step.
+pub fn walk(book: &Book) -> Result<Vec<Program>, Stop> {
     let mut translation = Translation::start(book);
     for step in &book.steps {
         translation.step(step)?;
     }
     Ok(translation.end())
+}
+
+/// The same, with the refusal where the walk stops.
+pub fn programs(book: &Book) -> Result<Vec<Program>, Refusal> {
+    Ok(walk(book)?)
 }
 
 /// The listing: "word 0 is Q; then for each party offset and count of its listing; then the

@@ -3,6 +3,7 @@
 mod common;
 
 use common::{top, Folder};
+use host::book::LONGEST;
 use host::corpus::{check, write};
 use host::files;
 use host::narration::narrate;
@@ -139,7 +140,7 @@ fn the_edges_are_reached() {
     assert_eq!(length("listing-longest"), 16_384);
     assert!((8_192..16_384).contains(&length("full-ring")));
     let bytes = fs::read(books().join("full-longest.book")).unwrap();
-    assert_eq!(bytes.len(), 4 * 12_600);
+    assert_eq!(bytes.len(), 4 * LONGEST);
 
     let shown = |name: &str| {
         let bytes = fs::read(books().join(format!("{name}.book"))).unwrap();

@@ -4,7 +4,7 @@
 mod common;
 
 use common::{atoms, book, parties, party, row, step};
-use host::book::{read, Book, Refusal, Row, Step};
+use host::book::{read, Book, Layout, Refusal, Row, Step, HEADER};
 use host::rehearse::rehearse;
 use host::translate::translate;
 
@@ -31,17 +31,18 @@ fn sound() -> Book {
 }
 
 // Where the sound book's words stand.
+const SOUND: Layout = Layout::of([10, 2, 3, 18]);
 const fn row_at(row: usize) -> usize {
-    8 + 4 * row
+    SOUND.row(row)
 }
 const fn party_at(party: usize) -> usize {
-    row_at(10) + 3 * party
+    SOUND.party(party)
 }
 const fn step_at(step: usize) -> usize {
-    party_at(2) + 4 * step
+    SOUND.step(step)
 }
 const fn pool_at(word: usize) -> usize {
-    step_at(3) + word
+    SOUND.pool + word
 }
 
 /// The refusal, after a look at the lent words: none may have changed.
@@ -74,9 +75,9 @@ fn the_sound_book_is_accepted() {
 #[test]
 fn refusal_1() {
     let words = sound().words();
-    for length in 0..8 {
+    for length in 0..HEADER {
         assert_eq!(refused(&words[..length]), Some((1, vec![0])));
-        assert_eq!(refused(&[MAX; 8][..length]), Some((1, vec![0])));
+        assert_eq!(refused(&[MAX; HEADER][..length]), Some((1, vec![0])));
     }
 }
 
@@ -116,14 +117,15 @@ fn refusal_2() {
 
 #[test]
 fn refusal_3() {
+    let [_, parties, steps, pool] = SOUND.offsets().map(|offset| offset as u32);
     all(&[
         (&[(1, 7)], 3, 1),
         (&[(1, MAX)], 3, 1),
-        (&[(3, 47)], 3, 3),
+        (&[(3, parties - 1)], 3, 3),
         (&[(3, 0)], 3, 3),
-        (&[(5, 55)], 3, 5),
+        (&[(5, steps + 1)], 3, 5),
         (&[(5, MAX)], 3, 5),
-        (&[(7, 67)], 3, 7),
+        (&[(7, pool + 1)], 3, 7),
         (&[(7, MAX)], 3, 7),
         // A count within its bounds that the offsets don't fit.
         (&[(0, 11)], 3, 3),
@@ -143,7 +145,7 @@ fn refusal_3() {
     assert_eq!(refused(&words), Some((3, vec![8])));
     words.truncate(words.len() - 2);
     assert_eq!(refused(&words), Some((3, vec![8])));
-    words.truncate(8);
+    words.truncate(HEADER);
     assert_eq!(refused(&words), Some((3, vec![8])));
 }
 

@@ -2,7 +2,8 @@
 
 mod common;
 
-use common::{top, Folder, EXAMPLE_1, LISTING_1};
+use common::{atoms, book, parties, top, Folder, EXAMPLE_1, LISTING_1};
+use host::book::READ;
 use host::shelf::Shelf;
 use host::words::{self, to_bytes};
 
@@ -40,7 +41,8 @@ fn a_stream_of_books() {
     let folder = Folder::with("stream", &books);
     let shelf = Shelf::of(folder.at()).unwrap();
     assert_eq!(shelf.books, 2);
-    assert_eq!(shelf.stdin, [&[0; 4], &[53, 0, 0, 0], &example[..]].concat());
+    let count = to_bytes(&[EXAMPLE_1.len() as u32]);
+    assert_eq!(shelf.stdin, [&[0; 4], &count[..], &example].concat());
     let refused = "refused 1 0\n".repeat(7);
     assert_eq!(text(&shelf), refused + &lines_1());
     let left_out = folder.path("c.book");
@@ -50,20 +52,18 @@ fn a_stream_of_books() {
 /// A longer book comes as one word more than the longest, as the small program reads it.
 #[test]
 fn a_long_book() {
-    let folder = Folder::with("long", &[("a.book", &[1; 4 * 12_602])]);
+    let folder = Folder::with("long", &[("a.book", &[1; 4 * (READ + 1)])]);
     let shelf = Shelf::of(folder.at()).unwrap();
-    assert_eq!(shelf.stdin.len(), 4 + 4 * 12_601);
-    assert_eq!(shelf.stdin[..4], to_bytes(&[12_601]));
+    assert_eq!(shelf.stdin.len(), 4 + 4 * READ);
+    assert_eq!(shelf.stdin[..4], to_bytes(&[READ as u32]));
 }
 
 /// How many parties a round has is what word 2 says, if a book may have so many; else it has one.
 #[test]
 fn the_rounds() {
     // The smallest book, with two parties more.
-    let words = [
-        3, 8, 3, 20, 0, 29, 0, 29, 0, 0, 0, 0, 0, 0, 0, 0, 0, 0, 0, 0, 0, 0, 0, 1, 0, 0, 2, 0, 0,
-    ];
-    let mut other = words;
+    let words = book(atoms(3), &parties(&[&[], &[], &[]]), &[]).words();
+    let mut other = words.clone();
     other[2] = 17;
     let folder = Folder::with(
         "rounds",

@@ -4,7 +4,7 @@
 mod common;
 
 use common::{atom, atoms, book, party, row, step, EXAMPLE_1, LISTING_1, SMALLEST};
-use host::book::{read, Book, Party, Refusal, Row, Step};
+use host::book::{read, Book, Party, Refusal, Row, Step, LONGEST, READ};
 use host::translate::{print, translate};
 use host::words::{self, to_bytes};
 
@@ -415,7 +415,7 @@ fn the_longest_book() {
     let steps: Vec<Step> = (0..64).map(step).collect();
     let rows = [atoms(576), (0..448).map(operation).collect()].concat();
     let words = book(rows, &parties, &steps).words();
-    assert_eq!(words.len(), 12_600);
+    assert_eq!((words.len(), LONGEST), (12_600, 12_600));
     // Each party sends 4 times 8 images of 19 words, and compares as many.
     let own = 4 * (3 + 8 * 19) + 4 * (4 + 8 * 21) + 2;
     let length = listing(&words).map(|listing| listing.len());
@@ -430,10 +430,11 @@ fn the_small_program_reads_so_far_and_no_further() {
     assert_eq!(print(&file), "refused 1 0");
     file.extend([0, 0, 0]);
     assert_eq!(print(&file), "refused 3 8");
-    // 50,404 bytes are read of a longer file, and those are a multiple of four.
-    file.resize(50_405, 0);
+    // One word more than the longest book is read of a longer file, and that is a multiple of four bytes.
+    assert_eq!((READ, 4 * READ), (12_601, 50_404));
+    file.resize(4 * READ + 1, 0);
     assert_eq!(print(&file), "refused 3 8");
-    file.resize(50_403, 0);
+    file.resize(4 * READ - 1, 0);
     assert_eq!(print(&file), "refused 1 0");
     assert_eq!(print(&[]), "refused 1 0");
     assert_eq!(print(&[1]), "refused 1 0");

@@ -1,56 +1,45 @@
 //! Reading a book: refusals 1 to 9 in one pass over its words, and on the way what the walks ask for.
 
 use crate::book::{
-    Refusal, ATOM, HEADER, MOST_KNOWN, MOST_MESSAGES, MOST_PARTIES, MOST_PARTS, MOST_POOL, MOST_ROWS, MOST_SIZE,
-    MOST_STEPS, MOST_TAG, PUBLIC,
+    Layout, Refusal, ATOM, BOUNDS, COUNTS, HEADER, MOST_ARGUMENTS, MOST_KNOWN, MOST_MESSAGES, MOST_PARTIES, MOST_PARTS,
+    MOST_SIZE, MOST_TAG, OFFSETS, PARTY, PUBLIC, ROW, STEP,
 };
 
 /// The four sections of a book whose header is right, as records.
 pub struct Book<'w> {
     /// Kind, tag, first, count.
-    pub rows: &'w [[u32; 4]],
+    pub rows: &'w [[u32; ROW]],
     /// Name, first, count.
-    pub parties: &'w [[u32; 3]],
+    pub parties: &'w [[u32; PARTY]],
     /// Sender, receiver, first, count.
-    pub steps: &'w [[u32; 4]],
+    pub steps: &'w [[u32; STEP]],
     pub pool: &'w [u32],
 }
 
 impl<'w> Book<'w> {
     /// Refusals 1 to 3.
     pub fn of(words: &'w [u32]) -> Result<Book<'w>, Refusal> {
-        let Some((&[t, rows, q, parties, l, steps, w, pool], _)) = words.split_first_chunk::<{ HEADER as usize }>()
-        else {
+        let Some((&[t, rows, q, parties, l, steps, w, pool], _)) = words.split_first_chunk::<HEADER>() else {
             return Err(refused(1, 0));
         };
-        let bounds = [
-            (t, 1, MOST_ROWS),
-            (q, 1, MOST_PARTIES),
-            (l, 0, MOST_STEPS),
-            (w, 0, MOST_POOL),
-        ];
-        if let Some(at) = bounds
+        let counts = [t, q, l, w];
+        let outside = |(count, (least, most)): (&u32, (u32, u32))| *count < least || *count > most;
+        if let Some(at) = counts.iter().zip(BOUNDS).position(outside) {
+            return Err(refused(2, COUNTS[at]));
+        }
+        let layout = Layout::of(counts);
+        let offsets = [rows, parties, steps, pool].map(|offset| offset as usize);
+        if let Some(at) = offsets
             .iter()
-            .position(|(count, least, most)| count < least || count > most)
+            .zip(layout.offsets())
+            .position(|(offset, right)| *offset != right)
         {
-            return Err(refused(2, 2 * at));
+            return Err(refused(3, OFFSETS[at]));
         }
-        let parties_at = HEADER as u32 + 4 * t;
-        let steps_at = parties_at + 3 * q;
-        let pool_at = steps_at + 4 * l;
-        let offsets = [
-            (rows, HEADER as u32),
-            (parties, parties_at),
-            (steps, steps_at),
-            (pool, pool_at),
-        ];
-        if let Some(at) = offsets.iter().position(|(offset, right)| offset != right) {
-            return Err(refused(3, 2 * at + 1));
+        if words.len() != layout.end {
+            return Err(refused(3, HEADER));
         }
-        if words.len() != (pool_at + w) as usize {
-            return Err(refused(3, 8));
-        }
-        let [rows, parties, steps, pool] = [rows, parties, steps, pool].map(|offset| offset as usize);
+        let [rows, parties, steps, pool] = offsets;
         Ok(Book {
             rows: words[rows..parties].as_chunks().0,
             parties: words[parties..steps].as_chunks().0,
@@ -93,7 +82,7 @@ const fn kind(least: u32, most: u32, tag: u32, size: u32) -> Kind {
 /// By number: atom, operation, cipher, public and private half.
 const KINDS: [Kind; 5] = [
     kind(0, 0, 0, 2),
-    kind(0, 8, MOST_TAG, 3),
+    kind(0, MOST_ARGUMENTS, MOST_TAG, 3),
     kind(1, MOST_PARTS, 0, 2),
     kind(1, 1, 0, 1),
     kind(1, 1, 0, 1),
@@ -242,7 +231,7 @@ impl<const N: usize> Facts<N> {
 
 /// A row's parts, if all but they keep its rule; the pool is what is left of it from a place on.
 #[inline(always)]
-fn parts<'w>(&[kind, tag, first, count]: &[u32; 4], pool: &'w [u32], place: usize) -> Option<&'w [u32]> {
+fn parts<'w>(&[kind, tag, first, count]: &[u32; ROW], pool: &'w [u32], place: usize) -> Option<&'w [u32]> {
     let rule = KINDS.get(kind as usize)?;
     let fits = first as usize == place && tag <= rule.tag && count >= rule.least && count <= rule.most;
     pool.get(..count as usize).filter(|_| fits)
@@ -251,7 +240,7 @@ fn parts<'w>(&[kind, tag, first, count]: &[u32; 4], pool: &'w [u32], place: usiz
 /// A row's size and its hash, if all parts are before it. There is no way out of the loop but its end.
 #[inline(always)]
 fn sum<const N: usize>(
-    &[kind, tag, _, count]: &[u32; 4],
+    &[kind, tag, _, count]: &[u32; ROW],
     parts: &[u32],
     number: usize,
     sizes: &[u16; N],

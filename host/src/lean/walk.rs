@@ -2,7 +2,7 @@
 //! of its events, or only how many there are.
 
 use super::read::{Book, Facts};
-use crate::book::{ATOM, CIPHER, MOST_STEPS, OPERATION, PUBLIC};
+use crate::book::{Stop, Unmade, ATOM, CIPHER, MOST_STEPS, OPERATION, PUBLIC};
 
 /// Bits of a row's state that say how the row is held; the others are the party's stamp.
 const HOW: u32 = 1 << 20;
@@ -73,9 +73,9 @@ impl<'w, const N: usize> Walk<'w, N> {
         self.words.len() + self.counted
     }
 
-    /// A party goes through those of its steps that have a bit, from its start to its end; or it comes to a step at
-    /// which it would have to make a taken atom, and to that row.
-    pub fn party(&mut self, party: usize, mut steps: u64) -> Result<(), (u32, u32)> {
+    /// A party goes through those of its steps that have a bit, from its start to its end; or it comes to an atom that
+    /// it would have to make and can't.
+    pub fn party(&mut self, party: usize, mut steps: u64) -> Result<(), Stop> {
         self.start();
         if steps != 0 {
             self.know(party);
@@ -89,8 +89,7 @@ impl<'w, const N: usize> Walk<'w, N> {
                 (false, false) => self.send::<false>(step),
                 (true, true) => self.receive::<true>(step),
                 (true, false) => self.receive::<false>(step),
-            }
-            .map_err(|row| (step, row))?;
+            }?;
             self.events[step as usize][usize::from(receives)] = self.so_far;
             self.so_far = 0;
         }
@@ -135,8 +134,8 @@ impl<'w, const N: usize> Walk<'w, N> {
         }
     }
 
-    /// What the party sends as a step; or the taken atom that it would have to make.
-    fn send<const WRITE: bool>(&mut self, step: u32) -> Result<(), u32> {
+    /// What the party sends as a step; or the atom that it would have to make and can't.
+    fn send<const WRITE: bool>(&mut self, step: u32) -> Result<(), Stop> {
         let [_, _, first, count] = self.book.steps[step as usize];
         let begins = self.images.len();
         let mut length = 0;
@@ -148,7 +147,7 @@ impl<'w, const N: usize> Walk<'w, N> {
     }
 
     /// What the party does with the messages of a step; nothing is ever refused.
-    fn receive<const WRITE: bool>(&mut self, step: u32) -> Result<(), u32> {
+    fn receive<const WRITE: bool>(&mut self, step: u32) -> Result<(), Stop> {
         let [_, _, first, count] = self.book.steps[step as usize];
         let placeholder = self.placeholders(count);
         self.event::<WRITE>(&[3, step, placeholder, count], self.images.len(), 0);
@@ -264,15 +263,16 @@ impl<'w, const N: usize> Walk<'w, N> {
         self.finish(row, begins, length)
     }
 
-    /// The same in sending at a step: an atom that is missing is made. Or the atom that is taken.
-    fn build<const WRITE: bool>(&mut self, row: u32, step: u32) -> Result<u32, u32> {
+    /// The same in sending at a step: an atom that is missing is made. Or the atom that can't be.
+    fn build<const WRITE: bool>(&mut self, row: u32, step: u32) -> Result<u32, Stop> {
         if let Some(length) = self.held::<WRITE>(row) {
             return Ok(length);
         }
         let [kind, tag, first, count] = self.book.rows[row as usize];
         if kind == ATOM {
             if u32::from(self.facts.since[row as usize % N]) <= step {
-                return Err(row);
+                let why = Unmade::Taken;
+                return Err(Stop { why, step, row });
             }
             return Ok(self.make::<WRITE>(row));
         }

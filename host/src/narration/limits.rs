@@ -1,4 +1,4 @@
-//! The bounds of a book as far as a text can break them, as lengths.
+//! The bounds of a book as far as a text can break them, those of lists as lengths.
 //! Each is the book's own (`book.rs`); what a text can't break has none here.
 
 use crate::book;
@@ -7,7 +7,7 @@ pub const ROWS: usize = book::MOST_ROWS as usize;
 pub const PARTIES: usize = book::MOST_PARTIES as usize;
 pub const STEPS: usize = book::MOST_STEPS as usize;
 pub const POOL: usize = book::MOST_POOL as usize;
-pub const SIZE: usize = book::MOST_SIZE as usize;
+pub const SIZE: u32 = book::MOST_SIZE;
 pub const KNOWN: usize = book::MOST_KNOWN as usize;
 /// Arguments of an operation, contents of a cipher, messages of a step.
 pub const LIST: usize = book::MOST_MESSAGES as usize;

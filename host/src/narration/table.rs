@@ -5,14 +5,14 @@ use super::limits;
 use super::mistake::{mistake, Mistake, Spot};
 use super::tags::Tags;
 use super::written::{Form, Written};
-use crate::book::Row;
+use crate::book::{own_size, Row, ATOM, CIPHER, OPERATION, PRIVATE, PUBLIC};
 use std::collections::{HashMap, HashSet};
 
 pub struct Table<'a> {
     tags: Tags<'a>,
     parties: HashSet<&'a str>,
     rows: Vec<Row>,
-    sizes: Vec<usize>,
+    sizes: Vec<u32>,
     /// Pool words of all lists so far.
     pool: usize,
     atoms: HashMap<&'a str, u32>,
@@ -43,11 +43,10 @@ impl<'a> Table<'a> {
         }
         let row = self.push(
             Row {
-                kind: 0,
+                kind: ATOM,
                 tag: 0,
                 parts: Vec::new(),
             },
-            2,
             spot,
         )?;
         self.atoms.insert(name, row);
@@ -74,32 +73,33 @@ impl<'a> Table<'a> {
     }
 
     fn written(&mut self, term: &Written<'a>, parts: Vec<u32>) -> Result<u32, Mistake> {
-        let (kind, tag, own_size) = match &term.form {
+        let (kind, tag) = match &term.form {
             Form::Atom(name) => return self.atom(name, term.spot),
             Form::Operation(name, _) => {
                 if self.parties.contains(name) {
                     let found = format!("`{name}`, which is a party's name");
                     return Err(mistake(term.spot, "an operation's name", &found));
                 }
-                (1, self.tags.tag(name), 3)
+                (OPERATION, self.tags.tag(name))
             }
-            Form::Cipher { .. } => (2, 0, 2),
-            Form::Public(_) => (3, 0, 1),
-            Form::Private(_) => (4, 0, 1),
+            Form::Cipher { .. } => (CIPHER, 0),
+            Form::Public(_) => (PUBLIC, 0),
+            Form::Private(_) => (PRIVATE, 0),
         };
         let key = (kind, tag, parts);
         if let Some(row) = self.others.get(&key) {
             return Ok(*row);
         }
         let parts = key.2.clone();
-        // At most nine parts of at most 1,024 each.
-        let size = own_size + parts.iter().map(|part| self.sizes[*part as usize]).sum::<usize>();
-        let row = self.push(Row { kind, tag, parts }, size, term.spot)?;
+        let row = self.push(Row { kind, tag, parts }, term.spot)?;
         self.others.insert(key, row);
         Ok(row)
     }
 
-    fn push(&mut self, row: Row, size: usize, spot: Spot) -> Result<u32, Mistake> {
+    fn push(&mut self, row: Row, spot: Spot) -> Result<u32, Mistake> {
+        // As many parts as a row may have at most, each within the bound.
+        let parts = row.parts.iter().map(|part| self.sizes[*part as usize]);
+        let size = own_size(row.kind) + parts.sum::<u32>();
         if size > limits::SIZE {
             let expected = format!("a term of size at most {}", limits::SIZE);
             return Err(mistake(spot, &expected, &format!("one of size {size}")));

@@ -2,7 +2,10 @@
 //! that kept its rules, or to its words, or to the file's bytes.
 
 use super::{shape, Random};
-use crate::book::{Book, Row, ATOM, CIPHER, MOST_ROWS, OPERATION, PUBLIC};
+use crate::book::{
+    Book, Layout, Row, ATOM, BOUNDS, CIPHER, COUNTS, HEADER, LONGEST, MOST_KNOWN, MOST_MESSAGES, MOST_PARTS, MOST_ROWS,
+    MOST_TAG, OFFSETS, OPERATION, PARTY, PUBLIC,
+};
 use crate::words;
 
 /// The file of a damaged book.
@@ -16,14 +19,14 @@ pub fn bytes(random: &mut Random) -> Vec<u8> {
         _ => (),
     }
     let mut words = book.words();
-    let layout = Layout::of(&book);
+    let damage = Damage::to(&book, &words);
     match aim {
-        1 => words.truncate(random.below(8)),
+        1 => words.truncate(random.below(HEADER)),
         2 => count(random, &mut words),
         3 => offset(random, &mut words),
-        4 => layout.row(random, &mut words),
-        7 => layout.party(random, &mut words),
-        8 => layout.step(random, &mut words),
+        4 => damage.row(random, &mut words),
+        7 => damage.party(random, &mut words),
+        8 => damage.step(random, &mut words),
         9 => longer_pool(random, &mut words),
         _ => (),
     }
@@ -54,8 +57,9 @@ fn odd(random: &mut Random, word: u32) -> u32 {
 
 /// Refusal 2: a count of the header just past its bound, or far past.
 fn count(random: &mut Random, words: &mut [u32]) {
-    let (word, least, most) = *random.pick(&[(0, 1, 1_024), (2, 1, 16), (4, 0, 64), (6, 0, 8_192)]);
-    words[word] = match random.below(4) {
+    let section = random.below(COUNTS.len());
+    let (least, most) = BOUNDS[section];
+    words[COUNTS[section]] = match random.below(4) {
         0 if least == 1 => 0,
         1 => u32::MAX,
         2 => 1 << 30,
@@ -67,7 +71,7 @@ fn count(random: &mut Random, words: &mut [u32]) {
 fn offset(random: &mut Random, words: &mut Vec<u32>) {
     match random.below(6) {
         0 => {
-            let at = *random.pick(&[0, 2, 4, 6]);
+            let at = *random.pick(&COUNTS);
             words[at] = words[at].max(1) - 1;
         }
         1 => {
@@ -78,9 +82,9 @@ fn offset(random: &mut Random, words: &mut Vec<u32>) {
             words.pop();
         }
         // Longer than any book, so longer than what is read.
-        3 => words.resize(random.between(12_600, 12_610), 7),
+        3 => words.resize(random.between(LONGEST, LONGEST + 10), 7),
         _ => {
-            let at = *random.pick(&[1, 3, 5, 7]);
+            let at = *random.pick(&OFFSETS);
             words[at] = odd(random, words[at]);
         }
     }
@@ -146,52 +150,50 @@ fn repeat(random: &mut Random, book: &mut Book) {
 /// Refusal 9: words in the pool that no list takes.
 fn longer_pool(random: &mut Random, words: &mut Vec<u32>) {
     let more = random.between(1, 3);
-    words[6] += more as u32;
+    words[COUNTS[3]] += more as u32;
     words.extend(vec![0; more]);
 }
 
-/// Where the words of a book stand.
-struct Layout {
-    rows: Vec<Row>,
+/// What is done to one record of a book, or to its list: how many records there are, and where they stand.
+struct Damage {
+    rows: usize,
     parties: usize,
     steps: usize,
+    at: Layout,
 }
 
-impl Layout {
-    fn of(book: &Book) -> Layout {
-        Layout {
-            rows: book.rows.clone(),
+impl Damage {
+    fn to(book: &Book, words: &[u32]) -> Damage {
+        Damage {
+            rows: book.rows.len(),
             parties: book.parties.len(),
             steps: book.steps.len(),
+            at: Layout::counted(words),
         }
-    }
-
-    fn pool(&self) -> usize {
-        8 + 4 * self.rows.len() + 3 * self.parties + 4 * self.steps
     }
 
     /// Refusal 4: a kind, tag, count, first or part that breaks the row's rule, or a short pool.
     fn row(&self, random: &mut Random, words: &mut Vec<u32>) {
-        let row = random.below(self.rows.len());
-        let at = 8 + 4 * row;
+        let row = random.below(self.rows);
+        let at = self.at.row(row);
         match random.below(8) {
             0 => words[at] = *random.pick(&[5, 6, u32::MAX]),
             1 => words[at] = random.below(5) as u32,
-            2 if words[at] == OPERATION => words[at + 1] = *random.pick(&[65_536, u32::MAX]),
-            2 => words[at + 1] = *random.pick(&[1, 65_535]),
+            2 if words[at] == OPERATION => words[at + 1] = *random.pick(&[MOST_TAG + 1, u32::MAX]),
+            2 => words[at + 1] = *random.pick(&[1, MOST_TAG]),
             3 => words[at + 2] = odd(random, words[at + 2]),
             4 => words[at + 3] = odd(random, words[at + 3]),
-            5 => words[at + 3] = *random.pick(&[0, 1, 2, 9, 10]),
+            5 => words[at + 3] = *random.pick(&[0, 1, 2, MOST_PARTS, MOST_PARTS + 1]),
             6 => {
                 // The pool ends early, before the end of the rows' lists, or of the others'.
-                let kept = random.below(words[6] as usize + 1);
-                words[6] = kept as u32;
-                words.truncate(self.pool() + kept);
+                let kept = random.below(words[COUNTS[3]] as usize + 1);
+                words[COUNTS[3]] = kept as u32;
+                words.truncate(self.at.pool + kept);
             }
             _ => {
                 let (first, count) = (words[at + 2] as usize, words[at + 3] as usize);
                 if count > 0 {
-                    let part = self.pool() + first + random.below(count);
+                    let part = self.at.pool + first + random.below(count);
                     words[part] = *random.pick(&[row as u32, row as u32 + 1, u32::MAX]);
                 }
             }
@@ -201,23 +203,23 @@ impl Layout {
     /// Refusal 7: a name, count, first or known row that breaks the party's rule.
     fn party(&self, random: &mut Random, words: &mut [u32]) {
         let party = random.below(self.parties);
-        let at = 8 + 4 * self.rows.len() + 3 * party;
+        let at = self.at.party(party);
         let (first, count) = (words[at + 1] as usize, words[at + 2] as usize);
         match random.below(6) {
-            0 => words[at] = *random.pick(&[self.rows.len() as u32, u32::MAX]),
-            1 => words[at] = random.below(self.rows.len()) as u32,
-            2 if party > 0 => words[at] = words[at - 3],
+            0 => words[at] = *random.pick(&[self.rows as u32, u32::MAX]),
+            1 => words[at] = random.below(self.rows) as u32,
+            2 if party > 0 => words[at] = words[at - PARTY],
             3 => words[at + 1] = odd(random, words[at + 1]),
-            4 => words[at + 2] = *random.pick(&[257, count as u32 + 1, u32::MAX]),
+            4 => words[at + 2] = *random.pick(&[MOST_KNOWN + 1, count as u32 + 1, u32::MAX]),
             _ if count > 1 => {
-                let known = self.pool() + first + random.below(count - 1);
+                let known = self.at.pool + first + random.below(count - 1);
                 match random.percent(50) {
                     true => words[known + 1] = words[known],
                     false => words.swap(known, known + 1),
                 }
             }
-            _ if count > 0 => words[self.pool() + first + count - 1] = self.rows.len() as u32,
-            _ => words[at + 2] = 257,
+            _ if count > 0 => words[self.at.pool + first + count - 1] = self.rows as u32,
+            _ => words[at + 2] = MOST_KNOWN + 1,
         }
     }
 
@@ -227,7 +229,7 @@ impl Layout {
             return;
         }
         let step = random.below(self.steps);
-        let at = 8 + 4 * self.rows.len() + 3 * self.parties + 4 * step;
+        let at = self.at.step(step);
         let (first, count) = (words[at + 2] as usize, words[at + 3] as usize);
         let wrong = [self.parties as u32, u32::MAX];
         match random.below(7) {
@@ -235,12 +237,12 @@ impl Layout {
             1 => words[at] = *random.pick(&wrong),
             2 => words[at + 1] = *random.pick(&wrong),
             3 => words[at + 2] = odd(random, words[at + 2]),
-            4 => words[at + 3] = *random.pick(&[9, count as u32 + 1, u32::MAX]),
+            4 => words[at + 3] = *random.pick(&[MOST_MESSAGES + 1, count as u32 + 1, u32::MAX]),
             _ if count > 0 => {
-                let message = self.pool() + first + random.below(count);
-                words[message] = *random.pick(&[self.rows.len() as u32, u32::MAX]);
+                let message = self.at.pool + first + random.below(count);
+                words[message] = *random.pick(&[self.rows as u32, u32::MAX]);
             }
-            _ => words[at + 3] = 9,
+            _ => words[at + 3] = MOST_MESSAGES + 1,
         }
     }
 }

@@ -3,8 +3,8 @@
 
 use super::Random;
 use crate::book::{
-    Book, Party, Row, Step, ATOM, CIPHER, MOST_KNOWN, MOST_MESSAGES, MOST_POOL, MOST_ROWS, MOST_SIZE, OPERATION,
-    PRIVATE, PUBLIC,
+    own_size, Book, Party, Row, Step, ATOM, CIPHER, MOST_ARGUMENTS, MOST_KNOWN, MOST_MESSAGES, MOST_PARTIES,
+    MOST_PARTS, MOST_POOL, MOST_ROWS, MOST_SIZE, MOST_STEPS, MOST_TAG, OPERATION, PRIVATE, PUBLIC,
 };
 use crate::term::Shared;
 use crate::translate::Translation;
@@ -29,11 +29,14 @@ pub fn book_of(random: &mut Random, size: usize) -> Book {
         0 => (random.between(1, 12), random.between(1, 3), random.below(6)),
         1 => (random.between(5, 40), random.between(2, 5), random.between(1, 12)),
         2 => (random.between(40, 200), random.between(2, 8), random.between(8, 32)),
-        _ => (MOST_ROWS as usize, 16, 64),
+        _ => (MOST_ROWS as usize, MOST_PARTIES as usize, MOST_STEPS as usize),
     };
     let book = without_steps(random, rows, parties, size);
     let playable = random.percent(35);
-    let most = if size == 3 { 8 } else { random.between(1, 8) };
+    let most = match size {
+        3 => MOST_MESSAGES as usize,
+        _ => random.between(1, MOST_MESSAGES as usize),
+    };
     narrate(random, book, steps, most, playable)
 }
 
@@ -41,7 +44,7 @@ pub fn book_of(random: &mut Random, size: usize) -> Book {
 pub fn playable_of(random: &mut Random, rows: usize, parties: usize, steps: usize) -> Book {
     let size = if rows < 64 { 1 } else { 2 };
     let book = without_steps(random, rows, parties, size);
-    narrate(random, book, steps, 8, true)
+    narrate(random, book, steps, MOST_MESSAGES as usize, true)
 }
 
 fn without_steps(random: &mut Random, rows: usize, parties: usize, size: usize) -> Book {
@@ -59,7 +62,7 @@ fn without_steps(random: &mut Random, rows: usize, parties: usize, size: usize) 
 fn deep_halves(random: &mut Random) -> Book {
     let mut table = Table::default();
     table.push(ATOM, 0, vec![]);
-    let last = random.between(900, 1_022);
+    let last = random.between(900, MOST_SIZE as usize - 2);
     let mixed = random.percent(50);
     for row in 1..=last as u32 {
         let private = mixed && random.percent(50);
@@ -103,7 +106,7 @@ fn long_listing(random: &mut Random) -> Book {
         table.push(ATOM, 0, vec![]);
     }
     for _ in 0..random.between(30, 60) {
-        let parts = (0..8).map(|_| random.below(table.rows.len()) as u32);
+        let parts = (0..MOST_ARGUMENTS).map(|_| random.below(table.rows.len()) as u32);
         let parts: Vec<u32> = parts.collect();
         let tag = random.below(9) as u32;
         match random.percent(50) {
@@ -124,7 +127,7 @@ fn long_listing(random: &mut Random) -> Book {
     // The lent words are 16,384: some listings stop short of them, some go past.
     let goal = random.between(9_000, 20_000) as u32;
     let mut words = 0;
-    while words < goal && book.steps.len() < 64 && !large.is_empty() {
+    while words < goal && book.steps.len() < MOST_STEPS as usize && !large.is_empty() {
         let sender = random.below(2) as u32;
         let messages = (0..random.between(1, 4)).map(|_| *random.pick(&large));
         let messages: Vec<usize> = messages.collect();
@@ -152,13 +155,8 @@ struct Table {
 impl Table {
     /// Adds a row; its number, or nothing if it would repeat one, be too large or find no room.
     fn push(&mut self, kind: u32, tag: u32, parts: Vec<u32>) -> Option<u32> {
-        let own = match kind {
-            ATOM | CIPHER => 2,
-            OPERATION => 3,
-            _ => 1,
-        };
         let of_parts = parts.iter().map(|part| self.sizes[*part as usize]);
-        let size = own + of_parts.sum::<u32>();
+        let size = own_size(kind) + of_parts.sum::<u32>();
         let free = parts.iter().any(|part| self.free[*part as usize]);
         let pool = self.pool + parts.len();
         let row = Row { kind, tag, parts };
@@ -216,8 +214,8 @@ impl Table {
         // A few as wide as they may be.
         let wide = random.percent(6);
         let count = match kind {
-            OPERATION if wide => 8,
-            CIPHER if wide => 9,
+            OPERATION if wide => MOST_ARGUMENTS as usize,
+            CIPHER if wide => MOST_PARTS as usize,
             _ => count,
         };
         let mut parts: Vec<u32> = (0..count).map(|_| part(random)).collect();
@@ -230,7 +228,7 @@ impl Table {
             }
         }
         let tag = match kind {
-            OPERATION => *random.pick(&[0, 0, 1, 1, 2, 3, 65_535]),
+            OPERATION => *random.pick(&[0, 0, 1, 1, 2, 3, MOST_TAG]),
             _ => 0,
         };
         self.push(kind, tag, parts)
@@ -249,7 +247,7 @@ impl Table {
         let halves = *random.pick(&[0, 10, 40]);
         let most = *random.pick(&[20, 120, MOST_KNOWN as usize]);
         // Room is left for the messages of all steps.
-        let mut room = (MOST_POOL as usize - self.pool).saturating_sub(64 * 8);
+        let mut room = (MOST_POOL as usize - self.pool).saturating_sub((MOST_STEPS * MOST_MESSAGES) as usize);
         let mut all = Vec::new();
         while all.len() < parties && !names.is_empty() {
             let name = names.remove(random.below(names.len().min(30)));

@@ -1,7 +1,7 @@
 //! What the routes are tried on: a book and a schedule of any bytes, how many bytes are lent for the output, and questions
 //! about summaries.
 
-use crate::book::{Book, Party, Row, Step, ATOM, LONGEST, OPERATION};
+use crate::book::{Book, Party, Row, Step, ATOM, HEADER, LONGEST, MOST_MESSAGES, MOST_PARTIES, MOST_STEPS, OPERATION};
 use crate::files;
 use crate::random::{self, Random};
 use crate::rehearse::MOST_MOVES;
@@ -174,7 +174,7 @@ fn turns(summary: &[u32]) -> impl Iterator<Item = Asked> + '_ {
 
 /// The parties that a book's bytes say there are.
 fn parties(book: &[u8]) -> u32 {
-    let header = words::of_bytes(words::first(book, 8));
+    let header = words::of_bytes(words::first(book, HEADER));
     header.map_or(1, |words| shelf::parties(&words))
 }
 
@@ -220,7 +220,7 @@ fn moves(random: &mut Random, parties: u32) -> Vec<u32> {
     if !moves.is_empty() && random.percent(15) {
         for _ in 0..random.between(1, 3) {
             let at = random.below(moves.len());
-            moves[at] = *random.pick(&[parties, parties + 1, 16, 0x100, 0x1_0000, u32::MAX]);
+            moves[at] = *random.pick(&[parties, parties + 1, MOST_PARTIES, 0x100, 0x1_0000, u32::MAX]);
         }
     }
     moves
@@ -272,7 +272,7 @@ impl Trials {
 fn of_book(file: &Path) -> Result<Vec<Trial>, String> {
     let book = files::bytes(file)?;
     let name = file.file_stem().unwrap_or_default().to_string_lossy().into_owned();
-    let header = words::of_bytes(words::first(&book, 8)).unwrap_or_default();
+    let header = words::of_bytes(words::first(&book, HEADER)).unwrap_or_default();
     let schedules = shelf::schedules(&header).map(|schedule| words::to_bytes(&schedule));
     let mut trials = Vec::new();
     for (number, schedule) in schedules.iter().enumerate() {
@@ -313,9 +313,9 @@ fn long() -> Trial {
     let step = |number: u32| Step {
         sender: number % 2,
         receiver: 1 - number % 2,
-        messages: vec![rows.len() as u32 - 1; 8],
+        messages: vec![rows.len() as u32 - 1; MOST_MESSAGES as usize],
     };
-    let steps = (0..64).map(step).collect();
+    let steps = (0..MOST_STEPS).map(step).collect();
     let parties = vec![party(0), party(1)];
     let book = Book { rows, parties, steps };
     let name = "a long listing".to_string();

@@ -2,11 +2,11 @@
 //! the refusal stands right under the header word, row, party or step it names.
 
 use super::why;
-use crate::book::{Refusal, Sections, HEADER, MOST_KNOWN, MOST_MESSAGES, MOST_PARTS};
+use crate::book::{Refusal, Sections, HEADER, MOST_KNOWN, MOST_MESSAGES, MOST_PARTS, PARTY, ROW, STEP};
 use crate::words;
 use std::ops::RangeInclusive;
 
-const NAMES: [&str; HEADER as usize] = [
+const NAMES: [&str; HEADER] = [
     "rows",
     "offset of the rows",
     "parties",
@@ -66,11 +66,11 @@ impl Page {
             self.mark(2..=3, number, &format!("header word {number}"));
         }
         self.line(&format!("length: {}", words.len()));
-        self.mark(3..=3, NAMES.len(), "length");
+        self.mark(3..=3, HEADER, "length");
     }
 
     fn sections(&mut self, sections: &Sections) {
-        for (number, row) in sections.rows.chunks_exact(4).enumerate() {
+        for (number, row) in sections.rows.chunks_exact(ROW).enumerate() {
             let parts = list(sections, row[2], row[3], MOST_PARTS);
             self.line(&format!(
                 "row {number}: kind {}, tag {}, first {}, count {}; parts: {parts}",
@@ -78,7 +78,7 @@ impl Page {
             ));
             self.mark(4..=6, number, &format!("row {number}"));
         }
-        for (number, party) in sections.parties.chunks_exact(3).enumerate() {
+        for (number, party) in sections.parties.chunks_exact(PARTY).enumerate() {
             let known = list(sections, party[1], party[2], MOST_KNOWN);
             self.line(&format!(
                 "party {number}: name {}, first {}, count {}; known: {known}",
@@ -86,7 +86,7 @@ impl Page {
             ));
             self.mark(7..=7, number, &format!("party {number}"));
         }
-        for (number, step) in sections.steps.chunks_exact(4).enumerate() {
+        for (number, step) in sections.steps.chunks_exact(STEP).enumerate() {
             let messages = list(sections, step[2], step[3], MOST_MESSAGES);
             self.line(&format!(
                 "step {number}: sender {}, receiver {}, first {}, count {}; messages: {messages}",

@@ -1,7 +1,7 @@
 //! Why a book is refused by 1 to 9, in words: the first broken rule of the row, party or step at fault.
 //! The reader has found the refusal; here only its reason is looked for.
 
-use crate::book::{self, Sections, HEADER};
+use crate::book::{self, Layout, Sections, BOUNDS, COUNTS, HEADER, OFFSETS, PARTY, ROW, STEP};
 
 /// `number` and `place` are what the reader gave for these words.
 pub fn why(words: &[u32], number: u32, place: u32) -> String {
@@ -22,30 +22,24 @@ pub fn why(words: &[u32], number: u32, place: u32) -> String {
 }
 
 fn bounds(words: &[u32], at: usize) -> Option<String> {
-    let (what, least, most) = match at {
-        0 => ("rows", 1, book::MOST_ROWS),
-        2 => ("parties", 1, book::MOST_PARTIES),
-        4 => ("steps", 0, book::MOST_STEPS),
-        6 => ("pool words", 0, book::MOST_POOL),
-        _ => return None,
-    };
+    let section = COUNTS.iter().position(|word| *word == at)?;
+    let what = ["rows", "parties", "steps", "pool words"][section];
+    let (least, most) = BOUNDS[section];
     Some(format!("{} {what}, where {least} to {most} are allowed", words[at]))
 }
 
 fn offset(words: &[u32], at: usize) -> Option<String> {
-    let [t, q, l, w] = [0, 2, 4, 6].map(|word| u64::from(words[word]));
-    let parties = HEADER + 4 * t;
-    let steps = parties + 3 * q;
-    let pool = steps + 4 * l;
-    let (what, found, right) = match at {
-        1 => ("offset of the rows", u64::from(words[1]), HEADER),
-        3 => ("offset of the parties", u64::from(words[3]), parties),
-        5 => ("offset of the steps", u64::from(words[5]), steps),
-        7 => ("offset of the pool", u64::from(words[7]), pool),
-        8 => ("length", words.len() as u64, pool + w),
-        _ => return None,
-    };
-    Some(format!("the {what} is {found}, by the counts it is {right}"))
+    let layout = Layout::counted(words);
+    if at == HEADER {
+        let (found, right) = (words.len(), layout.end);
+        return Some(format!("the length is {found}, by the counts it is {right}"));
+    }
+    let section = OFFSETS.iter().position(|word| *word == at)?;
+    let what = ["rows", "parties", "steps", "pool"][section];
+    let (found, right) = (words[at], layout.offsets()[section]);
+    Some(format!(
+        "the offset of the {what} is {found}, by the counts it is {right}"
+    ))
 }
 
 /// What is wrong with a list as such: its count, its first, or that it leaves the pool.
@@ -53,7 +47,7 @@ fn list(words: &[u32], list: &[u32], before: u64, most: u32) -> Option<String> {
     let &[first, count] = list else {
         return None;
     };
-    let pool = u64::from(words[6]);
+    let pool = Sections::of(words).pool.len() as u64;
     if count > most {
         return Some(format!("count {count} is over {most}"));
     }
@@ -70,20 +64,21 @@ fn list(words: &[u32], list: &[u32], before: u64, most: u32) -> Option<String> {
 
 /// The sum of the counts before the row, party or step that begins at word `end`.
 fn counts_before(words: &[u32], end: usize) -> u64 {
-    let sections = Sections::of(words);
-    let [rows, parties, steps] = [1, 3, 5].map(|word| words[word] as usize);
-    let of_rows = sections.rows.iter().skip(3).step_by(4).zip((rows..).step_by(4));
-    let of_parties = sections.parties.iter().skip(2).step_by(3).zip((parties..).step_by(3));
-    let of_steps = sections.steps.iter().skip(3).step_by(4).zip((steps..).step_by(4));
-    let counts = of_rows.chain(of_parties).chain(of_steps);
+    let (sections, layout) = (Sections::of(words), Layout::counted(words));
+    let rows = sections.rows.chunks_exact(ROW).zip(0..);
+    let parties = sections.parties.chunks_exact(PARTY).zip(0..);
+    let steps = sections.steps.chunks_exact(STEP).zip(0..);
+    let counts = (rows.map(|(row, number)| (row[3], layout.row(number))))
+        .chain(parties.map(|(party, number)| (party[2], layout.party(number))))
+        .chain(steps.map(|(step, number)| (step[3], layout.step(number))));
     counts
         .filter(|(_, at)| *at < end)
-        .map(|(count, _)| u64::from(*count))
+        .map(|(count, _)| u64::from(count))
         .sum()
 }
 
 fn row(words: &[u32], at: usize) -> Option<String> {
-    let own = Sections::of(words).rows.get(4 * at..4 * at + 4)?;
+    let own = Sections::of(words).rows.chunks_exact(ROW).nth(at)?;
     let (kind, tag, count) = (own[0], own[1], own[3]);
     let Some((least, most)) = book::parts(kind) else {
         return Some(format!("kind {kind} is none of 0 to 4"));
@@ -97,7 +92,12 @@ fn row(words: &[u32], at: usize) -> Option<String> {
     if count < least || count > most {
         return Some(format!("count {count}, where kind {kind} has {least} to {most} parts"));
     }
-    let broken = list(words, &own[2..], counts_before(words, 8 + 4 * at), most);
+    let broken = list(
+        words,
+        &own[2..],
+        counts_before(words, Layout::counted(words).row(at)),
+        most,
+    );
     broken.or_else(|| {
         let parts = Sections::of(words).clipped(own[2], count, most);
         let later = parts.iter().find(|part| **part as usize >= at)?;
@@ -108,7 +108,7 @@ fn row(words: &[u32], at: usize) -> Option<String> {
 fn size(words: &[u32], at: usize) -> Option<String> {
     let sections = Sections::of(words);
     let mut sizes: Vec<u64> = Vec::new();
-    for row in sections.rows.chunks_exact(4).take(at + 1) {
+    for row in sections.rows.chunks_exact(ROW).take(at + 1) {
         let parts = sections.clipped(row[2], row[3], book::MOST_PARTS);
         let parts: u64 = parts.iter().filter_map(|part| sizes.get(*part as usize)).sum();
         sizes.push(u64::from(book::own_size(row[0])) + parts);
@@ -119,7 +119,7 @@ fn size(words: &[u32], at: usize) -> Option<String> {
 fn repeated(words: &[u32], at: usize) -> Option<String> {
     let sections = Sections::of(words);
     let own = |row: usize| {
-        let words = &sections.rows[4 * row..4 * row + 4];
+        let words = &sections.rows[ROW * row..][..ROW];
         (
             words[0],
             words[1],
@@ -132,22 +132,22 @@ fn repeated(words: &[u32], at: usize) -> Option<String> {
 
 fn party(words: &[u32], at: usize) -> Option<String> {
     let sections = Sections::of(words);
-    let own = sections.parties.get(3 * at..3 * at + 3)?;
+    let own = sections.parties.chunks_exact(PARTY).nth(at)?;
     let name = own[0];
-    match sections.rows.chunks_exact(4).nth(name as usize) {
+    match sections.rows.chunks_exact(ROW).nth(name as usize) {
         None => return Some(format!("name {name} is no row")),
         Some(row) if row[0] != book::ATOM => return Some(format!("name {name} is no atom")),
         Some(_) => (),
     }
-    let names = sections.parties.iter().step_by(3);
-    if let Some(earlier) = names.take(at).position(|other| *other == name) {
+    let mut earlier = sections.parties.chunks_exact(PARTY).take(at);
+    if let Some(earlier) = earlier.position(|other| other[0] == name) {
         return Some(format!("name {name} is the name of party {earlier} already"));
     }
-    let before = counts_before(words, words[3] as usize + 3 * at);
-    let broken = list(words, &own[1..], before, book::MOST_KNOWN);
+    let before = counts_before(words, Layout::counted(words).party(at));
+    let broken = list(words, &own[1..3], before, book::MOST_KNOWN);
     broken.or_else(|| {
         let known = sections.clipped(own[1], own[2], book::MOST_KNOWN);
-        if let Some(row) = known.iter().find(|row| **row >= words[0]) {
+        if let Some(row) = known.iter().find(|row| **row >= words[COUNTS[0]]) {
             return Some(format!("known {row} is no row"));
         }
         let pair = known.windows(2).find(|pair| pair[0] >= pair[1])?;
@@ -160,25 +160,25 @@ fn party(words: &[u32], at: usize) -> Option<String> {
 
 fn step(words: &[u32], at: usize) -> Option<String> {
     let sections = Sections::of(words);
-    let own = sections.steps.get(4 * at..4 * at + 4)?;
+    let own = sections.steps.chunks_exact(STEP).nth(at)?;
     for (what, party) in [("sender", own[0]), ("receiver", own[1])] {
-        if party >= words[2] {
+        if party >= words[COUNTS[1]] {
             return Some(format!("{what} {party} is no party"));
         }
     }
     if own[0] == own[1] {
         return Some(format!("sender and receiver are both party {}", own[0]));
     }
-    let before = counts_before(words, words[5] as usize + 4 * at);
+    let before = counts_before(words, Layout::counted(words).step(at));
     let broken = list(words, &own[2..], before, book::MOST_MESSAGES);
     broken.or_else(|| {
         let messages = sections.clipped(own[2], own[3], book::MOST_MESSAGES);
-        let message = messages.iter().find(|row| **row >= words[0])?;
+        let message = messages.iter().find(|row| **row >= words[COUNTS[0]])?;
         Some(format!("message {message} is no row"))
     })
 }
 
 fn sum(words: &[u32]) -> String {
     let sum = counts_before(words, usize::MAX);
-    format!("the counts add up to {sum}, the pool has {} words", words[6])
+    format!("the counts add up to {sum}, the pool has {} words", words[COUNTS[3]])
 }

@@ -17,6 +17,9 @@ abbrev pub header : ℕ
 header = 8
 
 -- the sections: 0 rows, 1 parties, 2 steps, 3 pool words. The words of a record, the least and the largest count
+abbrev pub sections : ℕ
+sections = 4
+
 abbrev pub width : ℕ → ℕ
 width i = getD (4 ∷ 3 ∷ 4 ∷ 1 ∷ []) i 0
 
@@ -25,6 +28,17 @@ least i = getD (1 ∷ 1 ∷ 0 ∷ 0 ∷ []) i 0
 
 abbrev pub most : ℕ → ℕ
 most i = getD (1024 ∷ 16 ∷ 64 ∷ 8192 ∷ []) i 0
+
+-- "so at most 12,600 words": the longest book. "It reads one word more than the longest book .. and no further": the words that are
+-- loaded of a book, however long it is, and their bytes
+abbrev pub longest : ℕ
+longest = header + width 0 * most 0 + width 1 * most 1 + width 2 * most 2 + width 3 * most 3
+
+abbrev pub loaded : ℕ
+loaded = longest + 1
+
+abbrev pub loadedBytes : ℕ
+loadedBytes = 4 * loaded
 
 -- what the header says of section i: how many records, and where they begin
 abbrev pub counted : List ℕ → ℕ → ℕ

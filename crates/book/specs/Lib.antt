@@ -1,5 +1,6 @@
 pub mod Layout
 pub mod Kinds
+pub mod Sections
 pub mod Headed
 pub mod Rules
 pub mod Said

@@ -6,7 +6,7 @@ use mathlib.Core.List.{List, [], _∷_}
 use lib.ListN.{length}
 use lib.Dec.{ltb}
 use Rattle.words.specs.First.{first, any}
-use Rattle.book.specs.Layout.{header, rows, parties, steps}
+use Rattle.book.specs.Layout.{header, sections, rows, parties, steps}
 use Rattle.book.specs.Rules.{countBreaks, offsetBreaks, rowBreaks, sizeBreaks, repeats, partyBreaks, stepBreaks, totalBreaks}
 use Rattle.book.specs.Said.{Said, said, accepted}
 pub mod Laws
@@ -44,9 +44,9 @@ readingTable b =
     -- fewer than 8 words
     line 1 1 (λ i. ltb (length b) header) zero-place
     -- a count outside its bounds: smallest header word
-    ∷ line 2 4 (countBreaks b) (λ i. here (2 * i))
+    ∷ line 2 sections (countBreaks b) (λ i. here (2 * i))
     -- an offset or the total length differs: smallest header word, or 8 for the length
-    ∷ line 3 5 (offsetBreaks b) (λ i. here (min header (2 * i + 1)))
+    ∷ line 3 (sections + 1) (offsetBreaks b) (λ i. here (min header (2 * i + 1)))
     -- a row breaks its rule, or its list leaves the pool
     ∷ line 4 (rows b) (rowBreaks b) here
     -- a size over 1,024

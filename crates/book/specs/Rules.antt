@@ -11,7 +11,7 @@ use Rattle.words.specs.First.{any}
 use Rattle.words.specs.Run.{sameWords}
 use Rattle.terms.specs.Kind.{ofKind, lastKind}
 use Rattle.terms.specs.Table.{rowSize}
-use Rattle.book.specs.Layout.{least, most, counted, begins, offset, rows, parties, steps, pool, kind, tag, rowFirst, rowCount, name, partyFirst, partyCount, sender, receiver, stepFirst, stepCount, pooled, parts, rowsBefore, partiesBefore, stepsBefore, table}
+use Rattle.book.specs.Layout.{sections, least, most, counted, begins, offset, rows, parties, steps, pool, kind, tag, rowFirst, rowCount, name, partyFirst, partyCount, sender, receiver, stepFirst, stepCount, pooled, parts, rowsBefore, partiesBefore, stepsBefore, table}
 pub mod Laws
 
 -- ---- tests
@@ -37,7 +37,7 @@ countBreaks b i = outside (least i) (most i) (counted b i)
 
 -- "an offset or the total length differs": what stands where section i has to begin; behind the last, the length
 unfoldable pub stated : List ℕ → ℕ → ℕ
-stated b i = pick (ltb i 4) (begins b i) (length b)
+stated b i = pick (ltb i sections) (begins b i) (length b)
 
 abbrev pub OffsetRule : List ℕ → ℕ → Type 0
 OffsetRule b i = stated b i ≡ offset b i

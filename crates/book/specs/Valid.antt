@@ -1,15 +1,15 @@
 -- A book that passes refusals 1 to 9. Valid.Laws has that the verdict accepts exactly these.
-use Prim.Native.Nat.{ℕ, _≤_, _<_}
+use Prim.Native.Nat.{ℕ, _+_, _≤_, _<_}
 use mathlib.Core.List.{List}
 use lib.ListN.{length}
-use Rattle.book.specs.Layout.{header, rows, parties, steps}
+use Rattle.book.specs.Layout.{header, sections, rows, parties, steps}
 use Rattle.book.specs.Rules.{CountRule, OffsetRule, RowRule, SizeRule, SingleRule, PartyRule, StepRule, TotalRule}
 pub mod Laws
 
 pub record Valid (b : List ℕ) : Type 0 where
   pub long : header ≤ length b
-  pub counts : (i : ℕ) → i < 4 → CountRule b i
-  pub offsets : (i : ℕ) → i < 5 → OffsetRule b i
+  pub counts : (i : ℕ) → i < sections → CountRule b i
+  pub offsets : (i : ℕ) → i < sections + 1 → OffsetRule b i
   pub rowsKeep : (r : ℕ) → r < rows b → RowRule b r
   pub sizesKeep : (r : ℕ) → r < rows b → SizeRule b r
   pub single : (r : ℕ) → r < rows b → SingleRule b r

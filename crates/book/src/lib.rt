@@ -1,16 +1,18 @@
 // The book as the other rooms read it: refusals, the words' layout, limits, codes, and a function for each word. Each answers
-// exactly what specs/Layout.antt gives its name, of a book whose header is right and a number within its section; `Kind::of`
-// answers a kind's line (specs/Kinds.antt), `entry` and `first_part` a row of a valid book.
+// exactly what specs/Layout.antt gives its name, of a book whose header is right and a number within its section; `Section::of` and
+// `Kind::of` answer a section's and a kind's line (specs/Sections.antt, specs/Kinds.antt), `entry` and `first_part` a row of a valid
+// book.
 use words::wide;
 ghost use mathlib.Core.Path.{_≡_};
 ghost use Prim.Native.Nat.{_+_, _^_, _≤_, _<_};
 ghost use Rattle.book.specs.Headed.{Headed};
 ghost use Rattle.terms.specs.Kind.{isHalf, otherHalf};
 ghost use Rattle.book.specs.Kinds.{OfKind};
+ghost use Rattle.book.specs.Sections.{OfSection};
 ghost use Rattle.book.specs.Said.{refusalSays, toldSays};
 ghost use Rattle.book.specs.Span.{entry as entryAt, Span};
 ghost use Rattle.book.specs.Valid.{Valid};
-ghost use Rattle.book.specs.Layout.{rows as rowsOf, parties as partiesOf, steps as stepsOf, pool as poolOf, field, pooled as pooledAt};
+ghost use Rattle.book.specs.Layout.{sections, width, rows as rowsOf, parties as partiesOf, steps as stepsOf, pool as poolOf, field, pooled as pooledAt};
 ghost use Rattle.book.specs.Layout.{kind, tag, rowFirst, rowCount, name, partyFirst, partyCount, sender, receiver, stepFirst, stepCount};
 
 // Why a book, a schedule, a buffer, a summary or a question is refused: document 01's table and document 02's lines, a case a line.
@@ -43,17 +45,81 @@ pub enum Reading {
     Refused(Refusal),
 }
 
-// Where a book's words lie: the words of the header, and of a record of each section.
+// Where a book's words lie: the words of the header, the number of sections, and the words of a record of each.
 pub struct Layout {}
 
 impl Layout {
-    pub const HEADER: usize = 8;
+    pub const HEADER: u32 = 8;
 
-    pub const ROW: usize = 4;
+    pub const SECTIONS: u32 = 4;
 
-    pub const PARTY: usize = 3;
+    pub const ROW: u32 = 4;
 
-    pub const STEP: usize = 4;
+    pub const PARTY: u32 = 3;
+
+    pub const STEP: u32 = 4;
+
+    pub const POOL: u32 = 1;
+
+    // The longest book.
+    pub const LONGEST: usize = (Layout::HEADER
+        + Layout::ROW * Limit::ROWS
+        + Layout::PARTY * Limit::PARTIES
+        + Layout::STEP * Limit::STEPS
+        + Layout::POOL * Limit::POOL) as usize;
+
+    // What is loaded of a book, as words and as bytes: a word more than the longest has, so that a longer one is seen to be too long.
+    pub const LOADED: usize = Layout::LONGEST + 1;
+
+    pub const LOADED_BYTES: usize = 4 * Layout::LOADED;
+}
+
+// The sections, and what each asks of its count: the words of a record, the least count and the largest.
+pub struct Section {
+    pub width: u32,
+    pub least: u32,
+    pub most: u32,
+}
+
+impl Section {
+    pub const ROWS: u32 = 0;
+
+    pub const PARTIES: u32 = 1;
+
+    pub const STEPS: u32 = 2;
+
+    // A section's line.
+    pub fn of(section: u32) -> Section
+        requires { ⌜ section < sections ⌝ }
+        ensures { λ r. ⌜ OfSection section r ⌝ }
+    {
+        if section == Section::ROWS {
+            return Section {
+                width: Layout::ROW,
+                least: 1,
+                most: Limit::ROWS,
+            };
+        }
+        if section == Section::PARTIES {
+            return Section {
+                width: Layout::PARTY,
+                least: 1,
+                most: Limit::PARTIES,
+            };
+        }
+        if section == Section::STEPS {
+            return Section {
+                width: Layout::STEP,
+                least: 0,
+                most: Limit::STEPS,
+            };
+        }
+        Section {
+            width: Layout::POOL,
+            least: 0,
+            most: Limit::POOL,
+        }
+    }
 }
 
 // The kinds of rows, and what each asks of its rows and says of them: what it adds to its parts' sizes, the fewest and the most parts,
@@ -239,24 +305,24 @@ pub fn pool(book: &[u32]) -> usize
 
 // Word k of a row's, a party's and a step's record.
 pub fn row_word(book: &[u32], row: u32, k: usize) -> u32
-    requires { ⌜ Headed (now book) × (row < rowsOf (now book)) × (k < 4) ⌝ }
+    requires { ⌜ Headed (now book) × (row < rowsOf (now book)) × (k < width 0) ⌝ }
     ensures { λ r. ⌜ r ≡ field (now (book .entry)) 0 row k ⌝ }
 {
-    book[Layout::HEADER + Layout::ROW * wide(row) + k]
+    book[wide(Layout::HEADER + Layout::ROW * row) + k]
 }
 
 pub fn party_word(book: &[u32], party: u32, k: usize) -> u32
-    requires { ⌜ Headed (now book) × (party < partiesOf (now book)) × (k < 3) ⌝ }
+    requires { ⌜ Headed (now book) × (party < partiesOf (now book)) × (k < width 1) ⌝ }
     ensures { λ r. ⌜ r ≡ field (now (book .entry)) 1 party k ⌝ }
 {
-    book[wide(book[3]) + Layout::PARTY * wide(party) + k]
+    book[wide(book[3] + Layout::PARTY * party) + k]
 }
 
 pub fn step_word(book: &[u32], step: u32, k: usize) -> u32
-    requires { ⌜ Headed (now book) × (step < stepsOf (now book)) × (k < 4) ⌝ }
+    requires { ⌜ Headed (now book) × (step < stepsOf (now book)) × (k < width 2) ⌝ }
     ensures { λ r. ⌜ r ≡ field (now (book .entry)) 2 step k ⌝ }
 {
-    book[wide(book[5]) + Layout::STEP * wide(step) + k]
+    book[wide(book[5] + Layout::STEP * step) + k]
 }
 
 // Word j of the list that begins at `first` in the pool.

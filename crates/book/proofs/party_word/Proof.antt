@@ -1,28 +1,25 @@
 -- `book::party_word` meets its contract: the parties begin where the header says, and their records lie one after
 -- another. Assumes nothing.
-use Rattle.book.specs.Headed.Laws.{party-at}
+use Rattle.book.specs.Headed.Laws.{field-at}
 use borrow.Author.Needs.{needs}
 use Rattle.book.proofs.party_word.Statement.{statement}
 use Rattle.book.proofs.party_word.Tie as tie
 
 returns : tie.Need-returns
 returns c =
-    let after-wide2 : tie.After-wide2 = search in
     let after-wide : tie.After-wide = search in
     let start : tie.Start = search in
-    party-at (start .args .book .now) (start .args .party) (start .args .k) _ _ (after-wide .wide .ensures .0)
-    (after-wide2 .wide2 .ensures .0)
+    field-at (start .args .book .now) 1 (start .args .party) (start .args .k) _ (after-wide .wide .ensures .0)
 
 pub party-word-spec : {M : Type 1} → statement M
 party-word-spec =
     tie.close
     (tie.spec
     (λ c. search needs)  -- shared-slice-read-wide
+    (λ c. search needs)  -- mul-wide
+    (λ c. search needs)  -- add-wide
     (λ c κs. search needs)  -- wide-requires
-    (λ c κs. search needs)  -- wide-requires-2
-    (λ c. search needs)  -- mul-result
     (λ c. search needs)  -- add-result
-    (λ c. search needs)  -- add-result-2
-    (λ c. search needs)  -- mul-result-2
+    (λ c. search needs)  -- mul-result
     (λ c. search needs)  -- shared-slice-read-result
     returns)

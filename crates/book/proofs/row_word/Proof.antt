@@ -16,10 +16,10 @@ pub row-word-spec : {M : Type 1} → statement M
 row-word-spec =
     tie.close
     (tie.spec
+    (λ c. search needs)  -- mul-wide
+    (λ c. search needs)  -- add-wide
     (λ c κs. search needs)  -- wide-requires
-    (λ c. search needs)  -- mul-result
     (λ c. search needs)  -- add-result
-    (λ c. search needs)  -- add-result-2
-    (λ c. search needs)  -- mul-result-2
+    (λ c. search needs)  -- mul-result
     (λ c. search needs)  -- shared-slice-read-result
     returns)

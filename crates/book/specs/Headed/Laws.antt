@@ -1,16 +1,16 @@
 -- Laws of the header. Assumes nothing.
-use Prim.Native.Nat.{ℕ, _+_, _*_, _≤_, _<_}
+use Prim.Native.Nat.{ℕ, zero, suc, _+_, _*_, _≤_, _<_}
 use mathlib.Core.List.{List}
 use native.Mathlib.Omega.{arith}
 use lib.ListN.{length}
 use Rattle.words.specs.Choice.{pick}
 use mathlib.Core.Path.{_≡_, ap}
-use Rattle.book.specs.Layout.{at, begins, rows, parties, steps, pool, field, pooled, offset}
+use Rattle.book.specs.Layout.{at, header, sections, width, most, longest, counted, begins, rows, parties, steps, pool, field, pooled, offset}
 use Rattle.book.specs.Rules.{CountRule, stated, OffsetRule}
 use Rattle.book.specs.Valid.{Valid}
 use Rattle.book.specs.Headed.{Headed}
 
-pub rules-headed : (b : List ℕ) → ((i : ℕ) → i < 4 → CountRule b i) → ((i : ℕ) → i < 5 → OffsetRule b i) → Headed b
+pub rules-headed : (b : List ℕ) → ((i : ℕ) → i < sections → CountRule b i) → ((i : ℕ) → i < sections + 1 → OffsetRule b i) → Headed b
 unfolding offset stated pick
 rules-headed b counts offsets =
     let c0 = counts 0 (omega arith) in
@@ -35,32 +35,48 @@ pub valid-headed : (b : List ℕ) → Valid b → Headed b
 valid-headed b v = rules-headed b (v .counts) (v .offsets)
 
 -- the bounds that a valid book's header keeps, each as a rule for `omega`
-pub few-rows : (b : List ℕ) → Valid b → rows b ≤ 1024
+pub few-rows : (b : List ℕ) → Valid b → rows b ≤ most 0
 few-rows b v = valid-headed b v .fewRows
 
-pub few-parties : (b : List ℕ) → Valid b → parties b ≤ 16
+pub few-parties : (b : List ℕ) → Valid b → parties b ≤ most 1
 few-parties b v = valid-headed b v .fewParties
 
-pub few-steps : (b : List ℕ) → Valid b → steps b ≤ 64
+pub few-steps : (b : List ℕ) → Valid b → steps b ≤ most 2
 few-steps b v = valid-headed b v .fewSteps
 
-pub small-pool : (b : List ℕ) → Valid b → pool b ≤ 8192
+pub small-pool : (b : List ℕ) → Valid b → pool b ≤ most 3
 small-pool b v = valid-headed b v .smallPool
 
--- "so at most 12,600 words"
-pub longest : (b : List ℕ) → Headed b → length b ≤ 12600
-longest b h = omega arith
+-- ---- the longest book: no headed book is longer
+pub long-most : (b : List ℕ) → Headed b → length b ≤ longest
+long-most b h = omega arith
 
--- ---- where code finds a record's word and a list's: `w` is the record's number and `o` the section's beginning, as it read them
-pub row-at : (b : List ℕ) → Headed b → (r k w : ℕ) → w ≡ r → at b (8 + 4 * w + k) ≡ field b 0 r k
-row-at b h r k w e = let f = h .rowsFrom in let z : 8 + 4 * w + k ≡ begins b 0 + 4 * r + k = omega arith in ap (at b) z
+-- nor does a section begin behind it, where the counts are within their bounds
+pub offset-most : (b : List ℕ) → ((i : ℕ) → i < sections → counted b i ≤ most i) → (i : ℕ) → i ≤ sections → offset b i ≤ longest
+unfolding offset
+offset-most b few zero h = omega arith
+offset-most b few (suc zero) h = let r = few 0 (omega arith) in omega arith
+offset-most b few (suc (suc zero)) h = let r = few 0 (omega arith) in let p = few 1 (omega arith) in omega arith
+offset-most b few (suc (suc (suc zero))) h =
+    let r = few 0 (omega arith) in
+    let p = few 1 (omega arith) in
+    let s = few 2 (omega arith) in
+    omega arith
+offset-most b few (suc (suc (suc (suc zero)))) h =
+    let r = few 0 (omega arith) in
+    let p = few 1 (omega arith) in
+    let s = few 2 (omega arith) in
+    let w = few 3 (omega arith) in
+    omega arith
+offset-most b few (suc (suc (suc (suc (suc i))))) h = absurd (omega arith)
+
+-- ---- where code finds a record's word and a list's: `w` is where the record begins and `o` where the pool does, as it read them
+pub row-at : (b : List ℕ) → Headed b → (r k w : ℕ) → w ≡ header + width 0 * r → at b (w + k) ≡ field b 0 r k
+row-at b h r k w e = let f = h .rowsFrom in let z : w + k ≡ begins b 0 + width 0 * r + k = omega arith in ap (at b) z
 
 module _ (b : List ℕ) where
-  pub party-at : (p k o w : ℕ) → o ≡ begins b 1 → w ≡ p → at b (o + 3 * w + k) ≡ field b 1 p k
-  party-at p k o w d e = rw (d, e)
-
-  pub step-at : (s k o w : ℕ) → o ≡ begins b 2 → w ≡ s → at b (o + 4 * w + k) ≡ field b 2 s k
-  step-at s k o w d e = rw (d, e)
+  pub field-at : (i r k w : ℕ) → w ≡ begins b i + width i * r → at b (w + k) ≡ field b i r k
+  field-at i r k w e = rw e
 
   pub pooled-at : (f j o : ℕ) → o ≡ begins b 3 → at b (o + f + j) ≡ pooled b f j
   pooled-at f j o d = rw d

@@ -15,7 +15,7 @@ use Rattle.terms.specs.Term.{Term, gathered}
 use Rattle.terms.specs.Kind.{Shape}
 use Rattle.terms.specs.Table.{Formed, form, term, terms}
 use Rattle.terms.specs.Table.Laws.{kindOf, term-row, shape-row, kind-row, atom-row, term-injective}
-use Rattle.book.specs.Layout.{header, begins, rows, parties, steps, kind, tag, rowFirst, rowCount, parts, table}
+use Rattle.book.specs.Layout.{header, sections, begins, rows, parties, steps, kind, tag, rowFirst, rowCount, parts, table}
 use Rattle.book.specs.Rules.{CountRule, countBreaks, OffsetRule, offsetBreaks, RowRule, rowBreaks, SizeRule, sizeBreaks, SingleRule, repeats, PartyRule, partyBreaks, StepRule, stepBreaks, TotalRule, totalBreaks}
 use Rattle.book.specs.Rules.Laws.{count-exact, offset-exact, row-exact, size-exact, single-exact, party-exact, step-exact, total-exact}
 use Rattle.book.specs.declared.Reading.{Reading}
@@ -37,10 +37,10 @@ module _ (b : List ℕ) where
   }
 
   abbrev pub count-line : Ruled
-  count-line = record { line = line 2 4 (countBreaks b) (λ i. here (2 * i)); rule = CountRule b; exact = count-exact b }
+  count-line = record { line = line 2 sections (countBreaks b) (λ i. here (2 * i)); rule = CountRule b; exact = count-exact b }
 
   abbrev pub offset-line : Ruled
-  offset-line = record { line = line 3 5 (offsetBreaks b) (λ i. here (min header (2 * i + 1))); rule = OffsetRule b; exact = offset-exact b }
+  offset-line = record { line = line 3 (sections + 1) (offsetBreaks b) (λ i. here (min header (2 * i + 1))); rule = OffsetRule b; exact = offset-exact b }
 
   abbrev pub row-line : Ruled
   row-line = record { line = line 4 (rows b) (rowBreaks b) here; rule = RowRule b; exact = row-exact b }

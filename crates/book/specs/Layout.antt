@@ -29,7 +29,7 @@ least i = getD (1 ∷ 1 ∷ 0 ∷ 0 ∷ []) i 0
 abbrev pub most : ℕ → ℕ
 most i = getD (1024 ∷ 16 ∷ 64 ∷ 8192 ∷ []) i 0
 
--- "so at most 12,600 words": the longest book. "It reads one word more than the longest book .. and no further": the words that are
+-- the longest book, each section at its bound. "It reads one word more than the longest book .. and no further": the words that are
 -- loaded of a book, however long it is, and their bytes
 abbrev pub longest : ℕ
 longest = header + width 0 * most 0 + width 1 * most 1 + width 2 * most 2 + width 3 * most 3

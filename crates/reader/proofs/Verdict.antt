@@ -10,7 +10,7 @@ use native.Mathlib.Omega.{arith}
 use borrow.Author.Tests.{lt-ltb, le-ltb}
 use Rattle.words.specs.First.{first}
 use Rattle.words.specs.First.Laws.{first-le, first-fails, first-at, first-end}
-use Rattle.book.specs.Layout.{header, rows, parties, steps, pool, rowsBefore, partiesBefore, stepsBefore}
+use Rattle.book.specs.Layout.{header, sections, rows, parties, steps, pool, rowsBefore, partiesBefore, stepsBefore}
 use Rattle.book.specs.Rules.{CountRule, countBreaks, offsetBreaks, rowBreaks, sizeBreaks, repeats, partyBreaks, stepBreaks, totalBreaks}
 use Rattle.book.specs.Rules.Laws.{count-exact, offset-exact, differs-same, differs-true, row-exact}
 use Rattle.book.specs.Headed.{Headed}
@@ -35,55 +35,53 @@ counted-all breaks before m p q s dp dq l e =
 
 module _ (b : List ℕ) where
   -- ---- lines 1 to 3: c is the section found with a count that is wrong, o the one that begins at the wrong word
-  pub says-short : length b < 8 → said 1 (0 ∷ []) ≡ verdict b
+  pub says-short : length b < header → said 1 (0 ∷ []) ≡ verdict b
   unfolding verdict readingTable
   says-short l =
       sym (scan-here 1 1 (λ i. ltb (length b) header) zero-place _ accepted 0
-      (first-at _ 1 0 (omega arith) (passed-none _) (lt-ltb (length b) 8 l)) (omega arith))
+      (first-at _ 1 0 (omega arith) (passed-none _) (lt-ltb (length b) header l)) (omega arith))
 
-  module _ (l : 8 ≤ length b) where
+  module _ (l : header ≤ length b) where
     past-length : verdict b ≡ from b 1
     unfolding verdict readingTable
     past-length =
         scan-on 1 1 (λ i. ltb (length b) header) zero-place _ accepted 1
-        (first-end _ 1 1 refl (λ k h. le-ltb (length b) 8 l)) (omega arith)
+        (first-end _ 1 1 refl (λ k h. le-ltb (length b) header l)) (omega arith)
 
-    module _ (c : ℕ) (dc : c ≡ first (countBreaks b) 4) where
-      pub says-count : c < 4 → said 2 (2 * c ∷ []) ≡ verdict b
+    module _ (c : ℕ) (dc : c ≡ first (countBreaks b) sections) where
+      pub says-count : c < sections → said 2 (2 * c ∷ []) ≡ verdict b
       unfolding readingTable
-      says-count m = sym (past-length ∙ scan-here 2 4 (countBreaks b) (λ i. here (2 * i)) _ accepted c dc m)
+      says-count m = sym (past-length ∙ scan-here 2 sections (countBreaks b) (λ i. here (2 * i)) _ accepted c dc m)
 
       -- the counts are within their bounds
-      kept : 4 ≤ c → (i : ℕ) → i < 4 → CountRule b i
-      kept m i h = count-exact b i .0 (first-fails (countBreaks b) 4 i (omega arith))
+      kept : sections ≤ c → (i : ℕ) → i < sections → CountRule b i
+      kept m i h = count-exact b i .0 (first-fails (countBreaks b) sections i (omega arith))
 
-      pub counts-kept : 4 ≤ c → Counted b
-      counts-kept m = record {
-        fewRows = kept m 0 (omega arith) .high;
-        fewParties = kept m 1 (omega arith) .high;
-        fewSteps = kept m 2 (omega arith) .high;
-        smallPool = kept m 3 (omega arith) .high;
-      }
+      pub counts-kept : sections ≤ c → Counted b
+      counts-kept m i h = kept m i h .high
 
-      module _ (m : 4 ≤ c) (o : ℕ) (dof : o ≡ first (offsetBreaks b) 5) where
+      module _ (m : sections ≤ c) (o : ℕ) (dof : o ≡ first (offsetBreaks b) (sections + 1)) where
         past-counts : verdict b ≡ from b 2
         unfolding readingTable
-        past-counts = past-length ∙ scan-on 2 4 (countBreaks b) (λ i. here (2 * i)) _ accepted c dc m
+        past-counts = past-length ∙ scan-on 2 sections (countBreaks b) (λ i. here (2 * i)) _ accepted c dc m
 
-        pub says-offset : o < 5 → (w : ℕ) → w ≡ min 8 (2 * o + 1) → said 3 (w ∷ []) ≡ verdict b
+        pub says-offset : o ≤ sections → (w : ℕ) → w ≡ min header (2 * o + 1) → said 3 (w ∷ []) ≡ verdict b
         unfolding readingTable
         says-offset n w e =
             ap (λ x. said 3 (x ∷ [])) e
-            ∙ sym (past-counts ∙ scan-here 3 5 (offsetBreaks b) (λ i. here (min header (2 * i + 1))) _ accepted o dof n)
+            ∙ sym (past-counts
+            ∙ scan-here 3 (sections + 1) (offsetBreaks b) (λ i. here (min header (2 * i + 1))) _ accepted o dof (omega arith))
 
         -- the header is in order
-        pub header-kept : 5 ≤ o → Headed b
-        header-kept n = rules-headed b (kept m) (λ i h. offset-exact b i .0 (first-fails (offsetBreaks b) 5 i (omega arith)))
+        pub header-kept : sections < o → Headed b
+        header-kept n =
+            rules-headed b (kept m) (λ i h. offset-exact b i .0 (first-fails (offsetBreaks b) (sections + 1) i (omega arith)))
 
-        pub says-body : 5 ≤ o → (v : Said) → v ≡ from b 3 → v ≡ verdict b
+        pub says-body : sections < o → (v : Said) → v ≡ from b 3 → v ≡ verdict b
         unfolding readingTable
         says-body n v e =
-            e ∙ sym (past-counts ∙ scan-on 3 5 (offsetBreaks b) (λ i. here (min header (2 * i + 1))) _ accepted o dof n)
+            e ∙ sym (past-counts
+            ∙ scan-on 3 (sections + 1) (offsetBreaks b) (λ i. here (min header (2 * i + 1))) _ accepted o dof (omega arith))
 
   -- ---- lines 4 to 6: r, z and a are the rows found; t, t' and t'' the number of rows, each time it was asked
   module _ (r t : ℕ) (dr : r ≡ first (rowBreaks b) (rows b)) (dt : t ≡ rows b) where

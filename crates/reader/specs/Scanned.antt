@@ -5,15 +5,12 @@ use mathlib.Core.Bool.{Bool}
 use mathlib.Core.List.{List}
 use mathlib.Core.Path.{_≡_}
 use Rattle.words.specs.First.{first}
-use Rattle.book.specs.Layout.{rows, parties, steps, pool}
+use Rattle.book.specs.Layout.{sections, most, counted, rows, pool}
 use Rattle.book.specs.Rules.{RowRule}
 
--- the counts are within their bounds
-pub record Counted (b : List ℕ) : Type 0 where
-  pub fewRows : rows b ≤ 1024
-  pub fewParties : parties b ≤ 16
-  pub fewSteps : steps b ≤ 64
-  pub smallPool : pool b ≤ 8192
+-- no section has more records than it may
+abbrev pub Counted : List ℕ → Type 0
+Counted b = (i : ℕ) → i < sections → counted b i ≤ most i
 
 -- it stopped at the smallest of n places that breaks the rule, or at n, and the counts before that place are `sum`
 pub record Scanned (b : List ℕ) (breaks : ℕ → Bool) (before : ℕ → ℕ) (n : ℕ) (place sum : ℕ) : Type 0 where

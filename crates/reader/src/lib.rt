@@ -6,6 +6,7 @@ use book::Layout;
 use book::Limit;
 use book::Reading;
 use book::Refusal;
+use book::Section;
 use book::parties;
 use book::party_count;
 use book::party_first;
@@ -33,7 +34,7 @@ ghost use Rattle.words.specs.First.{first, any};
 ghost use Rattle.terms.specs.Table.{rowSize};
 ghost use Rattle.book.specs.Headed.{Headed};
 ghost use Rattle.book.specs.Layout.{rows as rowsOf, parties as partiesOf, steps as stepsOf, pool as poolOf, pooled as pooledAt};
-ghost use Rattle.book.specs.Layout.{name, rowsBefore, partiesBefore, stepsBefore, table};
+ghost use Rattle.book.specs.Layout.{header, sections, name, rowsBefore, partiesBefore, stepsBefore, table};
 ghost use Rattle.book.specs.Rules.{outside as outsideOf, countBreaks, offsetBreaks, listBreaks};
 ghost use Rattle.book.specs.Rules.{rowBreaks, sizeBreaks, alike, repeats, partyBreaks, stepBreaks};
 ghost use Rattle.book.specs.Said.{readingSays, accepted};
@@ -51,50 +52,42 @@ fn outside(lo: u32, hi: u32, x: u32) -> bool
     hi < x
 }
 
-// Refusal 2: the first section whose count is outside its bounds, or 4.
+// Refusal 2: the first section whose count is outside its bounds, or their number.
 fn counts(book: &[u32]) -> u32
-    requires { ⌜ 8 ≤ length (now book) ⌝ }
-    ensures { λ r. ⌜ r ≡ first (countBreaks (now (book .entry))) 4 ⌝ }
+    requires { ⌜ header ≤ length (now book) ⌝ }
+    ensures { λ r. ⌜ r ≡ first (countBreaks (now (book .entry))) sections ⌝ }
 {
-    if outside(1, Limit::ROWS, book[0]) {
-        return 0;
+    let mut i = 0;
+    while i < Layout::SECTIONS {
+        let section = Section::of(i);
+        if outside(section.least, section.most, book[wide(2 * i)]) {
+            return i;
+        }
+        i += 1;
     }
-    if outside(1, Limit::PARTIES, book[2]) {
-        return 1;
-    }
-    if outside(0, Limit::STEPS, book[4]) {
-        return 2;
-    }
-    if outside(0, Limit::POOL, book[6]) {
-        return 3;
-    }
-    4
+    i
 }
 
-// Refusal 3: the first section that does not begin where it has to, 4 if only the length is wrong, or 5.
+// Refusal 3: the first section that does not begin where it has to, their number if only the length is wrong, or one more. `next` is
+// where section i has to begin.
 fn offsets(book: &[u32]) -> u32
-    requires { ⌜ (8 ≤ length (now book)) × Counted (now book) ⌝ }
-    ensures { λ r. ⌜ r ≡ first (offsetBreaks (now (book .entry))) 5 ⌝ }
+    requires { ⌜ (header ≤ length (now book)) × Counted (now book) ⌝ }
+    ensures { λ r. ⌜ r ≡ first (offsetBreaks (now (book .entry))) (sections + 1) ⌝ }
 {
-    if book[1] != 8 {
-        return 0;
+    let mut next = Layout::HEADER;
+    let mut i = 0;
+    while i < Layout::SECTIONS {
+        if book[wide(2 * i + 1)] != next {
+            return i;
+        }
+        let section = Section::of(i);
+        next += section.width * book[wide(2 * i)];
+        i += 1;
     }
-    let second = 8 + 4 * book[0];
-    if book[3] != second {
-        return 1;
+    if book.len() != wide(next) {
+        return i;
     }
-    let third = second + 3 * book[2];
-    if book[5] != third {
-        return 2;
-    }
-    let fourth = third + 4 * book[4];
-    if book[7] != fourth {
-        return 3;
-    }
-    if book.len() != wide(fourth + book[6]) {
-        return 4;
-    }
-    5
+    i + 1
 }
 
 // Some entry of the list is no row below the bound.
@@ -516,30 +509,30 @@ fn read_rows(book: &[u32]) -> Reading
     read_parties(book, row.sum)
 }
 
-// The place of refusal 3: a header word, or 8 for the length.
+// The place of refusal 3: a header word, or behind the header for the length.
 fn offset_place(section: u32) -> u32
-    requires { ⌜ section < 5 ⌝ }
-    ensures { λ r. ⌜ r ≡ min 8 (2 * section + 1) ⌝ }
+    requires { ⌜ section ≤ sections ⌝ }
+    ensures { λ r. ⌜ r ≡ min header (2 * section + 1) ⌝ }
 {
-    if section < 4 {
+    if section < Layout::SECTIONS {
         return 2 * section + 1;
     }
-    8
+    Layout::HEADER
 }
 
 // The first of refusals 1 to 9 that applies to any words, or acceptance.
 pub fn read(book: &[u32]) -> Reading
     ensures { λ r. ⌜ readingSays r ≡ verdict (now (book .entry)) ⌝ }
 {
-    if book.len() < Layout::HEADER {
+    if book.len() < Layout::HEADER as usize {
         return Reading::Refused(Refusal::Short);
     }
     let count = counts(book);
-    if count < 4 {
+    if count < Layout::SECTIONS {
         return Reading::Refused(Refusal::Count(2 * count));
     }
     let offset = offsets(book);
-    if offset < 5 {
+    if offset <= Layout::SECTIONS {
         return Reading::Refused(Refusal::Offset(offset_place(offset)));
     }
     read_rows(book)

@@ -1,6 +1,7 @@
 -- Laws of the header. Assumes nothing.
 use Prim.Native.Nat.{ℕ, zero, suc, _+_, _*_, _≤_, _<_}
 use mathlib.Core.List.{List}
+use native.Mathlib.Numerals.{add-one}
 use native.Mathlib.Omega.{arith}
 use lib.ListN.{length}
 use Rattle.words.specs.Choice.{pick}
@@ -47,11 +48,16 @@ few-steps b v = valid-headed b v .fewSteps
 pub small-pool : (b : List ℕ) → Valid b → pool b ≤ most 3
 small-pool b v = valid-headed b v .smallPool
 
--- ---- the longest book: no headed book is longer
+-- no headed book is longer than the longest
 pub long-most : (b : List ℕ) → Headed b → length b ≤ longest
 long-most b h = omega arith
 
--- nor does a section begin behind it, where the counts are within their bounds
+-- ---- offset
+pub offset-more : (b : List ℕ) (i : ℕ) → offset b (i + 1) ≡ offset b i + width i * counted b i
+unfolding offset
+offset-more b i = rw add-one
+
+-- no section begins behind the longest book's end, where the counts are within their bounds
 pub offset-most : (b : List ℕ) → ((i : ℕ) → i < sections → counted b i ≤ most i) → (i : ℕ) → i ≤ sections → offset b i ≤ longest
 unfolding offset
 offset-most b few zero h = omega arith

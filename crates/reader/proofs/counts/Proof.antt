@@ -1,80 +1,68 @@
--- `reader::counts` meets its contract: the sections are tested one after the other. Assumes nothing.
-use Prim.Native.Nat.{ℕ}
-use mathlib.Core.List.{List}
-use mathlib.Core.Path.{refl}
+-- `reader::counts` meets its contract: no section that the loop has passed has a count outside its bounds.
+-- Assumes nothing.
+use Prim.Native.Nat.{_-_}
+use mathlib.Core.Path.{_≡_, refl}
 use native.Mathlib.Omega.{arith}
 use borrow.Author.Needs.{needs}
-use Rattle.words.specs.First.Laws.{first-at, first-end}
+use Rattle.book.specs.Layout.{sections}
 use Rattle.book.specs.Rules.{countBreaks}
 use Rattle.reader.proofs.Header.{count-at}
-use Rattle.reader.proofs.Scans.{Passed, passed-none, passed-more}
+use Rattle.reader.proofs.Scans.{Scanning, scan-begins, scan-goes, stops-at, ends-at}
 use Rattle.reader.proofs.counts.Statement.{statement}
 use Rattle.reader.proofs.counts.Tie as tie
 
--- the words that are read
-abbrev book : tie.Start → List ℕ
-book start = start .args .book .now
+abbrev Inv-loop : tie.InvT-loop
+Inv-loop book i₀ i = Scanning (countBreaks book) sections i
 
--- a section breaks its rule where `outside` says so of its count; behind its test the sections up to it have passed
-returns : tie.Need-returns
+abbrev μ-loop : tie.MeasureT-loop
+μ-loop book i₀ i = sections - i
+
+-- what `outside` says of the section's count is whether the section breaks its rule
+module _ (c : tie.After-outside Inv-loop μ-loop) where
+  abbrev start : tie.Start Inv-loop μ-loop
+  start = search
+
+  abbrev section : tie.After-of Inv-loop μ-loop
+  section = search
+
+  abbrev place : tie.After-wide Inv-loop μ-loop
+  place = search
+
+  abbrev at-loop : tie.At-loop Inv-loop μ-loop
+  at-loop = search
+
+  breaks : c .outside .result ≡ countBreaks (start .args .book .now) (at-loop .loop .i)
+  breaks =
+      count-at (start .args .book .now) _ _ _ _ (section .of .ensures) (place .wide .ensures .0) (c .outside .ensures)
+
+returns : tie.Need-returns Inv-loop μ-loop
 returns c =
-    let test : tie.After-outside = search in
-    first-at _ _ 0 (omega arith) (passed-none _)
-    (count-at (book (search)) 0 _ _ (test .outside .ensures) (c .if1 .taken))
+    let in-loop : tie.In-loop Inv-loop μ-loop = search in
+    let at-loop : tie.At-loop Inv-loop μ-loop = search in
+    stops-at _ _ _ _ refl (in-loop .loop-test .taken) (at-loop .loop .inv) _ (breaks (search)) (c .if1 .taken)
 
-passed-1 : (c : tie.Else1) → Passed (countBreaks (book (search))) 1
-passed-1 c =
-    let test : tie.After-outside = search in
-    passed-more _ 0 (passed-none _) (count-at (book (search)) 0 _ _ (test .outside .ensures) (c .if1 .left))
-
-returns-2 : tie.Need-returns-2
-returns-2 c =
-    let test : tie.After-outside2 = search in
-    first-at _ _ 1 (omega arith) (passed-1 (search))
-    (count-at (book (search)) 1 _ _ (test .outside2 .ensures) (c .if2 .taken))
-
-passed-2 : (c : tie.Else2) → Passed (countBreaks (book (search))) 2
-passed-2 c =
-    let test : tie.After-outside2 = search in
-    passed-more _ 1 (passed-1 (search)) (count-at (book (search)) 1 _ _ (test .outside2 .ensures) (c .if2 .left))
-
-returns-3 : tie.Need-returns-3
-returns-3 c =
-    let test : tie.After-outside3 = search in
-    first-at _ _ 2 (omega arith) (passed-2 (search))
-    (count-at (book (search)) 2 _ _ (test .outside3 .ensures) (c .if3 .taken))
-
-passed-3 : (c : tie.Else3) → Passed (countBreaks (book (search))) 3
-passed-3 c =
-    let test : tie.After-outside3 = search in
-    passed-more _ 2 (passed-2 (search)) (count-at (book (search)) 2 _ _ (test .outside3 .ensures) (c .if3 .left))
-
-returns-4 : tie.Need-returns-4
-returns-4 c =
-    let test : tie.After-outside4 = search in
-    first-at _ _ 3 (omega arith) (passed-3 (search))
-    (count-at (book (search)) 3 _ _ (test .outside4 .ensures) (c .if4 .taken))
-
-returns-5 : tie.Need-returns-5
-returns-5 c =
-    let test : tie.After-outside4 = search in
-    first-end _ _ 4 refl
-    (passed-more _ 3 (passed-3 (search)) (count-at (book (search)) 3 _ _ (test .outside4 .ensures) (c .if4 .left)))
+loop-again : tie.Need-loop-again Inv-loop μ-loop
+loop-again c =
+    let else1 : tie.Else1 Inv-loop μ-loop = search in
+    let in-loop : tie.In-loop Inv-loop μ-loop = search in
+    let at-loop : tie.At-loop Inv-loop μ-loop = search in
+    scan-goes _ _ _ (at-loop .loop .inv) (in-loop .loop-test .taken) _ (breaks (search)) (else1 .if1 .left)
 
 pub counts-spec : {M : Type 1} → statement M
 counts-spec =
     tie.close
     (tie.spec
-    (λ c. search needs)  -- shared-slice-read-outside
+    Inv-loop
+    μ-loop
+    (λ c. scan-begins _ _)  -- loop-holds
+    (λ c κs. search needs)  -- of-requires
+    (λ c. search needs)  -- mul-wide
+    (λ c κs. search needs)  -- wide-requires
+    (λ c. search needs)  -- mul-outside
+    (λ c. omega arith)  -- shared-slice-read-outside
     (λ c κs. search needs)  -- outside-requires
     returns
-    (λ c. search needs)  -- shared-slice-read-outside-2
-    (λ c κs. search needs)  -- outside-requires-2
-    returns-2
-    (λ c. search needs)  -- shared-slice-read-outside-3
-    (λ c κs. search needs)  -- outside-requires-3
-    returns-3
-    (λ c. search needs)  -- shared-slice-read-outside-4
-    (λ c κs. search needs)  -- outside-requires-4
-    returns-4
-    returns-5)
+    (λ c. search needs)  -- add-i
+    (λ c. search needs)  -- loop-less
+    loop-again
+    (λ c. search (ends-at, refl)))  -- returns-2

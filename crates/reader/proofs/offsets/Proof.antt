@@ -1,97 +1,83 @@
--- `reader::offsets` meets its contract: the four offsets and the length are tested one after the other; no sum wraps,
--- as the counts are bounded. Assumes nothing.
-use Prim.Native.Nat.{ℕ}
-use mathlib.Core.List.{List}
-use mathlib.Core.Path.{refl}
+-- `reader::offsets` meets its contract: the sections that the loop has passed begin where they have to, and the next has
+-- to begin at `next`; no sum wraps, as no book with such counts is longer than the longest. Assumes nothing.
+use Prim.Native.Nat.{_+_, _-_, _*_, _≤_}
 use native.Mathlib.Omega.{arith}
 use borrow.Author.Needs.{needs}
-use Rattle.words.specs.First.Laws.{first-at, first-end}
-use Rattle.book.specs.Layout.{offset}
-use Rattle.book.specs.Rules.{offsetBreaks}
-use Rattle.reader.proofs.Header.{begins-right, begins-wrong, length-right, length-wrong, offset-last}
-use Rattle.reader.proofs.Scans.{Passed, passed-none, passed-more}
+use Rattle.book.specs.Layout.{sections, longest, at}
+use Rattle.reader.proofs.Header.{Placed, placed-none, begins-wrong, begins-right, next-most, length-wrong, length-right}
 use Rattle.reader.proofs.offsets.Statement.{statement}
 use Rattle.reader.proofs.offsets.Tie as tie
 
--- the words that are read
-abbrev book : tie.Start → List ℕ
-book start = start .args .book .now
+abbrev Inv-loop : tie.InvT-loop
+Inv-loop book next₀ i₀ next i = Placed book i next
 
--- a section's word is compared with the section's `offset`, which computes; behind its test the sections up to it have
--- passed
-returns : tie.Need-returns
-unfolding offset
+abbrev μ-loop : tie.MeasureT-loop
+μ-loop book next₀ i₀ next i = sections - i
+
+returns : tie.Need-returns Inv-loop μ-loop
 returns c =
-    first-at _ _ 0 (omega arith) (passed-none _) (begins-wrong (book (search)) 0 (omega arith) (c .if1 .taken))
+    let place : tie.After-wide Inv-loop μ-loop = search in
+    let in-loop : tie.In-loop Inv-loop μ-loop = search in
+    let at-loop : tie.At-loop Inv-loop μ-loop = search in
+    begins-wrong (at-loop .loop .inv) (in-loop .loop-test .taken) _ (place .wide .ensures .0) (c .if1 .taken)
 
-passed-1 : (c : tie.Else1) → Passed (offsetBreaks (book (search))) 1
-unfolding offset
-passed-1 c = passed-more _ 0 (passed-none _) (begins-right (book (search)) 0 (omega arith) (c .if1 .left))
+-- where the section ends, as its line and its count say it
+module _ (c : tie.After-wide2 Inv-loop μ-loop) where
+  abbrev section : tie.After-of Inv-loop μ-loop
+  section = search
 
-returns-2 : tie.Need-returns-2
-unfolding offset
-returns-2 c =
-    first-at _ _ 1 (omega arith) (passed-1 (search)) (begins-wrong (book (search)) 1 (omega arith) (c .if2 .taken))
+  abbrev place : tie.After-wide Inv-loop μ-loop
+  place = search
 
-passed-2 : (c : tie.Else2) → Passed (offsetBreaks (book (search))) 2
-unfolding offset
-passed-2 c = passed-more _ 1 (passed-1 (search)) (begins-right (book (search)) 1 (omega arith) (c .if2 .left))
+  abbrev in-loop : tie.In-loop Inv-loop μ-loop
+  in-loop = search
 
-returns-3 : tie.Need-returns-3
-unfolding offset
-returns-3 c =
-    first-at _ _ 2 (omega arith) (passed-2 (search)) (begins-wrong (book (search)) 2 (omega arith) (c .if3 .taken))
+  abbrev at-loop : tie.At-loop Inv-loop μ-loop
+  at-loop = search
 
-passed-3 : (c : tie.Else3) → Passed (offsetBreaks (book (search))) 3
-unfolding offset
-passed-3 c = passed-more _ 2 (passed-2 (search)) (begins-right (book (search)) 2 (omega arith) (c .if3 .left))
+  abbrev start : tie.Start Inv-loop μ-loop
+  start = search
 
-returns-4 : tie.Need-returns-4
-unfolding offset
-returns-4 c =
-    first-at _ _ 3 (omega arith) (passed-3 (search)) (begins-wrong (book (search)) 3 (omega arith) (c .if4 .taken))
+  fits : at-loop .loop .next + section .of .result .width * at (start .args .book .now) (c .wide2 .result) ≤ longest
+  fits =
+      next-most (at-loop .loop .inv) (in-loop .loop-test .taken) _ (place .wide .ensures .0) _ (section .of .ensures)
+      _ (c .wide2 .ensures .0) (start .pre .1)
 
-passed-4 : (c : tie.Else4) → Passed (offsetBreaks (book (search))) 4
-unfolding offset
-passed-4 c = passed-more _ 3 (passed-3 (search)) (begins-right (book (search)) 3 (omega arith) (c .if4 .left))
-
--- the book's length is compared with what `wide` gave
-returns-5 : tie.Need-returns-5
-returns-5 c =
-    let after-wide : tie.After-wide = search in
-    first-at _ _ 4 (omega arith) (passed-4 (search))
-    (length-wrong _ _ (offset-last _ _ (after-wide .wide .ensures .0)) (c .if5 .taken))
-
-returns-6 : tie.Need-returns-6
-returns-6 c =
-    let after-wide : tie.After-wide = search in
-    first-end _ _ 5 refl
-    (passed-more _ 4 (passed-4 (search))
-    (length-right _ _ (offset-last _ _ (after-wide .wide .ensures .0)) (c .if5 .left)))
+loop-again : tie.Need-loop-again Inv-loop μ-loop
+loop-again c =
+    let count : tie.After-wide2 Inv-loop μ-loop = search in
+    let section : tie.After-of Inv-loop μ-loop = search in
+    let else1 : tie.Else1 Inv-loop μ-loop = search in
+    let place : tie.After-wide Inv-loop μ-loop = search in
+    let in-loop : tie.In-loop Inv-loop μ-loop = search in
+    let at-loop : tie.At-loop Inv-loop μ-loop = search in
+    begins-right (at-loop .loop .inv) (in-loop .loop-test .taken) _ (place .wide .ensures .0)
+    _ (section .of .ensures) _ (count .wide2 .ensures .0) (else1 .if1 .left)
 
 pub offsets-spec : {M : Type 1} → statement M
 offsets-spec =
     tie.close
     (tie.spec
-    (λ c. search needs)  -- shared-slice-read-if1
-    returns
-    (λ c. search needs)  -- shared-slice-read-second
-    (λ c. search needs)  -- mul-second
-    (λ c. search needs)  -- add-second
-    (λ c. search needs)  -- shared-slice-read-if2
-    returns-2
-    (λ c. search needs)  -- shared-slice-read-third
-    (λ c. search needs)  -- mul-third
-    (λ c. search needs)  -- add-third
-    (λ c. search needs)  -- shared-slice-read-if3
-    returns-3
-    (λ c. search needs)  -- shared-slice-read-fourth
-    (λ c. search needs)  -- mul-fourth
-    (λ c. search needs)  -- add-fourth
-    (λ c. search needs)  -- shared-slice-read-if4
-    returns-4
-    (λ c. search needs)  -- shared-slice-read-wide
+    Inv-loop
+    μ-loop
+    (λ c. placed-none)  -- loop-holds
+    (λ c. search needs)  -- mul-wide
     (λ c. search needs)  -- add-wide
     (λ c κs. search needs)  -- wide-requires
-    returns-5
-    returns-6)
+    (λ c. search needs)  -- mul-if1
+    (λ c. omega arith)  -- shared-slice-read-if1
+    returns
+    (λ c κs. search needs)  -- of-requires
+    (λ c. search needs)  -- mul-wide-2
+    (λ c κs. search needs)  -- wide-requires-2
+    (λ c. search needs)  -- mul-next
+    (λ c. omega arith)  -- shared-slice-read-next
+    (λ c. omega (arith, fits (search)))  -- mul-next-2
+    (λ c. omega (arith, fits (search)))  -- add-next
+    (λ c. search needs)  -- add-i
+    (λ c. search needs)  -- loop-less
+    loop-again
+    (λ c κs. search needs)  -- wide-requires-3
+    (λ c. search length-wrong)  -- returns-2
+    (λ c. search needs)  -- add-result
+    (λ c. search length-right))  -- returns-3

@@ -8,9 +8,10 @@ pub read-spec : {M : Type 1} → statement M
 read-spec =
     tie.close
     (tie.spec
+    (λ c. search needs)  -- cast-if1
     (λ c. search says-short)  -- returns
     (λ c κs. search needs)  -- counts-requires
-    (λ c. search needs)  -- mul-t7
+    (λ c. search needs)  -- mul-t8
     (λ c. search says-count)  -- returns-2
     (λ c κs. search (counts-kept, needs))  -- offsets-requires
     (λ c κs. search needs)  -- offset-place-requires

@@ -7,7 +7,7 @@ use native.Mathlib.Omega.{arith}
 use native.Mathlib.Decide.{ℕ-discrete, decLt}
 use lib.ListN.{length, getD, set, replicate, length-set, length-replicate, getD-replicate}
 use lib.Seq.{getD-set-same, getD-set-other}
-use Rattle.book.specs.Layout.{rows, kind, tag, rowFirst, rowCount, parts, pooled, listAt}
+use Rattle.book.specs.Layout.{most, rows, kind, tag, rowFirst, rowCount, parts, pooled, listAt}
 use Rattle.book.specs.Rules.{Alike, alike}
 use Rattle.book.specs.Rules.Laws.{not-alike}
 use Rattle.book.specs.Span.Laws.{list-none, list-more}
@@ -79,7 +79,7 @@ chained-start {b} {n} d =
       next = λ r u w. absurd (omega arith);
     }
 
-module _ {b keys heads nexts : List ℕ} {i : ℕ} (few : rows b ≤ 1024) (h : 0 < i) (g : ChainedFrom b i keys heads nexts) where
+module _ {b keys heads nexts : List ℕ} {i : ℕ} (few : rows b ≤ most 0) (h : 0 < i) (g : ChainedFrom b i keys heads nexts) where
   -- row i - 1, with its key y, comes in front of its chain c
   pub chained-on : {y c w w′ w″ : ℕ} → y ≡ keyOf b (i - 1) → c ≡ y % chains → w ≡ i - 1 → w′ ≡ c → w″ ≡ i - 1
       → ChainedFrom b (i - 1) (set keys w y) (set heads w′ (i - 1)) (set nexts w″ (getD heads c 0))

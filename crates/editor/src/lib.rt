@@ -3,6 +3,7 @@
 // as bytes; a book, a schedule or a summary that makes no whole words is refused before all else.
 use book::ByRow;
 use book::Code;
+use book::Layout;
 use book::Refusal;
 use book::Told;
 use book::parties;
@@ -47,7 +48,7 @@ struct Most {}
 
 impl Most {
     // One word more than the longest book has, and one move more than a schedule may have: what is longer is refused all the same.
-    const WORDS: usize = 12601;
+    const WORDS: usize = Layout::LOADED;
 
     const MOVES: usize = 4097;
 

@@ -8,13 +8,14 @@ use lib.ListN.{length-take}
 use borrow.Author.Needs.{needs}
 use Rattle.octets.specs.Octets.{wordsIn}
 use Rattle.octets.specs.Octets.Laws.{loaded-many, loaded-front}
+use Rattle.book.specs.Layout.{loaded}
 use Rattle.editor.specs.Bytes.{rehearsed}
 use Rattle.editor.specs.Bytes.Laws.{of-wholes, of-odd-book, of-odd-schedule, long-played-book, long-schedule}
 use Rattle.editor.proofs.rehearse.Statement.{statement}
 use Rattle.editor.proofs.rehearse.Tie as tie
 
 -- what was loaded has room
-few : (c : tie.After-load) → c .load .result ≤ 12601
+few : (c : tie.After-load) → c .load .result ≤ loaded
 few c = let start : tie.Start = search in loaded-many (start .args .book .now) refl (c .load .ensures)
 
 few-moves : (c : tie.After-load2) → c .load2 .result ≤ 4097

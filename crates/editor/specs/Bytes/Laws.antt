@@ -19,14 +19,14 @@ use Rattle.words.specs.First.{first}
 use Rattle.words.specs.First.Laws.{first-same, first-le, first-at, first-end, first-holds, first-fails}
 use Rattle.octets.specs.Octets.{wordsIn, spare, bytesOfAll}
 use Rattle.octets.specs.Octets.Laws.{words-length, words-bytes, bytes-length, words-laid, spare-laid}
-use Rattle.book.specs.Layout.{header, offset, parties}
+use Rattle.book.specs.Layout.{header, sections, longest, loaded, offset, parties}
 use Rattle.book.specs.Rules.{countBreaks, OffsetRule, stated, offsetBreaks}
 use Rattle.book.specs.Rules.Laws.{count-exact, offset-exact}
 use Rattle.book.specs.Said.{Said, said, accepted}
 use Rattle.book.specs.Refusals.{readingTable, verdict}
 use Rattle.book.specs.Refusals.Laws.{scan-here, scan-on}
 use Rattle.translation.specs.Listing.{listing}
-use Rattle.book.specs.Headed.Laws.{rules-headed, valid-headed}
+use Rattle.book.specs.Headed.Laws.{rules-headed, valid-headed, long-most}
 use Rattle.translation.specs.Low.Laws.{listing-low}
 use Rattle.translation.specs.Outcome.{Outcome, roomLine, acceptance, translationSays, laid, outcome}
 use Rattle.translation.specs.Outcome.Laws.{laid-keeps, laid-lays, exactly-reading, exactly-written, book-first}
@@ -41,84 +41,79 @@ use Rattle.editor.specs.Packed.{pack, unpack, capped, packed, Small}
 use Rattle.editor.specs.Packed.Laws.{unpack-pack, plays-from, translation-small, rehearsal-small, summary-small, capped-back, asked-small, asked-whole, asked-never-1}
 
 -- ---- a book that is longer than a book can be
--- of the first 12,601 words of more words
-module _ (b : List ℕ) (long : 12601 < length b) where
+-- of as many words as are loaded, the first of more
+module _ (b : List ℕ) (long : loaded < length b) where
   abbrev front : List ℕ
-  front = take 12601 b
+  front = take loaded b
 
-  front-length : length front ≡ 12601
-  front-length = length-take-le 12601 b (omega arith)
+  front-length : length front ≡ loaded
+  front-length = length-take-le loaded b (omega arith)
 
-  same-at : (k : ℕ) → k < 12601 → getD front k 0 ≡ getD b k 0
-  same-at k h = getD-take 12601 b k 0 h
+  same-at : (k : ℕ) → k < loaded → getD front k 0 ≡ getD b k 0
+  same-at k h = getD-take loaded b k 0 h
 
-  same-count : (i : ℕ) → i < 4 → countBreaks front i ≡ countBreaks b i
+  same-count : (i : ℕ) → i < sections → countBreaks front i ≡ countBreaks b i
   unfolding countBreaks
   same-count i h = rw (same-at (2 * i) (omega arith))
 
-  same-offset : (i : ℕ) → i ≤ 4 → offset front i ≡ offset b i
+  same-offset : (i : ℕ) → i ≤ sections → offset front i ≡ offset b i
   unfolding offset
   same-offset zero h = refl
   same-offset (suc i) h = rw (same-offset i (omega arith), same-at (2 * i) (omega arith))
 
-  same-breaks : (i : ℕ) → i < 4 → offsetBreaks front i ≡ offsetBreaks b i
+  same-breaks : (i : ℕ) → i < sections → offsetBreaks front i ≡ offsetBreaks b i
   unfolding offsetBreaks stated pick
-  same-breaks i h = rw (lt-ltb i 4 h, same-at (2 * i + 1) (omega arith), same-offset i (omega arith))
+  same-breaks i h = rw (lt-ltb i sections h, same-at (2 * i + 1) (omega arith), same-offset i (omega arith))
 
 -- where counts and offsets are what they have to be, the length breaks the rule
-length-breaks : (b : List ℕ) → 12600 < length b → ((i : ℕ) → i < 4 → countBreaks b i ≡ false)
-    → ((i : ℕ) → i < 4 → offsetBreaks b i ≡ false) → offsetBreaks b 4 ≡ true
-length-breaks b h counts offsets = go (offsetBreaks b 4) refl
+length-breaks : (b : List ℕ) → longest < length b → ((i : ℕ) → i < sections → countBreaks b i ≡ false)
+    → ((i : ℕ) → i < sections → offsetBreaks b i ≡ false) → offsetBreaks b sections ≡ true
+length-breaks b h counts offsets = go (offsetBreaks b sections) refl
   where
-    go : (v : Bool) → offsetBreaks b 4 ≡ v → offsetBreaks b 4 ≡ true
+    go : (v : Bool) → offsetBreaks b sections ≡ v → offsetBreaks b sections ≡ true
     go true e = e
     go false e =
-        let each : (i : ℕ) → i < 5 → OffsetRule b i =
-        below-more (λ i. OffsetRule b i) 4 (λ i l. offset-exact b i .0 (offsets i l)) (offset-exact b 4 .0 e) in
-        let headed = rules-headed b (λ i l. count-exact b i .0 (counts i l)) each in
-        let long = headed .long in
-        let r = headed .fewRows in
-        let p = headed .fewParties in
-        let s = headed .fewSteps in
-        let w = headed .smallPool in
+        let each : (i : ℕ) → i < sections + 1 → OffsetRule b i =
+        below-more (λ i. OffsetRule b i) sections (λ i l. offset-exact b i .0 (offsets i l)) (offset-exact b sections .0 e) in
+        let most = long-most b (rules-headed b (λ i l. count-exact b i .0 (counts i l)) each) in
         absurd (omega arith)
 
--- the place of refusal 3 among the first four offsets, or 4
-place-at : (b : List ℕ) (r : ℕ) → r ≤ 4 → ((k : ℕ) → k < r → offsetBreaks b k ≡ false) → offsetBreaks b r ≡ true
-    → r ≡ first (offsetBreaks b) 5
-place-at b r h below holds = first-at (offsetBreaks b) 5 r (omega arith) below holds
+-- the place of refusal 3: the first section whose offset is wrong, or behind them all
+place-at : (b : List ℕ) (r : ℕ) → r ≤ sections → ((k : ℕ) → k < r → offsetBreaks b k ≡ false) → offsetBreaks b r ≡ true
+    → r ≡ first (offsetBreaks b) (sections + 1)
+place-at b r h below holds = first-at (offsetBreaks b) (sections + 1) r (omega arith) below holds
 
 -- the place that both name
 record Third (b c : List ℕ) : Type 0 where
   place : ℕ
-  within : place < 5
-  one : place ≡ first (offsetBreaks b) 5
-  other : place ≡ first (offsetBreaks c) 5
+  within : place < sections + 1
+  one : place ≡ first (offsetBreaks b) (sections + 1)
+  other : place ≡ first (offsetBreaks c) (sections + 1)
 
-third : (b : List ℕ) → 12601 < length b → ((i : ℕ) → i < 4 → countBreaks b i ≡ false) → Third (take 12601 b) b
+third : (b : List ℕ) → loaded < length b → ((i : ℕ) → i < sections → countBreaks b i ≡ false) → Third (take loaded b) b
 third b long counts =
     let same = same-breaks b long in
-    elim (decLt (first (offsetBreaks b) 4) 4) [
+    elim (decLt (first (offsetBreaks b) sections) sections) [
       | yes h ↦
-          let r = first (offsetBreaks b) 4 in
-          let holds = first-holds (offsetBreaks b) 4 h in
-          let below : (k : ℕ) → k < r → offsetBreaks b k ≡ false = first-fails (offsetBreaks b) 4 in
+          let r = first (offsetBreaks b) sections in
+          let holds = first-holds (offsetBreaks b) sections h in
+          let below : (k : ℕ) → k < r → offsetBreaks b k ≡ false = first-fails (offsetBreaks b) sections in
           record {
             place = r;
             within = omega arith;
-            one = place-at (take 12601 b) r (omega arith) (λ k l. same k (omega arith) ∙ below k l) (same r h ∙ holds);
+            one = place-at (take loaded b) r (omega arith) (λ k l. same k (omega arith) ∙ below k l) (same r h ∙ holds);
             other = place-at b r (omega arith) below holds;
           }
       | no h ↦
           let n = front-length b long in
-          let below : (k : ℕ) → k < 4 → offsetBreaks b k ≡ false = λ k l. first-fails (offsetBreaks b) 4 k (omega arith) in
-          let below-front : (k : ℕ) → k < 4 → offsetBreaks (take 12601 b) k ≡ false = λ k l. same k l ∙ below k l in
-          let counts-front : (k : ℕ) → k < 4 → countBreaks (take 12601 b) k ≡ false = λ k l. same-count b long k l ∙ counts k l in
+          let below : (k : ℕ) → k < sections → offsetBreaks b k ≡ false = λ k l. first-fails (offsetBreaks b) sections k (omega arith) in
+          let below-front : (k : ℕ) → k < sections → offsetBreaks (take loaded b) k ≡ false = λ k l. same k l ∙ below k l in
+          let counts-front : (k : ℕ) → k < sections → countBreaks (take loaded b) k ≡ false = λ k l. same-count b long k l ∙ counts k l in
           record {
-            place = 4;
+            place = sections;
             within = omega arith;
-            one = place-at (take 12601 b) 4 (omega arith) below-front (length-breaks (take 12601 b) (omega arith) counts-front below-front);
-            other = place-at b 4 (omega arith) below (length-breaks b (omega arith) counts below);
+            one = place-at (take loaded b) sections (omega arith) below-front (length-breaks (take loaded b) (omega arith) counts-front below-front);
+            other = place-at b sections (omega arith) below (length-breaks b (omega arith) counts below);
           }
     ]
 
@@ -131,42 +126,42 @@ pub record Misfit (b c : List ℕ) : Type 0 where
   pub one : verdict b ≡ said number values
   pub other : verdict c ≡ said number values
 
-module _ (b : List ℕ) (long : 12601 < length b) where
+module _ (b : List ℕ) (long : loaded < length b) where
   -- the first line is passed
-  not-short : (c : List ℕ) → 8 ≤ length c → 1 ≡ first (λ i. ltb (length c) header) 1
-  not-short c h = first-end (λ i. ltb (length c) header) 1 1 refl (λ k l. le-ltb (length c) 8 h)
+  not-short : (c : List ℕ) → header ≤ length c → 1 ≡ first (λ i. ltb (length c) header) 1
+  not-short c h = first-end (λ i. ltb (length c) header) 1 1 refl (λ k l. le-ltb (length c) header h)
 
-  pub misfit : Misfit (take 12601 b) b
+  pub misfit : Misfit (take loaded b) b
   unfolding verdict readingTable
   misfit =
       let n = front-length b long in
-      elim (decLt (first (countBreaks b) 4) 4) [
+      elim (decLt (first (countBreaks b) sections) sections) [
         | yes h ↦
-            let r = first (countBreaks b) 4 in
+            let r = first (countBreaks b) sections in
             record {
               number = 2;
               values = 2 * r ∷ [];
               some = omega arith;
               few = omega arith;
-              one = scan-on 1 1 _ _ _ accepted 1 (not-short (take 12601 b) (omega arith)) (omega arith)
-                  ∙ scan-here 2 4 _ _ _ accepted r (sym (first-same (countBreaks (take 12601 b)) (countBreaks b) 4 (same-count b long))) h;
-              other = scan-on 1 1 _ _ _ accepted 1 (not-short b (omega arith)) (omega arith) ∙ scan-here 2 4 _ _ _ accepted r refl h;
+              one = scan-on 1 1 _ _ _ accepted 1 (not-short (take loaded b) (omega arith)) (omega arith)
+                  ∙ scan-here 2 sections _ _ _ accepted r (sym (first-same (countBreaks (take loaded b)) (countBreaks b) sections (same-count b long))) h;
+              other = scan-on 1 1 _ _ _ accepted 1 (not-short b (omega arith)) (omega arith) ∙ scan-here 2 sections _ _ _ accepted r refl h;
             }
         | no h ↦
-            let counts : (i : ℕ) → i < 4 → countBreaks b i ≡ false = λ i l. first-fails (countBreaks b) 4 i (omega arith) in
+            let counts : (i : ℕ) → i < sections → countBreaks b i ≡ false = λ i l. first-fails (countBreaks b) sections i (omega arith) in
             let r = third b long counts in
-            let four : 4 ≡ first (countBreaks b) 4 = (let l = first-le (countBreaks b) 4 in omega arith) in
-            let passes : 4 ≡ first (countBreaks (take 12601 b)) 4 =
-            four ∙ sym (first-same (countBreaks (take 12601 b)) (countBreaks b) 4 (same-count b long)) in
+            let all : sections ≡ first (countBreaks b) sections = (let l = first-le (countBreaks b) sections in omega arith) in
+            let passes : sections ≡ first (countBreaks (take loaded b)) sections =
+            all ∙ sym (first-same (countBreaks (take loaded b)) (countBreaks b) sections (same-count b long)) in
             record {
               number = 3;
               values = min header (2 * r .place + 1) ∷ [];
               some = omega arith;
               few = omega arith;
-              one = scan-on 1 1 _ _ _ accepted 1 (not-short (take 12601 b) (omega arith)) (omega arith)
-                  ∙ scan-on 2 4 _ _ _ accepted 4 passes (omega arith) ∙ scan-here 3 5 _ _ _ accepted (r .place) (r .one) (r .within);
-              other = scan-on 1 1 _ _ _ accepted 1 (not-short b (omega arith)) (omega arith) ∙ scan-on 2 4 _ _ _ accepted 4 four (omega arith)
-                  ∙ scan-here 3 5 _ _ _ accepted (r .place) (r .other) (r .within);
+              one = scan-on 1 1 _ _ _ accepted 1 (not-short (take loaded b) (omega arith)) (omega arith)
+                  ∙ scan-on 2 sections _ _ _ accepted sections passes (omega arith) ∙ scan-here 3 (sections + 1) _ _ _ accepted (r .place) (r .one) (r .within);
+              other = scan-on 1 1 _ _ _ accepted 1 (not-short b (omega arith)) (omega arith) ∙ scan-on 2 sections _ _ _ accepted sections all (omega arith)
+                  ∙ scan-here 3 (sections + 1) _ _ _ accepted (r .place) (r .other) (r .within);
             }
       ]
 
@@ -181,29 +176,29 @@ refused-same s t out ws vs e n =
 -- so much of a book is enough, whatever is said of it, if refusals 1 to 9 are the reader's
 enough : (b out : List ℕ) (says : List ℕ → Said) (ws : List ℕ → List ℕ)
     → ((c : List ℕ) (n : ℕ) → 0 < n → n ≤ 9 → (vs : List ℕ) → verdict c ≡ said n vs → says c ≡ said n vs)
-    → laid (says (take 12601 b)) out (ws (take 12601 b)) ≡ laid (says b) out (ws b)
-enough b out says ws reads = elim (decLt 12601 (length b)) [
+    → laid (says (take loaded b)) out (ws (take loaded b)) ≡ laid (says b) out (ws b)
+enough b out says ws reads = elim (decLt loaded (length b)) [
   | yes h ↦
       let m = misfit b h in
       let some = m .some in
       let theirs = reads b (m .number) (m .some) (m .few) (m .values) (m .other) in
-      refused-same _ _ out (ws (take 12601 b)) (ws b) (reads (take 12601 b) (m .number) (m .some) (m .few) (m .values) (m .one) ∙ sym theirs)
+      refused-same _ _ out (ws (take loaded b)) (ws b) (reads (take loaded b) (m .number) (m .some) (m .few) (m .values) (m .one) ∙ sym theirs)
       (λ z. let e = ap (λ (s : Said). s .number) theirs in absurd (omega arith))
-  | no h ↦ ap (λ (c : List ℕ). laid (says c) out (ws c)) (take-all 12601 b (omega arith))
+  | no h ↦ ap (λ (c : List ℕ). laid (says c) out (ws c)) (take-all loaded b (omega arith))
 ]
 
 module _ (b ms out : List ℕ) where
-  pub long-book : translated (take 12601 b) out ≡ translated b out
+  pub long-book : translated (take loaded b) out ≡ translated b out
   long-book =
       enough b out (λ c. translationSays c (wordsIn out)) (λ c. bytesOfAll (listing c))
       (λ c n p h vs. exactly-reading c (wordsIn out) n p h vs .1)
 
-  pub long-played-book : rehearsed (take 12601 b) ms out ≡ rehearsed b ms out
+  pub long-played-book : rehearsed (take loaded b) ms out ≡ rehearsed b ms out
   long-played-book =
       enough b out (λ c. rehearsalSays c ms (wordsIn out)) (λ c. bytesOfAll (eventsDone c ms))
       (λ c n p h vs. rehearsal-exactly-reading c ms (wordsIn out) n p h vs .1)
 
-  pub long-summarized-book : summarizedOn (take 12601 b) out ≡ summarizedOn b out
+  pub long-summarized-book : summarizedOn (take loaded b) out ≡ summarizedOn b out
   long-summarized-book =
       enough b out (λ c. summarySays c (wordsIn out)) (λ c. bytesOfAll (summary c))
       (λ c n p h vs. summary-exactly-reading c (wordsIn out) n p h vs .1)

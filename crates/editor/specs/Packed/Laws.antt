@@ -11,7 +11,7 @@ use borrow.Author.Tests.{eq-eqb, ne-eqb, ltb-false}
 use Rattle.words.specs.Choice.Laws.{pick-true, pick-false, pick-ind}
 use Rattle.words.specs.First.{first}
 use Rattle.words.specs.First.Laws.{first-holds, first-fails}
-use Rattle.book.specs.Layout.{rows, parties, steps}
+use Rattle.book.specs.Layout.{header, sections, most, rows, parties, steps}
 use Rattle.book.specs.Rules.Laws.{count-exact}
 use Rattle.book.specs.Said.{Said, said, accepted}
 use Rattle.book.specs.Refusals.{Line, line, firstOf, readingTable, verdict}
@@ -73,11 +73,11 @@ module _ (b : List ℕ) where
   unfolding verdict readingTable
   verdict-small =
       line-says Refuses 1 1 _ _ _ accepted (λ i h t. one-small 1 0 (omega arith) (omega arith)) (λ long.
-      line-says Refuses 2 4 _ _ _ accepted (λ i h t. one-small 2 (2 * i) (omega arith) (omega arith)) (λ counts.
-      let few : rows b ≤ 1024 = count-exact b 0 .0 (counts 0 (omega arith)) .high in
-      let parts : parties b ≤ 16 = count-exact b 1 .0 (counts 1 (omega arith)) .high in
-      let short : steps b ≤ 64 = count-exact b 2 .0 (counts 2 (omega arith)) .high in
-      line-says Refuses 3 5 _ _ _ accepted (λ i h t. one-small 3 (min 8 (2 * i + 1)) (omega arith) (omega arith)) (λ offsets.
+      line-says Refuses 2 sections _ _ _ accepted (λ i h t. one-small 2 (2 * i) (omega arith) (omega arith)) (λ counts.
+      let few : rows b ≤ most 0 = count-exact b 0 .0 (counts 0 (omega arith)) .high in
+      let parts : parties b ≤ most 1 = count-exact b 1 .0 (counts 1 (omega arith)) .high in
+      let short : steps b ≤ most 2 = count-exact b 2 .0 (counts 2 (omega arith)) .high in
+      line-says Refuses 3 (sections + 1) _ _ _ accepted (λ i h t. one-small 3 (min header (2 * i + 1)) (omega arith) (omega arith)) (λ offsets.
       line-says Refuses 4 (rows b) _ _ _ accepted (λ i h t. one-small 4 i (omega arith) (omega arith)) (λ rowsKeep.
       line-says Refuses 5 (rows b) _ _ _ accepted (λ i h t. one-small 5 i (omega arith) (omega arith)) (λ sizes.
       line-says Refuses 6 (rows b) _ _ _ accepted (λ i h t. one-small 6 i (omega arith) (omega arith)) (λ single.

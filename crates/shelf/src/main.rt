@@ -1,6 +1,8 @@
 // The program over the whole shelf of books: reads books from standard input, each with its count of words before it, and prints
 // of each the listing or the refusal, and what its rehearsal comes to under six schedules, a line for each. `lines_of` leaves exactly
 // the lines' bytes, for any bytes that were read of a book; the rest reads and prints.
+use book::Layout;
+use book::Limit;
 use input::Input;
 use libc::STDERR_FILENO;
 use libc::STDIN_FILENO;
@@ -10,6 +12,7 @@ ghost use lib.ListN.{length, take};
 ghost use Rattle.io.specs.Counts.{Counts};
 ghost use Rattle.words.specs.Run.{values};
 ghost use Rattle.octets.specs.Octets.{wordAt, wordsIn};
+ghost use Rattle.book.specs.Layout.{most, loadedBytes};
 ghost use Rattle.line.specs.Line.{Put};
 ghost use Rattle.shelf.specs.Lines.{translatedLine, rehearsedLine, playedLines, refusedLines, bookLines};
 ghost use Rattle.shelf.specs.Next.{Fits};
@@ -19,10 +22,10 @@ ghost use Rattle.shelf.specs.Turns.{turn, seats};
 struct Most {}
 
 impl Most {
-    // One word more than the longest book has, as `nghiralum` reads them.
-    const WORDS: usize = 12601;
+    // One word more than the longest book has, as `nghiralum` reads them, and its bytes.
+    const WORDS: usize = Layout::LOADED;
 
-    const BYTES: usize = 50404;
+    const BYTES: usize = Layout::LOADED_BYTES;
 
     const LENT: usize = 16384;
 
@@ -58,7 +61,7 @@ fn stop(why: &[u8]) -> Next
 
 // Reads bytes until those that are lent for them are full.
 fn read_bytes(bytes: &mut [u8]) -> Next
-    requires { ⌜ length (now bytes) ≤ 50404 ⌝ }
+    requires { ⌜ length (now bytes) ≤ loadedBytes ⌝ }
     ensures { λ r. ⌜ Fits r ⌝ }
 {
     let input = input::fill(STDIN_FILENO, b"standard input", bytes);
@@ -82,7 +85,7 @@ fn size_of(head: &[u8; 4]) -> usize
 
 // Reads a book: its count of words, and then these.
 fn read_book(bytes: &mut [u8]) -> Next
-    requires { ⌜ 50404 ≤ length (now bytes) ⌝ }
+    requires { ⌜ loadedBytes ≤ length (now bytes) ⌝ }
     ensures { λ r. ⌜ Fits r ⌝ }
 {
     let mut head = [0u8; 4];
@@ -97,7 +100,7 @@ fn read_book(bytes: &mut [u8]) -> Next
             }
             let size = size_of(&head);
             if Most::BYTES < size {
-                return stop(b"a book has more than 12601 words\n");
+                return stop(b"a book has more words than are read\n");
             }
             read_bytes(&mut bytes[0..size])
         }
@@ -108,7 +111,7 @@ fn read_book(bytes: &mut [u8]) -> Next
 // How many parties the schedules are for: as many as a book may have, or one.
 fn seats_of(book: &[u32]) -> u32
     ensures { λ r. ⌜ r ≡ seats (now (book .entry)) ⌝ }
-    ensures { λ r. ⌜ (1 ≤ r) × (r ≤ 16) ⌝ }
+    ensures { λ r. ⌜ (1 ≤ r) × (r ≤ most 1) ⌝ }
 {
     if book.len() < 3 {
         return 1;
@@ -117,7 +120,7 @@ fn seats_of(book: &[u32]) -> u32
     if parties == 0 {
         return 1;
     }
-    if 16 < parties {
+    if Limit::PARTIES < parties {
         return 1;
     }
     parties
@@ -243,7 +246,7 @@ fn put_played(out: &mut [u8], at: usize, book: &[u32], parties: u32) -> usize
 
 // And of two that are refused: one has a party too many in its round, and one a move too many.
 fn put_refused(out: &mut [u8], at: usize, book: &[u32], parties: u32) -> usize
-    requires { ⌜ (at + 372 ≤ length (now out)) × (0 < parties) × (parties ≤ 16) ⌝ }
+    requires { ⌜ (at + 372 ≤ length (now out)) × (0 < parties) × (parties ≤ most 1) ⌝ }
     ensures { λ r. ⌜ Put (refusedLines (now (book .entry)) parties) (now (out .entry)) at (now (out .exit)) r ⌝ }
     ensures { λ r. ⌜ r ≤ at + 372 ⌝ }
 {
@@ -265,7 +268,7 @@ fn seven_lines(out: &mut [u8], book: &[u32]) -> usize
 
 // The lines that are printed of the bytes of a book, into the front of `out`; answers their length.
 fn lines_of(bytes: &[u8], out: &mut [u8]) -> usize
-    requires { ⌜ (length (now bytes) ≤ 50404) × (181350 ≤ length (now out)) ⌝ }
+    requires { ⌜ (length (now bytes) ≤ loadedBytes) × (181350 ≤ length (now out)) ⌝ }
     ensures { λ r. ⌜ Counts r (now (out .exit)) ⌝ }
     ensures { λ r. ⌜ take r (now (out .exit)) ≡ bookLines (wordsIn (now (bytes .entry))) ⌝ }
 {

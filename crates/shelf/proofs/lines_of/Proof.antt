@@ -5,12 +5,13 @@ use native.Mathlib.Omega.{arith}
 use lib.ListN.{length-take}
 use borrow.Author.Needs.{needs}
 use Rattle.octets.specs.Octets.Laws.{loaded-many, loaded-all}
+use Rattle.book.specs.Layout.{loaded}
 use Rattle.shelf.specs.Lines.{bookLines}
 use Rattle.shelf.proofs.lines_of.Statement.{statement}
 use Rattle.shelf.proofs.lines_of.Tie as tie
 
 -- what was loaded has room
-few : (c : tie.After-load) → c .load .result ≤ 12601
+few : (c : tie.After-load) → c .load .result ≤ loaded
 few c = let start : tie.Start = search in loaded-many (start .args .bytes .now) refl (c .load .ensures)
 
 returns : tie.Need-returns

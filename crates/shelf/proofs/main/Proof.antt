@@ -5,17 +5,18 @@ use mathlib.Core.Path.{_≡_}
 use native.Mathlib.Omega.{arith}
 use lib.ListN.{length, length-take}
 use borrow.Author.Needs.{needs}
+use Rattle.book.specs.Layout.{loadedBytes}
 use Rattle.shelf.proofs.main.Statement.{statement}
 use Rattle.shelf.proofs.main.Tie as tie
 
 abbrev Inv-loop : tie.InvT-loop
-Inv-loop bytes₀ out₀ books₀ t6 bytes out books = (books ≤ 65536) × (length bytes ≡ 50404) × (length out ≡ 181350)
+Inv-loop bytes₀ out₀ books₀ t6 bytes out books = (books ≤ 65536) × (length bytes ≡ loadedBytes) × (length out ≡ 181350)
 
 abbrev μ-loop : tie.MeasureT-loop
 μ-loop bytes₀ out₀ books₀ t6 bytes out books = 65536 - books
 
 -- where a book came, it has as many bytes as `read_book` says: no more than there is room for
-few : (c : tie.After-n Inv-loop μ-loop) → c .n .given .0 .0 ≤ 50404
+few : (c : tie.After-n Inv-loop μ-loop) → c .n .given .0 .0 ≤ loadedBytes
 few c =
     let after-read-book : tie.After-read-book Inv-loop μ-loop = search in
     rw (c .n .given .1) at (after-read-book .read-book .ensures)

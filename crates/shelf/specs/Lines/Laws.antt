@@ -11,7 +11,7 @@ use borrow.Author.Tests.{ne-eqb}
 use Rattle.words.specs.Choice.Laws.{pick-false}
 use Rattle.words.specs.Run.{values}
 use Rattle.words.specs.Run.Laws.{values-length, values-getD}
-use Rattle.book.specs.Layout.{parties}
+use Rattle.book.specs.Layout.{least, most, parties}
 use Rattle.book.specs.Said.{Said, said}
 use Rattle.book.specs.Headed.Laws.{valid-headed}
 use Rattle.translation.specs.Outcome.{Outcome, Plays}
@@ -62,10 +62,10 @@ refused-party b plays =
     (BadMoves.nameless (omega (arith, many)) (parties b) (omega (arith, many, few)) (omega (arith, move (parties b) (omega arith)))
     (λ k h. omega (arith, move k (omega arith))) refl)
   where
-    few : parties b ≤ 16
+    few : parties b ≤ most 1
     few = valid-headed b (plays .valid) .fewParties
 
-    some : 1 ≤ parties b
+    some : least 1 ≤ parties b
     some = valid-headed b (plays .valid) .someParties
 
     many : length (values (turn (seats b + 1) 1 false) 0 48) ≡ 48

@@ -8,7 +8,7 @@ use native.Mathlib.Nat.{mod-lt}
 use lib.ListN.{length, getD}
 use borrow.Author.Tests.{lt-ltb, le-ltb}
 use Rattle.words.specs.Choice.Laws.{pick-true, pick-false}
-use Rattle.book.specs.Layout.{parties}
+use Rattle.book.specs.Layout.{least, most, parties}
 use Rattle.book.specs.Rules.{outside, countBreaks}
 use Rattle.book.specs.Rules.Laws.{outside-in}
 use Rattle.shelf.specs.Turns.{turn, seats}
@@ -37,15 +37,15 @@ no-word [] k h = refl
 no-word (x ∷ l) zero h = absurd (omega arith)
 no-word (x ∷ l) (suc k) h = no-word l k (omega arith)
 
--- a book may have 1 to 16 parties
-pub seats-below : (b : List ℕ) → parties b < 1 → 1 ≡ seats b
+-- a book may have `least 1` to `most 1` parties
+pub seats-below : (b : List ℕ) → parties b < least 1 → 1 ≡ seats b
 unfolding seats countBreaks outside
-seats-below b h = sym (pick-true _ _ _ (rw (lt-ltb (parties b) 1 h)))
+seats-below b h = sym (pick-true _ _ _ (rw (lt-ltb (parties b) (least 1) h)))
 
-pub seats-above : (b : List ℕ) → 1 ≤ parties b → 16 < parties b → 1 ≡ seats b
+pub seats-above : (b : List ℕ) → least 1 ≤ parties b → most 1 < parties b → 1 ≡ seats b
 unfolding seats countBreaks outside
-seats-above b h k = sym (pick-true _ _ _ (rw (le-ltb (parties b) 1 h, lt-ltb 16 (parties b) k)))
+seats-above b h k = sym (pick-true _ _ _ (rw (le-ltb (parties b) (least 1) h, lt-ltb (most 1) (parties b) k)))
 
-pub seats-own : (b : List ℕ) → 1 ≤ parties b → parties b ≤ 16 → parties b ≡ seats b
+pub seats-own : (b : List ℕ) → least 1 ≤ parties b → parties b ≤ most 1 → parties b ≡ seats b
 unfolding seats countBreaks
-seats-own b h k = sym (pick-false _ _ _ (outside-in 1 16 (parties b) h k))
+seats-own b h k = sym (pick-false _ _ _ (outside-in (least 1) (most 1) (parties b) h k))

@@ -1,5 +1,6 @@
 // The program: reads a book from the file that its argument names, or from standard input, and prints its listing or its refusal
 // on one line. `reply` leaves exactly the line's bytes, for any bytes that were read; the rest reads and prints.
+use book::Layout;
 use input::Input;
 use libc::STDERR_FILENO;
 use libc::STDIN_FILENO;
@@ -7,6 +8,7 @@ ghost use mathlib.Core.Path.{_≡_};
 ghost use Prim.Native.Nat.{_≤_};
 ghost use lib.ListN.{length, take};
 ghost use Rattle.io.specs.Counts.{Counts};
+ghost use Rattle.book.specs.Layout.{loadedBytes};
 ghost use Rattle.nghiralum.specs.Reply.{replyLine};
 
 // What is read, lent and printed at most.
@@ -14,7 +16,7 @@ struct Most {}
 
 impl Most {
     // A word more than the longest book has, so that a longer one is seen to be too long.
-    const BYTES: usize = 50404;
+    const BYTES: usize = Layout::LOADED_BYTES;
 
     // The bytes that are lent, and the words that they make.
     const OUT: usize = 65536;
@@ -27,7 +29,7 @@ impl Most {
 
 // The line that is printed of the first n bytes of those that there was room for, into the front of `line`; answers its length.
 fn reply(read: &[u8], n: usize, line: &mut [u8]) -> usize
-    requires { ⌜ (length (now read) ≡ 50404) × (n ≤ 50404) × (180234 ≤ length (now line)) ⌝ }
+    requires { ⌜ (length (now read) ≡ loadedBytes) × (n ≤ loadedBytes) × (180234 ≤ length (now line)) ⌝ }
     ensures { λ r. ⌜ Counts r (now (line .exit)) ⌝ }
     ensures { λ r. ⌜ take r (now (line .exit)) ≡ replyLine (take n (now (read .entry))) ⌝ }
 {

@@ -11,21 +11,23 @@ use Rattle.book.specs.Rules.{countBreaks, offsetBreaks, rowBreaks, sizeB
 use Rattle.book.specs.Said.{Said, said, accepted}
 pub mod Laws
 
--- A line: the refusal's number, among how many places it looks, which of them breaks the rule, and what it says of the smallest.
+-- A line: among how many places it looks, which of them breaks the rule, and what it gives of the smallest: the refusal's number, which
+-- may be the place's own, and the values.
 pub record Line : Type 0 where
-  pub number : ℕ
+  pub number : ℕ → ℕ
   pub among : ℕ
   pub breaks : ℕ → Bool
   pub place : ℕ → List ℕ
 
+-- a line with one number for all places
 abbrev pub line : ℕ → ℕ → (ℕ → Bool) → (ℕ → List ℕ) → Line
-line n m t f = record { number = n; among = m; breaks = t; place = f }
+line n m t f = record { number = λ i. n; among = m; breaks = t; place = f }
 
 unfoldable pub applies : Line → Bool
 applies l = any (l .breaks) (l .among)
 
 unfoldable pub gives : Line → Said
-gives l = said (l .number) (l .place (first (l .breaks) (l .among)))
+gives l = let i = first (l .breaks) (l .among) in said (l .number i) (l .place i)
 
 -- what the first line that applies gives, or else `rest`
 unfoldable pub firstOf : List Line → Said → Said

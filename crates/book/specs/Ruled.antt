@@ -34,10 +34,10 @@ pub record Cause (x : Ruled) (vs : List ℕ) : Type 0 where
   pub smallest : (k : ℕ) → k < place → x .rule k
   pub says : vs ≡ x .line .place place
 
--- no line of the list has that number
+-- no line of the list has that number, at any place
 abbrev pub Apart : ℕ → List Ruled → Type 0
 Apart n [] = Unit {0}
-Apart n (x ∷ xs) = (x .line .number ≡ n → ⊥) × Apart n xs
+Apart n (x ∷ xs) = ((i : ℕ) → x .line .number i ≡ n → ⊥) × Apart n xs
 
 -- ---- a table by its lines' places
 -- the lines above place i, the line there (or d where there is none), and those below
@@ -59,4 +59,4 @@ below (suc i) (x ∷ xs) = below i xs
 -- the lines have the numbers n, n + 1, ..
 abbrev pub Numbered : ℕ → List Ruled → Type 0
 Numbered n [] = Unit {0}
-Numbered n (x ∷ xs) = (x .line .number ≡ n) × Numbered (suc n) xs
+Numbered n (x ∷ xs) = ((i : ℕ) → x .line .number i ≡ n) × Numbered (suc n) xs

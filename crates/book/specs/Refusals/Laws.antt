@@ -93,26 +93,30 @@ all-keep [] ls rest k = refl
 all-keep (x ∷ xs) ls rest k = firstOf-on (x .line) (lines xs ++ ls) rest (keeps-not x (k .0)) ∙ all-keep xs ls rest (k .1)
 
 -- ---- the cause of a refusal
-cause-gives : (x : Ruled) (vs : List ℕ) → Cause x vs → (applies (x .line) ≡ true) × (gives (x .line) ≡ said (x .line .number) vs)
+cause-gives : (x : Ruled) (vs : List ℕ) (c : Cause x vs) → (applies (x .line) ≡ true) × (gives (x .line) ≡ said (x .line .number (c .place)) vs)
 unfolding applies gives
 cause-gives x vs c =
     let t = breaks-true x (c .place) (c .broken) in
     let e = first-at (x .line .breaks) (x .line .among) (c .place) (c .within) (λ k h. x .exact k .1 (c .smallest k h)) t in
-    (any-at (x .line .breaks) (x .line .among) (c .place) (c .within) t, ap (said (x .line .number)) (ap (x .line .place) (sym e) ∙ sym (c .says)))
+    let g : ℕ → Said = λ i. said (x .line .number i) (x .line .place i) in
+    (any-at (x .line .breaks) (x .line .among) (c .place) (c .within) t, ap g (sym e) ∙ ap (said (x .line .number (c .place))) (sym (c .says)))
 
-gives-cause : (x : Ruled) → applies (x .line) ≡ true → Cause x (gives (x .line) .values)
+gives-cause : (x : Ruled) {n : ℕ} {vs : List ℕ} → applies (x .line) ≡ true → gives (x .line) ≡ said n vs
+    → (c : Cause x vs) × (x .line .number (c .place) ≡ n)
 unfolding applies gives
-gives-cause x e =
+gives-cause x e g =
     let t = x .line .breaks in
-    let n = x .line .among in
-    let l = any-first t n e in
-    record {
-      place = first t n;
-      within = l;
-      broken = λ r. clash (first-holds t n l) (x .exact (first t n) .1 r);
-      smallest = λ k h. x .exact k .0 (first-fails t n k h);
-      says = refl;
-    }
+    let m = x .line .among in
+    let l = any-first t m e in (
+      record {
+        place = first t m;
+        within = l;
+        broken = λ r. clash (first-holds t m l) (x .exact (first t m) .1 r);
+        smallest = λ k h. x .exact k .0 (first-fails t m k h);
+        says = sym (ap (λ (s : Said). s .values) g);
+      },
+      ap (λ (s : Said). s .number) g,
+    )
 
 pub apart-append : (n : ℕ) (xs ys : List Ruled) → Apart n xs → Apart n ys → Apart n (xs ++ ys)
 apart-append n [] ys a b = b
@@ -123,7 +127,7 @@ module _ (xs : List Ruled) (x : Ruled) (ys : List Ruled) (rest : Said) where
   abbrev whole : Said
   whole = firstOf (lines xs ++ (x .line ∷ lines ys)) rest
 
-  pub given : (vs : List ℕ) → AllKeep xs → Cause x vs → whole ≡ said (x .line .number) vs
+  pub given : (vs : List ℕ) → AllKeep xs → (c : Cause x vs) → whole ≡ said (x .line .number (c .place)) vs
   given vs k c = let g = cause-gives x vs c in all-keep xs (x .line ∷ lines ys) rest k ∙ firstOf-here (x .line) (lines ys) rest (g .0) ∙ g .1
 
 -- and it has no other cause
@@ -133,7 +137,7 @@ apart-number n [] rest a z e = z e
 apart-number n (y ∷ ys) rest a z e = go (applies (y .line)) refl (apart-number n ys rest (a .1) z)
   where
     go : (v : Bool) → applies (y .line) ≡ v → (firstOf (lines ys) rest .number ≡ n → ⊥) → ⊥
-    go true q h = a .0 (sym (ap (λ (s : Said). s .number) (firstOf-here (y .line) (lines ys) rest q)) ∙ e)
+    go true q h = a .0 _ (sym (ap (λ (s : Said). s .number) (firstOf-here (y .line) (lines ys) rest q)) ∙ e)
     go false q h = h (sym (ap (λ (s : Said). s .number) (firstOf-on (y .line) (lines ys) rest q)) ∙ e)
 
 -- lines of other numbers were passed
@@ -145,25 +149,21 @@ passed n (w ∷ xs) ls rest vs a e = go (applies (w .line)) refl (passed n xs ls
   where
     go : (v : Bool) → applies (w .line) ≡ v → (firstOf (lines xs ++ ls) rest ≡ said n vs → AllKeep xs × (firstOf ls rest ≡ said n vs))
         → (Keeps w × AllKeep xs) × (firstOf ls rest ≡ said n vs)
-    go true q h = absurd (a .0 (ap (λ (s : Said). s .number) (sym (firstOf-here (w .line) (lines xs ++ ls) rest q) ∙ e)))
+    go true q h = absurd (a .0 _ (ap (λ (s : Said). s .number) (sym (firstOf-here (w .line) (lines xs ++ ls) rest q) ∙ e)))
     go false q h =
         let r = h (sym (firstOf-on (w .line) (lines xs ++ ls) rest q) ∙ e) in
         ((not-keeps w q, r .0), r .1)
 
-pub caused : (xs : List Ruled) (x : Ruled) (ys : List Ruled) (rest : Said) (vs : List ℕ)
-    → Apart (x .line .number) xs → Apart (x .line .number) ys → (rest .number ≡ x .line .number → ⊥)
-    → firstOf (lines xs ++ (x .line ∷ lines ys)) rest ≡ said (x .line .number) vs → AllKeep xs × Cause x vs
-unfolding gives
-caused xs x ys rest vs a b z e =
-    let r = passed (x .line .number) xs (x .line ∷ lines ys) rest vs a e in
+pub caused : {n : ℕ} (xs : List Ruled) (x : Ruled) (ys : List Ruled) (rest : Said) (vs : List ℕ) → Apart n xs → Apart n ys
+    → (rest .number ≡ n → ⊥) → firstOf (lines xs ++ (x .line ∷ lines ys)) rest ≡ said n vs
+    → AllKeep xs × ((c : Cause x vs) × (x .line .number (c .place) ≡ n))
+caused {n} xs x ys rest vs a b z e =
+    let r = passed n xs (x .line ∷ lines ys) rest vs a e in
     (r .0, go (applies (x .line)) refl (r .1))
   where
-    go : (v : Bool) → applies (x .line) ≡ v → firstOf (x .line ∷ lines ys) rest ≡ said (x .line .number) vs → Cause x vs
-    go true q f =
-        let s = sym (firstOf-here (x .line) (lines ys) rest q) ∙ f in
-        let c = gives-cause x q in
-        record { place = c .place; within = c .within; broken = c .broken; smallest = c .smallest; says = sym (ap (λ (s : Said). s .values) s) ∙ c .says }
-    go false q f = absurd (apart-number (x .line .number) ys rest b z (ap (λ (s : Said). s .number) (sym (firstOf-on (x .line) (lines ys) rest q) ∙ f)))
+    go : (v : Bool) → applies (x .line) ≡ v → firstOf (x .line ∷ lines ys) rest ≡ said n vs → (c : Cause x vs) × (x .line .number (c .place) ≡ n)
+    go true q f = gives-cause x q (sym (firstOf-here (x .line) (lines ys) rest q) ∙ f)
+    go false q f = absurd (apart-number n ys rest b z (ap (λ (s : Said). s .number) (sym (firstOf-on (x .line) (lines ys) rest q) ∙ f)))
 
 -- ---- acceptance
 pub none-given : (xs : List Ruled) (rest : Said) → Apart 0 xs → firstOf (lines xs) rest .number ≡ 0 → AllKeep xs
@@ -172,7 +172,7 @@ none-given [] rest a e = tt
 none-given (x ∷ xs) rest a e = go (applies (x .line)) refl (none-given xs rest (a .1))
   where
     go : (v : Bool) → applies (x .line) ≡ v → (firstOf (lines xs) rest .number ≡ 0 → AllKeep xs) → Keeps x × AllKeep xs
-    go true q h = absurd (a .0 (sym (ap (λ (s : Said). s .number) (firstOf-here (x .line) (lines xs) rest q)) ∙ e))
+    go true q h = absurd (a .0 _ (sym (ap (λ (s : Said). s .number) (firstOf-here (x .line) (lines xs) rest q)) ∙ e))
     go false q h = (not-keeps x q, h (sym (ap (λ (s : Said). s .number) (firstOf-on (x .line) (lines xs) rest q)) ∙ e))
 
 -- ---- a table whose lines are numbered from n on
@@ -181,14 +181,14 @@ lines-split [] d i h = absurd (omega arith)
 lines-split (x ∷ xs) d zero h = refl
 lines-split (x ∷ xs) d (suc i) h = ap (λ (ls : List Line). x .line ∷ ls) (lines-split xs d i (omega arith))
 
-numbered-at : (n : ℕ) (xs : List Ruled) (d : Ruled) → Numbered n xs → (i : ℕ) → i < length xs → lineAt i xs d .line .number ≡ n + i
-numbered-at n [] d a i h = absurd (omega arith)
-numbered-at n (x ∷ xs) d a zero h = let e = a .0 in omega arith
-numbered-at n (x ∷ xs) d a (suc i) h = let e = numbered-at (suc n) xs d (a .1) i (omega arith) in omega arith
+numbered-at : (n : ℕ) (xs : List Ruled) (d : Ruled) → Numbered n xs → (i : ℕ) → i < length xs → (k : ℕ) → lineAt i xs d .line .number k ≡ n + i
+numbered-at n [] d a i h k = absurd (omega arith)
+numbered-at n (x ∷ xs) d a zero h k = let e = a .0 k in omega arith
+numbered-at n (x ∷ xs) d a (suc i) h k = let e = numbered-at (suc n) xs d (a .1) i (omega arith) k in omega arith
 
 numbered-later : (k n : ℕ) (xs : List Ruled) → Numbered n xs → k < n → Apart k xs
 numbered-later k n [] a h = tt
-numbered-later k n (x ∷ xs) a h = (λ e. let z = a .0 in absurd (omega arith), numbered-later k (suc n) xs (a .1) (omega arith))
+numbered-later k n (x ∷ xs) a h = (λ i e. let z = a .0 i in absurd (omega arith), numbered-later k (suc n) xs (a .1) (omega arith))
 
 numbered-apart : (k n : ℕ) (xs : List Ruled) → Numbered n xs → (i : ℕ) → i < length xs → k ≡ n + i → Apart k (above i xs)
     × Apart k (below i xs)
@@ -196,17 +196,15 @@ numbered-apart k n [] a i h e = absurd (omega arith)
 numbered-apart k n (x ∷ xs) a zero h e = (tt, numbered-later k (suc n) xs (a .1) (omega arith))
 numbered-apart k n (x ∷ xs) a (suc i) h e =
     let r = numbered-apart k (suc n) xs (a .1) i (omega arith) (omega arith) in
-    ((λ z. let y = a .0 in absurd (omega arith), r .0), r .1)
+    ((λ j z. let y = a .0 j in absurd (omega arith), r .0), r .1)
 
 -- each line is given exactly when the lines above it are kept and it has a cause
 pub exact-line : (n : ℕ) (xs : List Ruled) (d : Ruled) (rest : Said) → Numbered n xs → (i : ℕ) → i < length xs → (rest .number ≡ n + i → ⊥)
     → (vs : List ℕ) → (firstOf (lines xs) rest ≡ said (n + i) vs) ↔ (AllKeep (above i xs) × Cause (lineAt i xs d) vs)
 exact-line n xs d rest a i h z vs =
     let x = lineAt i xs d in
-    let m : x .line .number ≡ n + i = numbered-at n xs d a i h in
-    let p = numbered-apart (x .line .number) n xs a i h m in
-    let s = ap (λ (ls : List Line). firstOf ls rest) (lines-split xs d i h) in
-    let t = ap (λ k. said k vs) m in (
-      λ e. caused (above i xs) x (below i xs) rest vs (p .0) (p .1) (λ y. z (y ∙ m)) (sym s ∙ e ∙ sym t),
-      λ c. s ∙ given (above i xs) x (below i xs) rest vs (c .0) (c .1) ∙ t,
+    let p = numbered-apart (n + i) n xs a i h refl in
+    let s = ap (λ (ls : List Line). firstOf ls rest) (lines-split xs d i h) in (
+      λ e. (let r = caused (above i xs) x (below i xs) rest vs (p .0) (p .1) z (sym s ∙ e) in (r .0, r .1 .0)),
+      λ c. s ∙ given (above i xs) x (below i xs) rest vs (c .0) (c .1) ∙ ap (λ k. said k vs) (numbered-at n xs d a i h (c .1 .place)),
     )

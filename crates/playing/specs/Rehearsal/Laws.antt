@@ -105,7 +105,7 @@ module _ (b ms : List ℕ) where
       | no h ↦
           let l : length ms ≤ mostMoves = omega arith in
           let k = all-keep (long-line ms ∷ []) (lines behind) rest (λ i j. l, tt) in
-          let c = caused [] (move-line (parties b) ms) (room-line (length out) (parties b) ∷ []) rest vs tt (omega arith) (omega arith) (sym k ∙ e) .1 in
+          let c = caused [] (move-line (parties b) ms) (room-line (length out) (parties b) ∷ []) rest vs tt (omega arith) (omega arith) (sym k ∙ e) .1 .0 in
           BadMoves.nameless l (c .place) (c .within) (no-party (c .place) (c .broken)) (c .smallest) (c .says)
     ]
       where

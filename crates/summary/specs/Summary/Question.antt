@@ -66,7 +66,7 @@ module _ (s : List ℕ) (p r t : ℕ) where
   -- ---- refusal 20
   pub exactly-20 : (vs : List ℕ) → (asked s p r t ≡ said 20 vs) ↔ ((Fits s → ⊥) × (vs ≡ length s ∷ []))
   exactly-20 vs = (
-    λ e. (let c = caused [] (length-line s) (question-line s question ∷ []) rest vs tt (omega arith) (omega arith) (sym asked-lines ∙ e) .1 in
+    λ e. (let c = caused [] (length-line s) (question-line s question ∷ []) rest vs tt (omega arith) (omega arith) (sym asked-lines ∙ e) .1 .0 in
         (c .broken, c .says)),
     λ u. asked-lines ∙ given [] (length-line s) (question-line s question ∷ []) rest vs tt
         (record { place = 0; within = omega arith; broken = u .0; smallest = λ k h. absurd (omega arith); says = u .1 }),
@@ -100,7 +100,7 @@ module _ (s : List ℕ) (p r t : ℕ) where
   pub exactly-21 : (vs : List ℕ) → (asked s p r t ≡ said 21 vs) ↔ (Fits s × OutOfRange s p r t vs)
   exactly-21 vs = (
     λ e. (let z = caused (length-line s ∷ []) (question-line s question) [] rest vs (omega arith) tt (omega arith) (sym asked-lines ∙ e) in
-        let c = z .1 in
+        let c = z .1 .0 in
         (z .0 .0 0 (omega arith), out-of-range vs (c .place) (c .within) (c .broken) (c .smallest) (c .says))),
     λ u. asked-lines ∙ given (length-line s ∷ []) (question-line s question) [] rest vs (λ i h. u .0, tt) (range-cause vs (u .1)),
   )

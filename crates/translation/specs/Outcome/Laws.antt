@@ -45,7 +45,7 @@ module _ (xs : List Ruled) (room need : ℕ) where
   pub room-exact : Apart 12 xs → (vs : List ℕ) → (ends-in-room ≡ Said.said 12 vs) ↔ (AllKeep xs × (room < need) × (vs ≡ need ∷ []))
   room-exact a vs = (
     λ e. (let z = caused xs (room-line room need) [] (Said.said 0 (need ∷ [])) vs a tt (omega arith) e in
-        let c = z .1 in
+        let c = z .1 .0 in
         (z .0, less (c .broken), c .says)),
     λ u. given xs (room-line room need) [] (Said.said 0 (need ∷ [])) vs (u .0)
         (record {
@@ -198,7 +198,7 @@ module _ (b : List ℕ) where
   pub takenLine-exact : (ys : List Ruled) (rest : Said.Said) → Apart 10 ys → (rest .number ≡ 10 → ⊥) → (vs : List ℕ)
       → (firstOf (lines (nine b) ++ (taken-line .line ∷ lines ys)) rest ≡ Said.said 10 vs) ↔ (Valid b × Unplayable b vs)
   takenLine-exact ys rest a n vs = (
-    λ e. (let z = caused (nine b) taken-line ys rest vs (omega arith) a n e in (keep-valid b (z .0), cause-unplayable vs (z .1))),
+    λ e. (let z = caused (nine b) taken-line ys rest vs (omega arith) a n e in (keep-valid b (z .0), cause-unplayable vs (z .1 .0))),
     λ u. given (nine b) taken-line ys rest vs (valid-keep b (u .0)) (unplayable-cause vs (u .1)),
   )
 

@@ -8,3 +8,4 @@ pub mod Refusals
 pub mod Ruled
 pub mod Valid
 pub mod Span
+pub mod Stop

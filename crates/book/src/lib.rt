@@ -45,6 +45,19 @@ pub enum Reading {
     Refused(Refusal),
 }
 
+// Where a party's walk through its steps stops, at the first atom that can't be made: the number of the refusal, 0 if there is none, with
+// the step and the atom's row.
+pub struct Stop {
+    pub number: u32,
+    pub step: u32,
+    pub row: u32,
+}
+
+impl Stop {
+    // The refusals' numbers: the atom is taken.
+    pub const TAKEN: u32 = 10;
+}
+
 // Where a book's words lie: the words of the header, the number of sections, and the words of a record of each.
 pub struct Layout {}
 

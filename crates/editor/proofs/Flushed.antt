@@ -10,6 +10,7 @@ use Rattle.octets.specs.Octets.{bytesOfAll}
 use Rattle.octets.specs.Octets.Laws.{bytes-none, bytes-then}
 use Rattle.terms.specs.Table.{term}
 use Rattle.book.specs.Layout.{table, steps, known}
+use Rattle.book.specs.declared.Stop.{Stop}
 use Rattle.book.specs.Valid.{Valid}
 use Rattle.translation.specs.Dictionary.{start}
 use Rattle.translation.specs.Receive.{Did}
@@ -100,7 +101,7 @@ module _ {b : List ℕ} {p i : ℕ} (h : i < steps b) {log₀ log out₀ : List 
         room = omega arith;
       }
 
-  module _ {l logAfter stepAfter : List ℕ} {y : Received} {ahead more t : ℕ}
+  module _ {l logAfter stepAfter : List ℕ} {y : Received} {ahead more : ℕ} {t : Stop}
       (w : Acting b l p i (standing d 0) log logAfter step stepAfter y ahead more t)
     where
       -- the step's words stand in front of the buffer

@@ -11,16 +11,17 @@ use Rattle.book.specs.Layout.{rows, kind, rowFirst, rowCount, table, listAt}
 use Rattle.book.specs.Valid.{Valid}
 use Rattle.book.specs.Headed.Laws.{few-rows}
 use Rattle.book.specs.Span.{entry, Span}
+use Rattle.book.specs.Stop.{nowhere}
+use Rattle.book.specs.declared.Stop.{Stop}
 use Rattle.translation.specs.Dictionary.{Dictionary}
 use Rattle.translation.specs.Build.{build, buildAll}
 use Rattle.translation.specs.Listing.{eventWords, programWords}
 use Rattle.translation.specs.Long.{stepSize}
 use Rattle.translation.specs.Long.Laws.{news-words}
-use Rattle.claims.specs.Since.{takenIn}
 use Rattle.holding.specs.View.{rowOf, view}
 use Rattle.holding.specs.AtRow.{imagesAt}
 use Rattle.sending.specs.declared.Made.{Made}
-use Rattle.sending.specs.Sending.{Making, making, allMaking, orTaken, firstIn, SendReady, Makes, Sends}
+use Rattle.sending.specs.Sending.{Making, making, allMaking, againstIn, orStop, firstIn, SendReady, Makes, Sends}
 use Rattle.sending.specs.Sending.Laws.{nothing, both, making-held, making-atom, making-parts, one-set, making-none, making-more, first-append, news-append, sent-words}
 
 -- ---- one row, of which the code reads the entry at w
@@ -31,16 +32,16 @@ makes-as x e = rw e x
 -- what is held is not made
 makes-nothing : {b l : List ℕ} {s : ℕ} {m : Made} {e o : List ℕ} → length e ≡ 1024 → Makes b l s (nothing (view b e)) m e o o m
 unfolding programWords firstIn
-makes-nothing j = record { holds = refl; wrote = wrote-none; found = refl; size = j }
+makes-nothing j = record { holds = refl; wrote = wrote-none; stops = refl; size = j }
 
 module _ {b l : List ℕ} (e : List ℕ) {s r : ℕ} (v : Valid b) (h : r < rows b) {m : Made} (j : length e ≡ 1024) where
   pub held-makes : {w : ℕ} {o : List ℕ} → w ≡ r → (getD e w 0 ≡ 0 → ⊥)
       → Makes b l s (making (build (term (table b) r) (view b e))) m e o o m
   held-makes d n = makes-as (makes-nothing j) (making-held b e v r h (λ z. n (ap (λ i. getD e i 0) d ∙ z)))
 
-  pub atom-makes : {w u k : ℕ} {o p : List ℕ} {i y : ℕ} → w ≡ r → getD e w 0 ≡ 0 → k ≡ kind b r → k ≡ 0 → u ≡ r
-      → Wrote (1 ∷ r ∷ []) o (m .at) p i → y ≡ orTaken (m .taken) (takenIn l s r) r
-      → Makes b l s (making (build (term (table b) r) (view b e))) m (set e u 1) o p (record { at = i; taken = y })
+  pub atom-makes : {w u k : ℕ} {o p : List ℕ} {i : ℕ} {y : Stop} → w ≡ r → getD e w 0 ≡ 0 → k ≡ kind b r → k ≡ 0 → u ≡ r
+      → Wrote (1 ∷ r ∷ []) o (m .at) p i → y ≡ orStop (m .stop) (againstIn l s r) s r
+      → Makes b l s (making (build (term (table b) r) (view b e))) m (set e u 1) o p (record { at = i; stop = y })
   unfolding programWords eventWords firstIn
   atom-makes {u = u} d z f q c x t =
       let n = few-rows b v in
@@ -48,7 +49,7 @@ module _ {b l : List ℕ} (e : List ℕ) {s r : ℕ} (v : Valid b) (h : r < rows
       (record {
         holds = ap (λ a. view b (set e a 1)) c ∙ one-set b e v r h (sym f ∙ q) (omega arith);
         wrote = x;
-        found = t;
+        stops = t;
         size = length-set e u 1 ∙ j;
       })
       (making-atom b e v r h (ap (λ a. getD e a 0) (sym d) ∙ z) (sym f ∙ q))
@@ -72,7 +73,7 @@ makes-then b l s g f x y =
     record {
       holds = w .holds;
       wrote = wrote-as (wrote-then (x .wrote) (w .wrote)) (news-append (rowOf b) (g .made) (f (g .dictionary) .made));
-      found = w .found ∙ rw (x .found) (sym (first-append (takenIn l s) _ (g .made) (f (g .dictionary) .made)));
+      stops = w .stops ∙ rw (x .stops) (sym (first-append (againstIn l s) s _ (g .made) (f (g .dictionary) .made)));
       size = w .size;
     }
 
@@ -97,7 +98,7 @@ pub record News (b e : List ℕ) (f n a : ℕ) (m : Made) : Type 0 where
   pub few : length (buildAll (terms (table b) (listAt b f n)) (view b e) .made) ≤ stepSize
 
 pub news : {b l e : List ℕ} {s f n a : ℕ} {after o p : List ℕ} {m : Made} → SendReady b f n e a
-    → Makes b l s (allMaking (buildAll (terms (table b) (listAt b f n)) (view b e))) (record { at = a; taken = 0 }) after o p m
+    → Makes b l s (allMaking (buildAll (terms (table b) (listAt b f n)) (view b e))) (record { at = a; stop = nowhere s }) after o p m
     → News b e f n a m
 news {b} {e = e} {f = f} {n = n} ready x =
     let few = ready .few in
@@ -108,14 +109,14 @@ news {b} {e = e} {f = f} {n = n} ready x =
 
 -- the SEND stands at w, which is the place behind the NEWs
 pub sends : {b l e : List ℕ} {s f n c a w k : ℕ} {after o p q t : List ℕ} {m : Made} {i z : ℕ} → SendReady b f n e a → c ≡ n
-    → Makes b l s (allMaking (buildAll (terms (table b) (listAt b f n)) (view b e))) (record { at = a; taken = 0 }) after o p m
+    → Makes b l s (allMaking (buildAll (terms (table b) (listAt b f n)) (view b e))) (record { at = a; stop = nowhere s }) after o p m
     → Wrote (2 ∷ s ∷ c ∷ []) p w q i → w ≡ m .at → Wrote (imagesAt b after f n) q i t z → k ≡ (m .at - a) / 2
-    → Sends b l s (buildAll (terms (table b) (listAt b f n)) (view b e)) a after o t (record { at = z; made = k; taken = m .taken })
+    → Sends b l s (buildAll (terms (table b) (listAt b f n)) (view b e)) a after o t (record { at = z; made = k; stop = m .stop })
 sends {b} {e = e} {s = s} {f = f} {n = n} {after = after} ready d x y g z dk =
     record {
       holds = x .holds;
       wrote = wrote-as (wrote-then (x .wrote) (wrote-then (rw g at y) z)) (sent-words b after s f n (view b e) (x .holds) ∙ rw d);
       made = let many = news ready x .words in omega arith;
-      found = x .found;
+      stops = x .stops;
       size = x .size;
     }

@@ -1,8 +1,7 @@
 -- Sending as the code does it: the atoms of a step's messages are made first, each with its NEW, then one SEND is written with the
--- messages' images. What is made and written is `buildAll`'s and `sent`'s; of the atoms made, the first that is taken is noted, since
--- "making a taken atom is refusal 10" and its place is the "first such row in building order" (document 01).
+-- messages' images. What is made and written is `buildAll`'s and `sent`'s; of the atoms made, the first that can't be made is where making
+-- stops, since "making a taken atom is refusal 10" and its place is the "first such row in building order" (document 01).
 use Prim.Native.Nat.{ℕ, _+_, _*_, _≤_}
-use mathlib.Core.Bool.{Bool}
 use mathlib.Core.List.{List, [], _∷_, map}
 use mathlib.Core.Path.{_≡_}
 use lib.Dec.{eqb}
@@ -12,6 +11,8 @@ use Rattle.words.specs.Overlay.{cap, Wrote}
 use Rattle.terms.specs.Table.{terms}
 use Rattle.book.specs.Layout.{rows, table, listAt}
 use Rattle.book.specs.Span.{Span}
+use Rattle.book.specs.Stop.{stop, nowhere}
+use Rattle.book.specs.declared.Stop.{Stop}
 use Rattle.book.specs.Valid.{Valid}
 use Rattle.translation.specs.Dictionary.{Dictionary}
 use Rattle.translation.specs.Build.{Built, AllBuilt, buildAll}
@@ -36,22 +37,26 @@ making b = record { dictionary = b .dictionary; made = b .made }
 abbrev pub allMaking : AllBuilt → Making
 allMaking b = record { dictionary = b .dictionary; made = b .made }
 
--- ---- the first taken atom
--- what was found before stays; else one more than row r if that is taken, else 0
-unfoldable pub orTaken : ℕ → Bool → ℕ → ℕ
-orTaken x t r = pick (eqb x 0) (pick t (r + 1) 0) x
+-- ---- the first atom that can't be made
+-- what stands against making the atom of row r at step s, by the table l: the number of the refusal, or 0
+unfoldable pub againstIn : List ℕ → ℕ → ℕ → ℕ
+againstIn l s r = pick (takenIn l s r) 10 0
 
--- what was found before, or one more than the first of the rows that is taken, or 0
-unfoldable pub firstIn : (ℕ → Bool) → ℕ → List ℕ → ℕ
-firstIn t x [] = x
-firstIn t x (r ∷ rs) = firstIn t (orTaken x (t r) r) rs
+-- where it stopped before, x; else at row r of step s, if n is what stands against that
+unfoldable pub orStop : Stop → ℕ → ℕ → ℕ → Stop
+orStop x n s r = pick (eqb (x .number) 0) (pick (eqb n 0) x (stop n s r)) x
+
+-- where it stopped before, or at the first of the rows of step s against which something stands, as w tells
+unfoldable pub firstIn : (ℕ → ℕ) → ℕ → Stop → List ℕ → Stop
+firstIn w s x [] = x
+firstIn w s x (r ∷ rs) = firstIn w s (orStop x (w r) s r) rs
 
 -- ---- what code leaves behind, in the book b with the table l of what is taken from which step on, at step s
 -- atoms were made: m became r, out became outAfter, and the entries afterwards are e
 pub record Makes (b l : List ℕ) (s : ℕ) (g : Making) (m : Made) (e out outAfter : List ℕ) (r : Made) : Type 0 where
   pub holds : view b e ≡ g .dictionary
   pub wrote : Wrote (programWords (rowOf b) (map Event.new (g .made))) out (m .at) outAfter (r .at)
-  pub found : r .taken ≡ firstIn (takenIn l s) (m .taken) (g .made)
+  pub stops : r .stop ≡ firstIn (againstIn l s) s (m .stop) (g .made)
   pub size : length e ≡ 1024
 
 -- what sending is handed: n messages, which stand at f in the pool, and the entries e. As many atoms as a step can make may be made, and
@@ -68,5 +73,5 @@ pub record Sends (b l : List ℕ) (s : ℕ) (g : AllBuilt) (a : ℕ) (e out outA
   pub holds : view b e ≡ g .dictionary
   pub wrote : Wrote (programWords (rowOf b) (sent s g .events)) out a outAfter (r .at)
   pub made : r .made ≡ length (g .made)
-  pub found : r .taken ≡ firstIn (takenIn l s) 0 (g .made)
+  pub stops : r .stop ≡ firstIn (againstIn l s) s (nowhere s) (g .made)
   pub size : length e ≡ 1024

@@ -1,8 +1,9 @@
 // Figure 3's S: what a party does to send a step's messages. `send` writes a NEW for each atom that has to be made, in building
-// order, then the SEND with its images, and tells how many atoms were made and the first of them that is taken.
+// order, then the SEND with its images, and tells how many atoms were made and where making them stops: at the first that is taken.
 use book::ByRow;
 use book::Code;
 use book::Kind;
+use book::Stop;
 use book::entry;
 use book::row_count;
 use book::row_first;
@@ -23,19 +24,19 @@ ghost use Rattle.translation.specs.Build.{build, buildAll};
 ghost use Rattle.holding.specs.View.{view};
 ghost use Rattle.book.specs.Span.{Span};
 ghost use Rattle.claims.specs.Since.{takenIn};
-ghost use Rattle.sending.specs.Sending.{making, allMaking, orTaken, SendReady, Makes, Sends};
+ghost use Rattle.sending.specs.Sending.{making, allMaking, againstIn, orStop, SendReady, Makes, Sends};
 
-// Where the next word goes, and one more than the row of the first taken atom that was made (0 if none was).
+// Where the next word goes, and where making stopped.
 struct Made {
     at: usize,
-    taken: u32,
+    stop: Stop,
 }
 
-// What sending left: where the next word goes, how many atoms were made, and one more than the row of the first taken one.
+// What sending left: where the next word goes, how many atoms were made, and where making them stopped.
 pub struct Sent {
     pub at: usize,
     pub made: u32,
-    pub taken: u32,
+    pub stop: Stop,
 }
 
 // The atom of that row is taken at the step.
@@ -50,18 +51,30 @@ fn is_taken(since: &ByRow, row: u32, step: u32) -> bool
     from - 1 <= step
 }
 
-// What was found so far, or one more than the row if its atom is taken.
-fn first_taken(since: &ByRow, row: u32, step: u32, found: u32) -> u32
+// What stands against making the atom of that row at the step: the number of the refusal, or 0.
+fn against(since: &ByRow, row: u32, step: u32) -> u32
     requires { ⌜ row < 1024 ⌝ }
-    ensures { λ r. ⌜ r ≡ orTaken found (takenIn (now (since .entry)) step row) row ⌝ }
+    ensures { λ r. ⌜ r ≡ againstIn (now (since .entry)) step row ⌝ }
 {
-    if found != 0 {
-        return found;
-    }
     if is_taken(since, row, step) {
-        return row + 1;
+        return Stop::TAKEN;
     }
     0
+}
+
+// Where making stopped before, or else here if something stands against the row's atom.
+fn first_stop(since: &ByRow, row: u32, step: u32, before: Stop) -> Stop
+    requires { ⌜ row < 1024 ⌝ }
+    ensures { λ r. ⌜ r ≡ orStop before (againstIn (now (since .entry)) step row) step row ⌝ }
+{
+    if before.number != 0 {
+        return before;
+    }
+    let number = against(since, row, step);
+    if number == 0 {
+        return before;
+    }
+    Stop { number, step, row }
 }
 
 // Makes the atoms of a row that are not held, parts first, and writes a NEW for each.
@@ -83,8 +96,9 @@ fn make(
     if row_kind(book, row) == Kind::ATOM {
         entries[wide(row)] = 1;
         let at = put2(out, m.at, Code::NEW, row);
-        let taken = first_taken(since, row, step, m.taken);
-        return Made { at, taken };
+        let before = m.stop;
+        let stop = first_stop(since, row, step, before);
+        return Made { at, stop };
     }
     make_list(
         book,
@@ -154,6 +168,11 @@ pub fn send(
     ensures { λ r. ⌜ Sends (now (book .entry)) (now (since .entry)) step (buildAll (terms (table (now (book .entry))) (listAt (now (book .entry)) first n)) (view (now (book .entry)) (now (entries .entry)))) at (now (entries .exit)) (now (out .entry)) (now (out .exit)) r ⌝ }
 {
     let bound = rows(book);
+    let nowhere = Stop {
+        number: 0,
+        step,
+        row: 0,
+    };
     let m = make_list(
         book,
         since,
@@ -162,14 +181,15 @@ pub fn send(
         bound,
         first,
         n,
-        Made { at, taken: 0 },
+        Made { at, stop: nowhere },
         out,
     );
     let next = put3(out, m.at, Code::SEND, step, narrow(n));
     let end = write_images(book, entries, bound, first, n, out, next);
+    let stop = m.stop;
     Sent {
         at: end,
         made: narrow((m.at - at) / 2),
-        taken: m.taken,
+        stop,
     }
 }

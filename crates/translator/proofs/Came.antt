@@ -1,6 +1,6 @@
 -- What translating says, and what comes of it: refusals 1 to 9 are the reader's; of a valid book refusal 10 comes next, then refusal
 -- 12, and then the output. Assumes nothing.
-use Prim.Native.Nat.{ℕ, _-_, _<_}
+use Prim.Native.Nat.{ℕ}
 use mathlib.Core.List.{List, [], _∷_, _++_}
 use mathlib.Core.Path.{_≡_, refl, sym, ap, _∙_}
 use native.Mathlib.Omega.{arith}
@@ -9,13 +9,15 @@ use Rattle.words.specs.First.Laws.{first-at, first-end}
 use Rattle.words.specs.Overlay.{Wrote}
 use Rattle.book.specs.Layout.{parties, steps}
 use Rattle.book.specs.declared.Refusal.{Refusal}
-use Rattle.book.specs.declared.Refusal.the-variants.{Taken}
 use Rattle.book.specs.declared.Reading.{Reading}
 use Rattle.book.specs.declared.Reading.the-variants as reading
 use Rattle.book.specs.Said.{Said, said, accepted, refusalSays, readingSays}
 use Rattle.book.specs.Said.Laws.{refusal-number}
 use Rattle.book.specs.Refusals.{Line, firstOf, readingTable, verdict}
 use Rattle.book.specs.Refusals.Laws.{firstOf-none, firstOf-stop, scan-here, scan-on, all-keep}
+use Rattle.book.specs.Stop.{stopSays}
+use Rattle.book.specs.Stop.Laws.{stop-accepts, stop-refuses}
+use Rattle.book.specs.declared.Stop.{Stop}
 use Rattle.book.specs.Valid.{Valid}
 use Rattle.book.specs.Valid.Laws.{nine, reading-lines, valid-keep, accepted-valid}
 use Rattle.translation.specs.Narration.{narration}
@@ -25,8 +27,9 @@ use Rattle.translation.specs.Outcome.{takenLine, acceptance, translationSays, o
 use Rattle.translation.specs.Outcome.Laws.{came-refused, came-written}
 use Rattle.translation.specs.declared.Answer.{Answer}
 use Rattle.translation.specs.declared.Answer.the-variants.{Written, Refused}
-use Rattle.translator.specs.Among.{FoundAmong}
-use Rattle.translator.specs.Among.Laws.{found-none, found-one}
+use Rattle.walking.specs.Stops.{stopOf}
+use Rattle.translator.specs.Among.{StopsAmong}
+use Rattle.translator.specs.Among.Laws.{nobody-playable, refused-first}
 use Rattle.translator.specs.Surveyed.{Surveyed, fitted}
 use Rattle.translator.specs.Surveyed.Laws.{fitted-says}
 use Rattle.translator.specs.declared.Findings.{Findings}
@@ -49,7 +52,7 @@ module _ (b : List ℕ) (r : Reading) (f : Refusal) (d : readingSays r ≡ verdi
 pub accepted-book : (b : List ℕ) (r : Reading) → readingSays r ≡ verdict b → r ≡ reading.Accepted → Valid b
 accepted-book b r d k = accepted-valid b .0 (sym d ∙ ap readingSays k)
 
--- ---- refusal 10 of a valid book: what it says of the find (s, t) over all parties
+-- ---- refusal 10 of a valid book: where the first of the walks stops
 module _ {b : List ℕ} (v : Valid b) where
   -- the reader's lines pass it
   passes : (ls : List Line) (rest : Said) → firstOf (readingTable b ++ ls) rest ≡ firstOf ls rest
@@ -59,25 +62,17 @@ module _ {b : List ℕ} (v : Valid b) where
   abbrev place : ℕ → List ℕ
   place k = k ∷ firstTaken (narration b) k ∷ []
 
-  module _ {s t : ℕ} (f : FoundAmong b (parties b) s t) where
-    -- a find is the first unplayable step, with its atom
-    pub taken-accept : (t ≡ 0 → ⊥) → readingSays (reading.Refused (Taken s (t - 1))) ≡ acceptance b
-    unfolding acceptance takenLine
-    taken-accept z =
-        let u = found-one v f z in
-        let d = u .atom in
-        let a : t - 1 ≡ firstTaken (narration b) s = omega arith in
-        let here = first-at (unplayable (narration b)) (steps b) s (u .within) (u .before) (u .here) in
-        ap (λ r. said 10 (s ∷ r ∷ [])) a
-        ∙ sym (passes _ accepted ∙ scan-here 10 (steps b) (unplayable (narration b)) place [] accepted s here (u .within))
-
-    -- no find: every step is playable
-    pub none-accept : t ≡ 0 → readingSays reading.Accepted ≡ acceptance b
-    unfolding acceptance takenLine
-    none-accept z =
-        let nowhere = first-end (unplayable (narration b)) (steps b) (steps b) refl (found-none v f z) in
-        let on = scan-on 10 (steps b) (unplayable (narration b)) place [] accepted (steps b) nowhere (omega arith) in
-        sym (passes _ accepted ∙ on ∙ firstOf-none accepted)
+  pub stop-accept : {x : Stop} → StopsAmong b (parties b) x → stopSays x ≡ acceptance b
+  unfolding acceptance takenLine
+  stop-accept (StopsAmong.none n) =
+      let nowhere = first-end (unplayable (narration b)) (steps b) (steps b) refl (nobody-playable v n) in
+      let on = scan-on 10 (steps b) (unplayable (narration b)) place [] accepted (steps b) nowhere (omega arith) in
+      stop-accepts _ refl ∙ sym (passes _ accepted ∙ on ∙ firstOf-none accepted)
+  stop-accept (StopsAmong.one {s = s} {p = p} l m r n) =
+      let u = refused-first v p m r n in
+      let here = first-at (unplayable (narration b)) (steps b) s m (u .before) (u .here) in
+      stop-refuses (stopOf b s) (λ z. absurd (omega arith))
+      ∙ sym (passes _ accepted ∙ scan-here 10 (steps b) (unplayable (narration b)) place [] accepted s here m)
 
 -- ---- the survey's findings are carried out: what a translation says came of the call
 module _ {b : List ℕ} {r : Findings} (s : Surveyed b r) (out : List ℕ) {n : ℕ} {a : Answer} (d : n ≡ length out)

@@ -11,7 +11,8 @@ use Rattle.book.specs.Said.{Said, said, readingSays}
 use Rattle.translation.specs.Listing.{listing}
 use Rattle.translation.specs.Outcome.{acceptance}
 use Rattle.walking.specs.Placed.{Placed}
-use Rattle.translator.specs.Among.{FoundAmong}
+use Rattle.book.specs.declared.Stop.{Stop}
+use Rattle.translator.specs.Among.{StopsAmong}
 use Rattle.translator.specs.Parts.{headsOf, HeadsIn}
 use Rattle.translator.specs.Ready.{Writable}
 use Rattle.translator.specs.declared.Findings.{Findings}
@@ -24,12 +25,12 @@ pub record Lists (x y z : List ℕ) : Type 0 where
   pub ends : length z ≡ 16
 
 -- the heads were written into `old` from `at` on, which left `new` and the next place `next`; x, y and z have the places of the programs'
--- events; the last program ends at `end`
-pub record WroteHeads (b old : List ℕ) (at : ℕ) (new : List ℕ) (next : ℕ) (x y z : List ℕ) (end step taken : ℕ) : Type 0 where
-  pub wrote : taken ≡ 0 → Wrote (headsOf b) old at new next
-  pub ends : taken ≡ 0 → end ≡ length (listing b)
-  pub placed : taken ≡ 0 → Placed b x y z
-  pub found : FoundAmong b (parties b) step taken
+-- events; the last program ends at `end`; and the first of the walks to stop does so at t
+pub record WroteHeads (b old : List ℕ) (at : ℕ) (new : List ℕ) (next : ℕ) (x y z : List ℕ) (end : ℕ) (t : Stop) : Type 0 where
+  pub wrote : t .number ≡ 0 → Wrote (headsOf b) old at new next
+  pub ends : t .number ≡ 0 → end ≡ length (listing b)
+  pub placed : t .number ≡ 0 → Placed b x y z
+  pub stops : StopsAmong b (parties b) t
 
 -- of the words b, whichever they are
 pub record Surveyed (b : List ℕ) (r : Findings) : Type 0 where

@@ -5,6 +5,7 @@
 use book::ByRow;
 use book::Reading;
 use book::Refusal;
+use book::Stop;
 use book::parties;
 use book::steps;
 use claims::claims;
@@ -26,16 +27,17 @@ ghost use Rattle.book.specs.Said.{readingSays};
 ghost use Rattle.translation.specs.Listing.{listing};
 ghost use Rattle.translation.specs.Long.{mostListing};
 ghost use Rattle.translation.specs.Outcome.{acceptance, outcome, answerSays, came};
+ghost use Rattle.book.specs.Stop.{stopSays};
+ghost use Rattle.translator.specs.Among.{Refusable};
 ghost use Rattle.translator.specs.Parts.{HeadsIn, bodiesOf};
 ghost use Rattle.translator.specs.Ready.{Ready, Writable};
 ghost use Rattle.translator.specs.Surveyed.{Lists, WroteHeads, Surveyed, fitted};
 
-// Behind the heads: where the next word goes, where the last program ends, and the first step at which a taken atom would be made.
+// Behind the heads: where the next word goes, where the last program ends, and where the first of the parties' walks stops.
 struct Heads {
     at: usize,
     end: usize,
-    step: u32,
-    taken: u32,
+    stop: Stop,
 }
 
 // What is known of any words before anything is written: refusals 1 to 10 or, where there is none, the tables of claims and of partners,
@@ -51,9 +53,8 @@ pub struct Findings {
     pub ends: [u32; 16],
 }
 
-// Offset and count of each party's program; the first begins behind them. The places of its events are noted on the way. Where a party
-// would make a taken atom there is no output, so what is written then says nothing, and the parties that follow are asked about the steps
-// before alone.
+// Offset and count of each party's program; the first begins behind them. The places of its events are noted on the way. Where a party's
+// walk stops there is no output, so what is written then says nothing, and the parties that follow are asked about the steps before alone.
 fn write_heads(
     book: &[u32],
     since: &ByRow,
@@ -65,31 +66,34 @@ fn write_heads(
     ends: &mut [u32],
 ) -> Heads
     requires { ⌜ Ready (now book) (now since) (now partners) × Lists (now sends) (now receives) (now ends) ⌝ }
-    ensures { λ r. ⌜ WroteHeads (now (book .entry)) (now (out .entry)) at (now (out .exit)) (r .at) (now (sends .exit)) (now (receives .exit)) (now (ends .exit)) (r .end) (r .step) (r .taken) × Lists (now (sends .exit)) (now (receives .exit)) (now (ends .exit)) ⌝ }
+    ensures { λ r. ⌜ WroteHeads (now (book .entry)) (now (out .entry)) at (now (out .exit)) (r .at) (now (sends .exit)) (now (receives .exit)) (now (ends .exit)) (r .end) (r .stop) × Lists (now (sends .exit)) (now (receives .exit)) (now (ends .exit)) ⌝ }
 {
     let n = parties(book);
     let mut next = at;
     let mut end = 1 + 2 * wide(n);
     let all = steps(book);
-    let mut step = all;
-    let mut taken = 0;
+    let mut stop = Stop {
+        number: 0,
+        step: all,
+        row: 0,
+    };
     let mut party = 0;
     while party < n {
-        let part = measure(book, since, partners, party, step, sends, receives);
+        let upto = stop.step;
+        let part = measure(book, since, partners, party, upto, sends, receives);
         put(ends, wide(party), part.events);
         next = put2(out, next, narrow(end), narrow(part.words));
         end += part.words;
-        if part.taken != 0 {
-            step = part.step;
-            taken = part.taken;
+        let sooner = part.stop;
+        if sooner.number != 0 {
+            stop = sooner;
         }
         party += 1;
     }
     Heads {
         at: next,
         end,
-        step,
-        taken,
+        stop,
     }
 }
 
@@ -125,6 +129,17 @@ fn write_listing(
     write_bodies(book, since, partners, out, next)
 }
 
+// What the walks say of the book by where they stop.
+fn reading_of(stop: Stop) -> Reading
+    requires { ⌜ Refusable stop ⌝ }
+    ensures { λ r. ⌜ readingSays r ≡ stopSays stop ⌝ }
+{
+    if stop.number == Stop::TAKEN {
+        return Reading::Refused(Refusal::Taken(stop.step, stop.row));
+    }
+    Reading::Accepted
+}
+
 // Refusal 10 or, where there is none, all that is known before anything is written.
 fn survey_valid(book: &[u32]) -> Findings
     requires { ⌜ Valid (now book) ⌝ }
@@ -147,20 +162,8 @@ fn survey_valid(book: &[u32]) -> Findings
         &mut ends,
     );
     let end = all.end;
-    if all.taken != 0 {
-        let reading = Reading::Refused(Refusal::Taken(all.step, all.taken - 1));
-        return Findings {
-            reading,
-            since,
-            partners,
-            heads,
-            end,
-            sends,
-            receives,
-            ends,
-        };
-    }
-    let reading = Reading::Accepted;
+    let stop = all.stop;
+    let reading = reading_of(stop);
     Findings {
         reading,
         since,

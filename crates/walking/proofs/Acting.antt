@@ -33,7 +33,8 @@ use Rattle.sending.specs.declared.Sent.{Sent}
 use Rattle.receiving.specs.declared.Received.{Received}
 use Rattle.receiving.specs.Turn.{inTurn}
 use Rattle.receiving.specs.Receiving.{standing, listDid, ListReady, Led, Brought}
-use Rattle.walking.specs.Found.{foundAt}
+use Rattle.book.specs.Stop.{nowhere}
+use Rattle.walking.specs.Stops.{stopsIn}
 use Rattle.walking.specs.Walking.{actDid, ActReady, Acting}
 
 -- ---- the party sends the step
@@ -60,8 +61,8 @@ module _ {b ps : List ℕ} {p s : ℕ} {x : Received} {f n : ℕ} (ready : ActRe
 
   pub acts-send : {l : List ℕ} {z : ℕ} {e out outAfter log : List ℕ} {m : Sent} → z ≡ sender b s → z ≡ p
       → Sends b l s (buildAll (terms (table b) (listAt b f n)) (view b (x .dictionary .entries))) (x .at) e out outAfter m
-      → Acting b l p s x log log out outAfter (standing e (x .dictionary .next) (x .dictionary .kept) (m .at)) (m .made) (m .made + 1) (m .taken)
-  unfolding pairWords foundAt
+      → Acting b l p s x log log out outAfter (standing e (x .dictionary .next) (x .dictionary .kept) (m .at)) (m .made) (m .made + 1) (m .stop)
+  unfolding pairWords stopsIn
   acts-send {m = m} dz e w =
       let same = messages-at b s _ _ df dn in
       let δ = view b (x .dictionary .entries) in
@@ -82,7 +83,7 @@ module _ {b ps : List ℕ} {p s : ℕ} {x : Received} {f n : ℕ} (ready : ActRe
         ahead = omega arith;
         sends = λ q. refl;
         receives = λ q. absurd (ready .valid .stepsKeep s (ready .step) .two (is ∙ sym q));
-        found = w .found ∙ sym (pick-true _ _ _ (eq-eqb (sender b s) p is) ∙ rw (← same));
+        stops = w .stops ∙ sym (pick-true _ _ _ (eq-eqb (sender b s) p is) ∙ rw (← same));
         size = w .size;
       }
 
@@ -156,8 +157,8 @@ module _ {b : List ℕ} {p s : ℕ} {x : Received} {f n z y : ℕ} where
       → c ≡ n → Wrote (3 ∷ s ∷ x .dictionary .next ∷ c ∷ []) out (x .at) middle a
       → Brought b (listDid b f n x) (record { dictionary = x .dictionary; at = a }) log logAfter middle outAfter r
       → m ≡ (r .dictionary .kept - x .dictionary .kept) / 2
-      → Acting b l p s x log logAfter out outAfter r 0 (1 + (r .dictionary .next - x .dictionary .next) - m) 0
-  unfolding pairWords programWords eventWords foundAt
+      → Acting b l p s x log logAfter out outAfter r 0 (1 + (r .dictionary .next - x .dictionary .next) - m) (nowhere s)
+  unfolding pairWords programWords eventWords stopsIn
   acts-receive {log = log} {out = out} {middle = middle} {a = a} ready df dn dz e dy h dc w t dm =
       let head : Led b (announced b s n x) x log log out middle (record { dictionary = x .dictionary; at = a }) =
       record { holds = refl; goes = sym (add-zero _); wrote = wrote-as w (rw dc); keeps = wrote-none } in
@@ -172,15 +173,15 @@ module _ {b : List ℕ} {p s : ℕ} {x : Received} {f n z y : ℕ} where
         ahead = omega arith;
         sends = λ q. absurd (e (dz ∙ q));
         receives = λ q. refl;
-        found = sym (pick-false _ _ _ (ne-eqb (sender b s) p (λ q. e (dz ∙ q))));
+        stops = sym (pick-false _ _ _ (ne-eqb (sender b s) p (λ q. e (dz ∙ q))));
         size = t .size;
       }
 
 -- ---- it has no part in the step
 pub acts-idle : {b l : List ℕ} {p s : ℕ} {x : Received} {z y : ℕ} {log out : List ℕ} → length (x .dictionary .entries) ≡ 1024
     → z ≡ sender b s → (z ≡ p → ⊥) → y ≡ receiver b s → (y ≡ p → ⊥)
-    → Acting b l p s x log log out out x 0 0 0
-unfolding foundAt
+    → Acting b l p s x log log out out x 0 0 (nowhere s)
+unfolding stopsIn
 acts-idle {b} {p = p} {s = s} {x = x} size dz e dy h =
     let no : sender b s ≡ p → ⊥ = λ q. e (dz ∙ q) in
     let did = step-idle b p s (view b (x .dictionary .entries)) (x .dictionary .next) no (λ q. h (dy ∙ q)) in
@@ -190,6 +191,6 @@ acts-idle {b} {p = p} {s = s} {x = x} size dz e dy h =
       ahead = omega arith;
       sends = λ q. absurd (no q);
       receives = λ q. refl;
-      found = sym (pick-false _ _ _ (ne-eqb (sender b s) p no));
+      stops = sym (pick-false _ _ _ (ne-eqb (sender b s) p no));
       size = size;
     }

@@ -9,9 +9,9 @@ use Rattle.words.specs.Overlay.Laws.{wrote-length}
 use Rattle.terms.specs.Table.{term}
 use Rattle.book.specs.Layout.{table, rows, steps, known, sender, receiver}
 use Rattle.book.specs.Valid.{Valid}
+use Rattle.book.specs.Stop.{nowhere}
+use Rattle.book.specs.declared.Stop.{Stop}
 use Rattle.translation.specs.Dictionary.{start}
-use Rattle.translation.specs.Narration.{narration}
-use Rattle.translation.specs.Taken.{firstTaken}
 use Rattle.translation.specs.Receive.{Did}
 use Rattle.translation.specs.Places.{placesOf}
 use Rattle.translation.specs.Steps.{before}
@@ -24,8 +24,8 @@ use Rattle.receiving.specs.declared.Dictionary.{Dictionary}
 use Rattle.receiving.specs.declared.Received.{Received}
 use Rattle.walking.specs.Walk.{refusedFor, Unrefused, IdleUntil}
 use Rattle.walking.specs.Walk.Laws.{before-skip}
-use Rattle.walking.specs.Found.{FoundBefore}
-use Rattle.walking.specs.Found.Laws.{found-exact, found-here, unrefused-on, unrefused-skip}
+use Rattle.walking.specs.Stops.{stopOf, StopsBefore}
+use Rattle.walking.specs.Stops.Laws.{stops-exact, stops-here, unrefused-on, unrefused-skip}
 use Rattle.walking.specs.Placed.Laws.{send-place, receive-place, few-events}
 use Rattle.walking.specs.Noted.{NotedStep, StepsNoted}
 use Rattle.walking.specs.Noted.Laws.{noted-lengths, noted-start, noted-on, noted-skip}
@@ -104,7 +104,7 @@ module _ {b l ps : List ℕ} {p upto i a e : ℕ} {log₀ log out₀ out sends�
         room = omega arith;
       }
 
-  module _ {logAfter outAfter : List ℕ} {y : Received} {ahead more t : ℕ} (w : Acting b l p i x log logAfter out outAfter y ahead more t) where
+  module _ {logAfter outAfter : List ℕ} {y : Received} {ahead more : ℕ} {t : Stop} (w : Acting b l p i x log logAfter out outAfter y ahead more t) where
     further : Along b p (i + 1) log₀ logAfter a out₀ outAfter y
     further = along-on b p i (g .along) (w .doing)
 
@@ -137,9 +137,9 @@ module _ {b l ps : List ℕ} {p upto i a e : ℕ} {log₀ log out₀ out sends�
         receive-place b (ready .valid) i in-book ∙ ap (λ o. length (before b o i .events)) q in
         omega arith
 
-    -- what the step found is what refusal 10 says of it
-    exact : t ≡ pick (refusedFor b p i) (firstTaken (narration b) i + 1) 0
-    exact = w .found ∙ found-exact b i in-book l p _ (ready .claims) (ready .party) (g .along .holds)
+    -- where the step stops is where refusal 10 says
+    exact : t ≡ pick (refusedFor b p i) (stopOf b i) (nowhere i)
+    exact = w .stops ∙ stops-exact b i in-book l p _ (ready .claims) (ready .party) (g .along .holds)
 
     module _ {sendsAfter receivesAfter marksAfter : List ℕ} (n : NotedStep b p i (e + ahead) sends sendsAfter receives receivesAfter)
         {word : ℕ} (m : Marks (y .dictionary .entries) word marks marksAfter) (after : word ≡ i + 1) where
@@ -149,10 +149,10 @@ module _ {b l ps : List ℕ} {p upto i a e : ℕ} {log₀ log out₀ out sends�
       noted : StepsNoted b p (i + 1) sends₀ sendsAfter receives₀ receivesAfter
       noted = noted-on (g .noted) n send-there receive-there
 
-      -- ---- a step at which something was found is the last
-      pub walked-stops : {before : List ℕ} → length marksAfter ≡ length before → (t ≡ 0 → ⊥)
+      -- ---- a step at which it stops is the last
+      pub walked-stops : {before : List ℕ} → length marksAfter ≡ length before → (t .number ≡ 0 → ⊥)
           → Walking b p upto log₀ logAfter a out₀ outAfter sends₀ sendsAfter receives₀ receivesAfter before marksAfter
-          (record { kept = y .dictionary .kept; at = y .at; events = e + more; step = i; taken = t })
+          (record { kept = y .dictionary .kept; at = y .at; events = e + more; stop = t })
       walked-stops same z =
           let j = in-book in
           record {
@@ -165,19 +165,19 @@ module _ {b l ps : List ℕ} {p upto i a e : ℕ} {log₀ log out₀ out sends�
             noted = noted;
             marked = marked;
             marks-size = same;
-            found = found-here b p i t exact h (g .unrefused) z;
+            stops = stops-here b p i t exact h (g .unrefused) z;
             whole = λ q m. absurd (z q);
           }
 
       -- ---- else the walk goes on to the party's next step
-      pub walked-on : {j : ℕ} → t ≡ 0 → IdleUntil b p (i + 1) j
+      pub walked-on : {j : ℕ} → t .number ≡ 0 → IdleUntil b p (i + 1) j
           → Walked b p j log₀ logAfter a out₀ outAfter y (e + more) sends₀ sendsAfter receives₀ receivesAfter marks₀ marksAfter
       walked-on z idle = walked-skip idle further (w .size) counted noted marked (m .size ∙ g .marks-size)
           (let size = m .size in let few = g .few in omega arith) (unrefused-on b p i t exact (g .unrefused) z)
 
 -- ---- what was lent keeps its length
 module _ {b l : List ℕ} {p i a e : ℕ} {log₀ log logAfter out₀ out outAfter sends₀ sends receives₀ receives marks₀ marks : List ℕ}
-    {x y : Received} {ahead more t : ℕ} (g : Walked b p i log₀ log a out₀ out x e sends₀ sends receives₀ receives marks₀ marks)
+    {x y : Received} {ahead more : ℕ} {t : Stop} (g : Walked b p i log₀ log a out₀ out x e sends₀ sends receives₀ receives marks₀ marks)
     (w : Acting b l p i x log logAfter out outAfter y ahead more t) where
   pub acted-log : length logAfter ≡ length log₀
   acted-log = wrote-length (w .doing .keeps) ∙ wrote-length (g .along .keeps)
@@ -195,11 +195,11 @@ module _ {b : List ℕ} {p i a e : ℕ} {log₀ log out₀ out sends₀ sends se
   pub noted-receives : length receivesAfter ≡ length receives₀
   noted-receives = noted-lengths n .1 ∙ g .noted .receives .size
 
--- ---- nothing was found
+-- ---- it stopped nowhere
 pub walked-ends : {b : List ℕ} {p upto i a e : ℕ} {log₀ log out₀ out sends₀ sends receives₀ receives marks₀ marks : List ℕ} {x : Received}
     → Walked b p i log₀ log a out₀ out x e sends₀ sends receives₀ receives marks₀ marks → {before : List ℕ} → length marks ≡ length before
     → upto ≤ i → Walking b p upto log₀ log a out₀ out sends₀ sends receives₀ receives before marks
-    (record { kept = x .dictionary .kept; at = x .at; events = e; step = upto; taken = 0 })
+    (record { kept = x .dictionary .kept; at = x .at; events = e; stop = nowhere upto })
 walked-ends {i = i} {x = x} g same h =
     record {
       far = i;
@@ -211,6 +211,6 @@ walked-ends {i = i} {x = x} g same h =
       noted = g .noted;
       marked = g .marked;
       marks-size = same;
-      found = FoundBefore.none (λ k l. g .unrefused k (omega arith));
+      stops = StopsBefore.none (λ k l. g .unrefused k (omega arith));
       whole = λ q z. let m = g .within in omega arith;
     }

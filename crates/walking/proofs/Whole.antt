@@ -16,7 +16,7 @@ use Rattle.receiving.specs.declared.Received.{Received}
 use Rattle.receiving.specs.Receiving.{standing}
 use Rattle.walking.specs.declared.Passed.{Passed}
 use Rattle.walking.specs.Walk.{Unrefused}
-use Rattle.walking.specs.Found.Laws.{found-unrefused}
+use Rattle.walking.specs.Stops.Laws.{stops-unrefused}
 use Rattle.walking.specs.Marked.{Marked}
 use Rattle.walking.specs.Walking.{Along, Walking, Measures}
 use Rattle.walking.specs.Placed.Laws.{end-place}
@@ -27,7 +27,7 @@ module _ {b : List ℕ} (v : Valid b) {p : ℕ} (h : p < parties b) where
   -- ---- measured: the words of the events, two of END, and two for each pair
   measured-words : {upto : ℕ} {log logAfter out outAfter x xAfter y yAfter z zAfter : List ℕ} {r : Passed}
       → Walking b p upto log logAfter 0 out outAfter x xAfter y yAfter z zAfter r
-      → r .taken ≡ 0 → upto ≡ steps b → r .at + 2 + r .kept ≡ length (partWords b p)
+      → r .stop .number ≡ 0 → upto ≡ steps b → r .at + 2 + r .kept ≡ length (partWords b p)
   measured-words {log = log} {logAfter = logAfter} {out = out} {outAfter = outAfter} {r = r} g z e =
       let w : Along b p (steps b) log logAfter 0 out outAfter (standing (g .entries) (g .next) (r .kept) (r .at)) = rw (g .whole z e) at (g .along) in
       let a = ends-at v p (omega arith) (omega arith) w in
@@ -37,7 +37,7 @@ module _ {b : List ℕ} (v : Valid b) {p : ℕ} (h : p < parties b) where
 
   pub measured : {upto : ℕ} {log logAfter out outAfter x xAfter y yAfter z zAfter : List ℕ} {r : Passed}
       → Walking b p upto log logAfter 0 out outAfter x xAfter y yAfter z zAfter r
-      → Measures b p upto x xAfter y yAfter (record { words = r .at + 2 + r .kept; events = r .events; step = r .step; taken = r .taken })
+      → Measures b p upto x xAfter y yAfter (record { words = r .at + 2 + r .kept; events = r .events; stop = r .stop })
   measured {upto} {x = x} {xAfter = xAfter} {y = y} {yAfter = yAfter} {r = r} g =
       let few = few-places v g in
       let words = few .words in
@@ -51,7 +51,7 @@ module _ {b : List ℕ} (v : Valid b) {p : ℕ} (h : p < parties b) where
         };
         sends-size = g .noted .sends .size;
         receives-size = g .noted .receives .size;
-        found = g .found;
+        stops = g .stops;
       }
 
   -- ---- written: the events, END's first words, and the pairs behind them
@@ -68,7 +68,7 @@ module _ {b : List ℕ} (v : Valid b) {p : ℕ} (h : p < parties b) where
       → Wrote (take (r .kept) logAfter) between i outAfter j → Wrote (partWords b p) out a outAfter j
   programmed {log = log} {logAfter = logAfter} {out = out} {middle = middle} {a = a} {r = r} l q u g d w f =
       let t : Along b p (steps b) log logAfter a out middle (standing (g .entries) (g .next) (r .kept) (r .at)) =
-      rw (g .whole (found-unrefused u (rw q at (g .found))) q) at (g .along) in
+      rw (g .whole (stops-unrefused u (rw q at (g .stops))) q) at (g .along) in
       let k = ends-kept v p (omega arith) t in
       let pairs : r .kept / 2 ≡ length (before b p (steps b) .stored) = omega arith in
       let parts = wrote-then (t .wrote) (wrote-then (rw (d ∙ pairs) at w) (wrote-as f (sym (logged l (few-pairs v g) t)))) in
@@ -79,5 +79,5 @@ pub marked-whole : {b : List ℕ} {p upto a : ℕ} {log logAfter out outAfter x 
     → upto ≡ steps b → Unrefused b p (steps b) → Walking b p upto log logAfter a out outAfter x xAfter y yAfter z zAfter r
     → Marked b p (steps b + 1) zAfter
 marked-whole {b} {p} {zAfter = zAfter} q u g =
-    let all = g .whole (found-unrefused u (rw q at (g .found))) q in
+    let all = g .whole (stops-unrefused u (rw q at (g .stops))) q in
     rw all at (g .marked)

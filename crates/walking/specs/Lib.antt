@@ -1,5 +1,5 @@
 pub mod Walk
-pub mod Found
+pub mod Stops
 pub mod Placed
 pub mod Noted
 pub mod Marked

@@ -18,7 +18,8 @@ use Rattle.receiving.specs.declared.Received.{Received}
 use Rattle.receiving.specs.Receiving.{standing, Fits, Led}
 use Rattle.walking.specs.declared.Passed.{Passed}
 use Rattle.walking.specs.declared.Measured.{Measured}
-use Rattle.walking.specs.Found.{foundAt, FoundBefore}
+use Rattle.book.specs.declared.Stop.{Stop}
+use Rattle.walking.specs.Stops.{stopsIn, StopsBefore}
 use Rattle.walking.specs.Noted.{StepsNoted, PartyNoted}
 use Rattle.walking.specs.Marked.{Marked}
 pub mod Laws
@@ -38,15 +39,15 @@ pub record ActReady (b ps : List ℕ) (p s : ℕ) (x : Received) : Type 0 where
   pub low : x .at + stepWords ≤ cap
   pub room : x .dictionary .kept + 2 * stepSize ≤ cap
 
--- party p's part in step s led from x to y by e events, h of them ahead of the step's SEND or RECEIVE, and t was found. The SEND is the
+-- party p's part in step s led from x to y by e events, h of them ahead of the step's SEND or RECEIVE, and stopped at t. The SEND is the
 -- last event of its step, the RECEIVE the first.
-pub record Acting (b l : List ℕ) (p s : ℕ) (x : Received) (log logAfter out outAfter : List ℕ) (y : Received) (h e t : ℕ) : Type 0 where
+pub record Acting (b l : List ℕ) (p s : ℕ) (x : Received) (log logAfter out outAfter : List ℕ) (y : Received) (h e : ℕ) (t : Stop) : Type 0 where
   pub doing : Led b (actDid b p s x) x log logAfter out outAfter y
   pub events : e ≡ length (actDid b p s x .events)
   pub ahead : h ≤ e
   pub sends : sender b s ≡ p → e ≡ h + 1
   pub receives : receiver b s ≡ p → h ≡ 0
-  pub found : t ≡ foundAt b l p s (view b (x .dictionary .entries))
+  pub stops : t ≡ stopsIn b l p s (view b (x .dictionary .entries))
   pub size : length (y .dictionary .entries) ≡ 1024
 
 -- ---- the steps, one after another
@@ -65,8 +66,8 @@ abbrev pub Along : List ℕ → ℕ → ℕ → List ℕ → List ℕ → ℕ �
 Along b p i log logAfter a out outAfter y =
     Doing b (before b p i) 0 0 log logAfter a out outAfter (y .dictionary .entries) (y .dictionary .next) (y .dictionary .kept) (y .at)
 
--- party p's walk through the steps before `upto`: the steps that it came through, at most all of them, and what it found. x and y are the
--- lists of SENDs and RECEIVEs, m that of marks. Where it looked at all steps and found nothing, it came through all.
+-- party p's walk through the steps before `upto`: the steps that it came through, at most all of them, and where it stopped. x and y are the
+-- lists of SENDs and RECEIVEs, m that of marks. Where it looked at all steps and did not stop, it came through all.
 pub record Walking (b : List ℕ) (p upto : ℕ) (log logAfter : List ℕ) (a : ℕ) (out outAfter x xAfter y yAfter m mAfter : List ℕ) (r : Passed) : Type 0
   where
     pub far : ℕ
@@ -78,14 +79,14 @@ pub record Walking (b : List ℕ) (p upto : ℕ) (log logAfter : List ℕ) (a : 
     pub noted : StepsNoted b p far x xAfter y yAfter
     pub marked : Marked b p (far + 1) mAfter
     pub marks-size : length mAfter ≡ length m
-    pub found : FoundBefore b p upto (r .step) (r .taken)
-    pub whole : r .taken ≡ 0 → upto ≡ steps b → far ≡ steps b
+    pub stops : StopsBefore b p upto (r .stop)
+    pub whole : r .stop .number ≡ 0 → upto ≡ steps b → far ≡ steps b
 
--- and what is measured so: of a walk that looked at all steps and found nothing, the program's words and the places of its events
+-- and what is measured so: of a walk that looked at all steps and did not stop, the program's words and the places of its events
 pub record Measures (b : List ℕ) (p upto : ℕ) (x xAfter y yAfter : List ℕ) (r : Measured) : Type 0 where
-  pub words : r .taken ≡ 0 → upto ≡ steps b → r .words ≡ length (partWords b p)
+  pub words : r .stop .number ≡ 0 → upto ≡ steps b → r .words ≡ length (partWords b p)
   pub few : r .words ≤ mostPart
-  pub noted : r .taken ≡ 0 → upto ≡ steps b → PartyNoted b p x xAfter y yAfter (r .events)
+  pub noted : r .stop .number ≡ 0 → upto ≡ steps b → PartyNoted b p x xAfter y yAfter (r .events)
   pub sends-size : length xAfter ≡ length x
   pub receives-size : length yAfter ≡ length y
-  pub found : FoundBefore b p upto (r .step) (r .taken)
+  pub stops : StopsBefore b p upto (r .stop)

@@ -4,6 +4,7 @@
 // `act` and `next_own` are the walk's parts: one step, and the way to the next.
 use book::ByRow;
 use book::Code;
+use book::Stop;
 use book::rows;
 use book::step_count;
 use book::step_first;
@@ -34,24 +35,22 @@ ghost use Rattle.walking.specs.Marked.{markOf, Marks, Unmarked, Marked};
 ghost use Rattle.walking.specs.Walking.{ActReady, Acting, WalkReady, Walking, Measures};
 
 // What a step left: the next placeholder, the places of the next stored pair and of the next word, the events ahead of its SEND or
-// RECEIVE and all its events, and one more than the first taken atom that the party would make there (0 if there is none).
+// RECEIVE and all its events, and where it stops.
 pub struct Acted {
     pub next: u32,
     pub kept: usize,
     pub at: usize,
     pub ahead: u32,
     pub events: u32,
-    pub taken: u32,
+    pub stop: Stop,
 }
 
-// What the steps left: the places of the next stored pair and of the next word, the number of events, and the first step of its own at
-// which the party would make a taken atom.
+// What the steps left: the places of the next stored pair and of the next word, the number of events, and where the walk stopped.
 pub struct Passed {
     pub kept: usize,
     pub at: usize,
     pub events: u32,
-    pub step: u32,
-    pub taken: u32,
+    pub stop: Stop,
 }
 
 // A party's part in one step, in its entries.
@@ -69,21 +68,27 @@ pub fn act(
     at: usize,
 ) -> Acted
     requires { ⌜ ActReady (now book) (now partners) party step (standing (now entries) next kept at) ⌝ }
-    ensures { λ r. ⌜ Acting (now (book .entry)) (now (since .entry)) party step (standing (now (entries .entry)) next kept at) (now (log .entry)) (now (log .exit)) (now (out .entry)) (now (out .exit)) (standing (now (entries .exit)) (r .next) (r .kept) (r .at)) (r .ahead) (r .events) (r .taken) ⌝ }
+    ensures { λ r. ⌜ Acting (now (book .entry)) (now (since .entry)) party step (standing (now (entries .entry)) next kept at) (now (log .entry)) (now (log .exit)) (now (out .entry)) (now (out .exit)) (standing (now (entries .exit)) (r .next) (r .kept) (r .at)) (r .ahead) (r .events) (r .stop) ⌝ }
 {
     let first = step_first(book, step);
     let n = step_count(book, step);
     if step_sender(book, step) == party {
         let sent = send(book, since, entries, step, first, n, out, at);
+        let stop = sent.stop;
         return Acted {
             next,
             kept,
             at: sent.at,
             ahead: sent.made,
             events: sent.made + 1,
-            taken: sent.taken,
+            stop,
         };
     }
+    let nowhere = Stop {
+        number: 0,
+        step,
+        row: 0,
+    };
     if step_receiver(book, step) == party {
         let last = put4(out, at, Code::RECEIVE, step, next, narrow(n));
         let there = receive_messages(
@@ -106,7 +111,7 @@ pub fn act(
             at: there.at,
             ahead: 0,
             events: 1 + (there.next - next) - stored,
-            taken: 0,
+            stop: nowhere,
         };
     }
     Acted {
@@ -115,7 +120,7 @@ pub fn act(
         at,
         ahead: 0,
         events: 0,
-        taken: 0,
+        stop: nowhere,
     }
 }
 
@@ -187,7 +192,7 @@ fn mark(entries: &ByRow, word: u32, marks: &mut [u32])
 
 // The steps before `upto`, for one party: its events' words go to `out`, what it stores to `log`, the places of its SENDs and RECEIVEs to
 // `sends` and `receives`, by step, and since when it holds each row to `marks`, which has one more than all steps everywhere before. The
-// walk ends with the first step at which the party would make a taken atom, for such a book is refused.
+// walk stops with the first step at which the party would make a taken atom, for such a book is refused.
 pub fn walk(
     book: &[u32],
     since: &ByRow,
@@ -232,33 +237,35 @@ pub fn walk(
         held.kept = acted.kept;
         last = acted.at;
         events += acted.events;
-        if acted.taken != 0 {
+        let stop = acted.stop;
+        if stop.number != 0 {
             return Passed {
                 kept: held.kept,
                 at: last,
                 events,
-                step: i,
-                taken: acted.taken,
+                stop,
             };
         }
         i = next_own(book, party, i + 1);
     }
+    let nowhere = Stop {
+        number: 0,
+        step: upto,
+        row: 0,
+    };
     Passed {
         kept: held.kept,
         at: last,
         events,
-        step: upto,
-        taken: 0,
+        stop: nowhere,
     }
 }
 
-// A party's program, measured: how many words it has, how many events before its END, and the first step at which the party would make
-// a taken atom.
+// A party's program, measured: how many words it has, how many events before its END, and where its walk stopped.
 pub struct Measured {
     pub words: usize,
     pub events: u32,
-    pub step: u32,
-    pub taken: u32,
+    pub stop: Stop,
 }
 
 // The walk with nothing lent for words. Steps from `upto` on are not looked at: all are before it, or a smaller one is refused
@@ -291,15 +298,15 @@ pub fn measure(
         receives,
         &mut marks[0..0],
     );
+    let stop = passed.stop;
     Measured {
         words: passed.at + 2 + passed.kept,
         events: passed.events,
-        step: passed.step,
-        taken: passed.taken,
+        stop,
     }
 }
 
-// The program of a party that makes no taken atom. What it stores is kept beside it while its events are written, and follows behind
+// The program of a party whose walk stops nowhere. What it stores is kept beside it while its events are written, and follows behind
 // them, in END.
 pub fn write_program(
     book: &[u32],
@@ -334,7 +341,7 @@ pub fn write_program(
     put_all(out, pairs, &log, stored)
 }
 
-// Since when a party that makes no taken atom holds each row: the number of steps after which it is first held, or one more than all.
+// Since when a party whose walk stops nowhere holds each row: the number of steps after which it is first held, or one more than all.
 pub fn since_when(book: &[u32], since: &ByRow, partners: &ByRow, party: u32, marks: &mut [u32])
     requires { ⌜ WalkReady (now book) (now since) (now partners) party (stepsOf (now book)) 0 × Unrefused (now book) party (stepsOf (now book)) × Unmarked (now book) (now marks) ⌝ }
     ensures { λ r. ⌜ Marked (now (book .entry)) party (stepsOf (now (book .entry)) + 1) (now (marks .exit)) × (length (now (marks .exit)) ≡ length (now (marks .entry))) ⌝ }

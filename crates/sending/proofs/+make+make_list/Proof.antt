@@ -20,7 +20,7 @@ use Rattle.book.proofs.row_count.Reads as row-count-reads
 use Rattle.book.proofs.row_first.Reads as row-first-reads
 use Rattle.book.proofs.row_kind.Reads as row-kind-reads
 use Rattle.book.proofs.entry.Reads as entry-reads
-use Rattle.sending.proofs.first_taken.Reads as first-taken-reads
+use Rattle.sending.proofs.first_stop.Reads as first-stop-reads
 use Rattle.words.proofs.put2.Reads as put2-reads
 use Rattle.words.proofs.wide.Reads as wide-reads
 use Rattle.sending.proofs.+make+make_list.{statement}
@@ -54,8 +54,8 @@ make-calls t = (
   row-kind-reads.Learnt,
   put2-reads.Asked,
   put2-reads.Learnt,
-  first-taken-reads.Asked,
-  first-taken-reads.Learnt,
+  first-stop-reads.Asked,
+  first-stop-reads.Learnt,
   row-first-reads.Asked,
   row-first-reads.Learnt,
   row-count-reads.Asked,
@@ -84,10 +84,10 @@ abbrev in-make-list : (make-list-lts.Claims → In 4 make-list-kinds.ps → Out 
     → Type 0) → ℕ → Type 0
 in-make-list P t = P (make-list-calls t) (make-list-at t) make-list.Post
 
--- the row is an atom that is not held: it is made, its NEW is written, and it is asked whether it is taken
+-- the row is an atom that is not held: it is made, its NEW is written, and it is asked what stands against it
 make-returns-2 : (t : ℕ) → in-make make-lts.Need-returns-2 t
 make-returns-2 t c =
-    let after-first-taken : in-make make-lts.After-first-taken t = search in
+    let after-first-stop : in-make make-lts.After-first-stop t = search in
     let after-put2 : in-make make-lts.After-put2 t = search in
     let after-wide2 : in-make make-lts.After-wide2 t = search in
     let then2 : in-make make-lts.Then2 t = search in
@@ -100,7 +100,7 @@ make-returns-2 t c =
     atom-makes {l = start .args .since .now} (start .args .entries .now) {s = start .args .step} valid
     inside {m = start .args .m} sized (after-wide .wide .ensures .0) (else1 .if1 .left)
     (after-row-kind .row-kind .ensures) (then2 .if2 .taken) (after-wide2 .wide2 .ensures .0) (after-put2 .put2 .ensures)
-    (after-first-taken .first-taken .ensures)
+    (after-first-stop .first-stop .ensures)
 
 -- the row is held: its entry is not 0
 make-returns : (t : ℕ) → in-make make-lts.Need-returns t
@@ -155,7 +155,7 @@ pub +make+make-list-spec : {M : Type 1} → statement M
     (λ c. omega (arith, few-rows))  -- make-mul-entries
     (λ c. omega (arith, few-rows))  -- make-element-write-entries
     (λ c κs. search needs)  -- make-put2-requires
-    (λ c κs. omega (arith, few-rows))  -- make-first-taken-requires
+    (λ c κs. omega (arith, few-rows))  -- make-first-stop-requires
     (λ c. search needs)  -- make-same-length
     (make-returns-2 t)
     (λ c κs. search (valid-headed, needs))  -- make-row-first-requires

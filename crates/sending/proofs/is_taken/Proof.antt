@@ -1,5 +1,5 @@
 -- `sending::is_taken` meets its contract: the table says from which step on. Assumes nothing.
-use Rattle.sending.proofs.Taken.{never, from-step}
+use Rattle.sending.proofs.Stops.{never, from-step}
 use borrow.Author.Needs.{needs}
 use Rattle.sending.proofs.is_taken.Statement.{statement}
 use Rattle.sending.proofs.is_taken.Tie as tie

@@ -1,4 +1,4 @@
--- Laws of sending: what building a row makes, by the row's kind; the first taken atom; a SEND's words. Assumes nothing.
+-- Laws of sending: what building a row makes, by the row's kind; the first atom that can't be made; a SEND's words. Assumes nothing.
 use Prim.Native.Nat.{ℕ, zero, suc, _+_, _-_, _≤_, _<_}
 use mathlib.Core.Bool.{Bool, true, false}
 use mathlib.Core.List.{List, [], _∷_, _++_, map, map-map, append-nil}
@@ -27,13 +27,15 @@ use Rattle.translation.specs.Receive.{Event}
 use Rattle.translation.specs.Program.{sent}
 use Rattle.translation.specs.Listing.{eventWords, programWords}
 use Rattle.translation.specs.Listing.Laws.{program-append}
+use Rattle.book.specs.Stop.{stop, nowhere}
+use Rattle.book.specs.declared.Stop.{Stop}
 use Rattle.book.specs.Span.{entry}
 use Rattle.book.specs.Span.Laws.{list-none, list-more}
 use Rattle.holding.specs.View.{heldOf, rowOf, view}
 use Rattle.holding.specs.View.Laws.{view-row, view-set}
 use Rattle.holding.specs.AtRow.{concat, imagesAt}
 use Rattle.holding.specs.AtRow.Laws.{held-zero, count-all, words-all}
-use Rattle.sending.specs.Sending.{Making, making, allMaking, orTaken, firstIn}
+use Rattle.sending.specs.Sending.{Making, making, allMaking, orStop, firstIn}
 
 -- ---- making: nothing, one atom, one after another
 abbrev pub nothing : Dictionary → Making
@@ -113,65 +115,71 @@ pub making-more : (b : List ℕ) (f n : ℕ) (δ : Dictionary) → 0 < n
 unfolding build terms gathered
 making-more b f n δ h = rw (list-more b f n h)
 
--- ---- orTaken
-pub or-stays : (t : Bool) (x r : ℕ) → (x ≡ 0 → ⊥) → orTaken x t r ≡ x
-unfolding orTaken
-or-stays t x r n = pick-false _ _ _ (ne-eqb x 0 n)
+-- ---- orStop
+pub or-stays : (x : Stop) (n s r : ℕ) → (x .number ≡ 0 → ⊥) → orStop x n s r ≡ x
+unfolding orStop
+or-stays x n s r k = pick-false _ _ _ (ne-eqb (x .number) 0 k)
 
-pub or-taken : (t : Bool) (x r : ℕ) → x ≡ 0 → t ≡ true → orTaken x t r ≡ r + 1
-unfolding orTaken
-or-taken t x r z e = pick-true _ _ _ (eq-eqb x 0 z) ∙ pick-true _ _ _ e
+pub or-stops : (x : Stop) (n s r : ℕ) → x .number ≡ 0 → (n ≡ 0 → ⊥) → orStop x n s r ≡ stop n s r
+unfolding orStop
+or-stops x n s r z k = pick-true _ _ _ (eq-eqb (x .number) 0 z) ∙ pick-false _ _ _ (ne-eqb n 0 k)
 
-pub or-untaken : (t : Bool) (x r : ℕ) → x ≡ 0 → t ≡ false → orTaken x t r ≡ 0
-unfolding orTaken
-or-untaken t x r z e = pick-true _ _ _ (eq-eqb x 0 z) ∙ pick-false _ _ _ e
+pub or-passes : (x : Stop) (n s r : ℕ) → x .number ≡ 0 → n ≡ 0 → orStop x n s r ≡ x
+unfolding orStop
+or-passes x n s r z k = pick-true _ _ _ (eq-eqb (x .number) 0 z) ∙ pick-true _ _ _ (eq-eqb n 0 k)
 
--- ---- firstTaken
-module _ (t : ℕ → Bool) where
-  pub first-append : (x : ℕ) (l m : List ℕ) → firstIn t x (l ++ m) ≡ firstIn t (firstIn t x l) m
-  unfolding firstIn
-  first-append x [] m = refl
-  first-append x (r ∷ l) m = first-append (orTaken x (t r) r) l m
+-- ---- firstIn
+pub first-append : (w : ℕ → ℕ) (s : ℕ) (x : Stop) (l m : List ℕ) → firstIn w s x (l ++ m) ≡ firstIn w s (firstIn w s x l) m
+unfolding firstIn
+first-append w s x [] m = refl
+first-append w s x (r ∷ l) m = first-append w s (orStop x (w r) s r) l m
 
-  first-stays : (x : ℕ) (rs : List ℕ) → (x ≡ 0 → ⊥) → firstIn t x rs ≡ x
-  unfolding firstIn
-  first-stays x [] n = refl
-  first-stays x (r ∷ rs) n = ap (λ y. firstIn t y rs) (or-stays (t r) x r n) ∙ first-stays x rs n
+first-stays : (w : ℕ → ℕ) (s : ℕ) (x : Stop) (rs : List ℕ) → (x .number ≡ 0 → ⊥) → firstIn w s x rs ≡ x
+unfolding firstIn
+first-stays w s x [] n = refl
+first-stays w s x (r ∷ rs) n = ap (λ y. firstIn w s y rs) (or-stays x (w r) s r n) ∙ first-stays w s x rs n
 
-  -- none of the rows is taken, or one is and none before it
-  record NoneTaken (rs : List ℕ) : Type 0 where
+-- t tells against which rows something stands
+module _ (w : ℕ → ℕ) (s : ℕ) (t : ℕ → Bool) (free : (r : ℕ) → t r ≡ false → w r ≡ 0) (bars : (r : ℕ) → t r ≡ true → w r ≡ 0 → ⊥) where
+  -- nothing stands against the rows, or something does against one and nothing against those before it
+  record NoneStops (rs : List ℕ) : Type 0 where
     none : (k : ℕ) → k < length rs → t (getD rs k 0) ≡ false
-    zeroed : firstIn t 0 rs ≡ 0
+    passes : firstIn w s (nowhere s) rs ≡ nowhere s
 
-  record OneTaken (rs : List ℕ) : Type 0 where
+  record OneStops (rs : List ℕ) : Type 0 where
     place : ℕ
     within : place < length rs
     before : (k : ℕ) → k < place → t (getD rs k 0) ≡ false
-    taken : t (getD rs place 0) ≡ true
-    noted : firstIn t 0 rs ≡ 1 + getD rs place 0
+    barred : t (getD rs place 0) ≡ true
+    stops : firstIn w s (nowhere s) rs ≡ stop (w (getD rs place 0)) s (getD rs place 0)
 
-  none-or-one : (rs : List ℕ) → NoneTaken rs ⊎ OneTaken rs
+  none-or-one : (rs : List ℕ) → NoneStops rs ⊎ OneStops rs
   unfolding firstIn
-  none-or-one [] = inl (record { none = λ k h. absurd (omega arith); zeroed = refl })
+  none-or-one [] = inl (record { none = λ k h. absurd (omega arith); passes = refl })
   none-or-one (r ∷ rs) = go (t r) refl (none-or-one rs)
     where
-      go : (x : Bool) → t r ≡ x → NoneTaken rs ⊎ OneTaken rs → NoneTaken (r ∷ rs) ⊎ OneTaken (r ∷ rs)
-      go true e s =
-          let n = ap (λ y. firstIn t y rs) (or-taken (t r) 0 r refl e) ∙ first-stays (r + 1) rs (λ z. absurd (omega arith)) in
-          inr (record { place = 0; within = omega arith; before = λ k h. absurd (omega arith); taken = e; noted = omega arith })
-      go false e s = ⊎-elim
-          (λ (n : NoneTaken rs). inl (record {
+      go : (x : Bool) → t r ≡ x → NoneStops rs ⊎ OneStops rs → NoneStops (r ∷ rs) ⊎ OneStops (r ∷ rs)
+      go true e o =
+          inr (record {
+            place = 0;
+            within = omega arith;
+            before = λ k h. absurd (omega arith);
+            barred = e;
+            stops = ap (λ y. firstIn w s y rs) (or-stops (nowhere s) (w r) s r refl (bars r e)) ∙ first-stays w s (stop (w r) s r) rs (bars r e);
+          })
+      go false e o = ⊎-elim
+          (λ (n : NoneStops rs). inl (record {
             none = λ k h. later k h (n .none);
-            zeroed = ap (λ y. firstIn t y rs) (or-untaken (t r) 0 r refl e) ∙ n .zeroed;
+            passes = ap (λ y. firstIn w s y rs) (or-passes (nowhere s) (w r) s r refl (free r e)) ∙ n .passes;
           }))
-          (λ (n : OneTaken rs). inr (record {
+          (λ (n : OneStops rs). inr (record {
             place = suc (n .place);
-            within = let w = n .within in omega arith;
+            within = let l = n .within in omega arith;
             before = λ k h. sooner k (n .place) h (n .before);
-            taken = n .taken;
-            noted = ap (λ y. firstIn t y rs) (or-untaken (t r) 0 r refl e) ∙ n .noted;
+            barred = n .barred;
+            stops = ap (λ y. firstIn w s y rs) (or-passes (nowhere s) (w r) s r refl (free r e)) ∙ n .stops;
           }))
-          s
+          o
         where
           later : (k : ℕ) → k < length (r ∷ rs) → ((j : ℕ) → j < length rs → t (getD rs j 0) ≡ false) → t (getD (r ∷ rs) k 0) ≡ false
           later zero h f = e
@@ -182,23 +190,22 @@ module _ (t : ℕ → Bool) where
           sooner (suc k) p h f = f k (omega arith)
 
   module _ (rs : List ℕ) where
-    -- the first of the rows that is taken, where one is
-    pub some-taken : any (λ j. t (getD rs j 0)) (length rs) ≡ true → firstIn t 0 rs ≡ 1 + getD rs (first (λ j. t (getD rs j 0)) (length rs)) 0
-    some-taken a = ⊎-elim
-        (λ (n : NoneTaken rs). absurd (clash a (any-none (λ j. t (getD rs j 0)) (length rs) (n .none))))
-        (λ (n : OneTaken rs). n .noted
-        ∙ ap (λ k. 1 + getD rs k 0) (first-at (λ j. t (getD rs j 0)) (length rs) (n .place) (n .within) (n .before) (n .taken)))
+    -- it stops at the first of the rows against which something stands, where there is one
+    pub some-stops : any (λ j. t (getD rs j 0)) (length rs) ≡ true
+        → firstIn w s (nowhere s) rs
+        ≡ stop (w (getD rs (first (λ j. t (getD rs j 0)) (length rs)) 0)) s (getD rs (first (λ j. t (getD rs j 0)) (length rs)) 0)
+    some-stops a = ⊎-elim
+        (λ (n : NoneStops rs). absurd (clash a (any-none (λ j. t (getD rs j 0)) (length rs) (n .none))))
+        (λ (n : OneStops rs). n .stops
+        ∙ ap (λ k. stop (w (getD rs k 0)) s (getD rs k 0))
+        (first-at (λ j. t (getD rs j 0)) (length rs) (n .place) (n .within) (n .before) (n .barred)))
         (none-or-one rs)
 
-    -- 0 exactly if none is
-    pub none-taken : (firstIn t 0 rs ≡ 0) ↔ (any (λ j. t (getD rs j 0)) (length rs) ≡ false)
-    none-taken = (
-      λ z. ⊎-elim (λ (n : NoneTaken rs). any-none (λ j. t (getD rs j 0)) (length rs) (n .none))
-          (λ (n : OneTaken rs). let y = n .noted in absurd (omega arith)) (none-or-one rs),
-      λ a. ⊎-elim (λ (n : NoneTaken rs). n .zeroed)
-          (λ (n : OneTaken rs). absurd (clash (any-at (λ j. t (getD rs j 0)) (length rs) (n .place) (n .within) (n .taken)) a))
-          (none-or-one rs),
-    )
+    -- and else nowhere
+    pub none-stops : any (λ j. t (getD rs j 0)) (length rs) ≡ false → firstIn w s (nowhere s) rs ≡ nowhere s
+    none-stops a = ⊎-elim (λ (n : NoneStops rs). n .passes)
+        (λ (n : OneStops rs). absurd (clash (any-at (λ j. t (getD rs j 0)) (length rs) (n .place) (n .within) (n .barred)) a))
+        (none-or-one rs)
 
 -- ---- the words of events
 module _ (row : Term → ℕ) where

@@ -1,50 +1,37 @@
--- `translator::survey_valid` meets its contract: what `write_heads` laid into the lists is read from them, and its find
--- decides refusal 10. Assumes nothing.
-use mathlib.Core.Path.{refl}
-use native.Mathlib.Omega.{arith}
+-- `translator::survey_valid` meets its contract: what `write_heads` laid into the lists is read from them, and where the
+-- walks stop decides refusal 10. Assumes nothing.
+use mathlib.Core.Path.{_≡_, refl, sym, ap, _∙_}
 use borrow.Author.Needs.{needs}
-use Rattle.translator.specs.Among.Laws.{among-nobody}
-use Rattle.translator.proofs.Came.{taken-accept, none-accept}
+use Rattle.book.specs.Said.{Said}
+use Rattle.book.specs.Stop.Laws.{stop-number}
+use Rattle.translator.specs.Among.Laws.{among-nobody, among-refusable}
+use Rattle.translator.proofs.Came.{stop-accept}
 use Rattle.translator.proofs.Listing.{heads-found}
 use Rattle.translator.proofs.survey_valid.Statement.{statement}
 use Rattle.translator.proofs.survey_valid.Tie as tie
 
--- a taken atom was found
+-- where no walk stops nobody would make a taken atom, and the heads, the length and the places are the book's
 returns : tie.Need-returns
 returns c =
-    let then1 : tie.Then1 = search in
-    let after-write-heads : tie.After-write-heads = search in
-    let start : tie.Start = search in
-    record {
-      says = taken-accept (start .pre) (after-write-heads .write-heads .ensures .0 .found) (then1 .if1 .taken);
-      writable = λ z. absurd (omega arith);
-      heads = λ z. absurd (omega arith);
-      ends = λ z. absurd (omega arith);
-      placed = λ z. absurd (omega arith);
-    }
-
--- nothing was found: nobody would make a taken atom, and the heads, the length and the places are the book's
-returns-2 : tie.Need-returns-2
-returns-2 c =
-    let else1 : tie.Else1 = search in
+    let after-reading-of : tie.After-reading-of = search in
     let after-write-heads : tie.After-write-heads = search in
     let after-partners : tie.After-partners = search in
     let after-claims : tie.After-claims = search in
     let start : tie.Start = search in
     let (laid, lists) = after-write-heads .write-heads .ensures in
-    let none = else1 .if1 .left in
-    let nobody = among-nobody (laid .found) none in
+    let told = after-reading-of .reading-of .ensures in
+    let same = sym (stop-number _) ∙ sym (ap (λ (s : Said). s .number) told) in
     record {
-      says = none-accept (start .pre) (laid .found) none;
+      says = told ∙ stop-accept (start .pre) (laid .stops);
       writable = λ z. record {
         valid = start .pre;
         claims = after-claims .claims .ensures;
         partners = after-partners .partners .ensures;
-        nobody = nobody;
+        nobody = among-nobody (laid .stops) (same ∙ z);
       };
-      heads = λ z. heads-found (start .pre) refl (laid .wrote none);
-      ends = λ z. laid .ends none;
-      placed = λ z. laid .placed none;
+      heads = λ z. heads-found (start .pre) refl (laid .wrote (same ∙ z));
+      ends = λ z. laid .ends (same ∙ z);
+      placed = λ z. laid .placed (same ∙ z);
     }
 
 pub survey-valid-spec : {M : Type 1} → statement M
@@ -58,6 +45,5 @@ survey-valid-spec =
     (λ c. search needs)  -- slice-aggregate-write-heads-3
     (λ c. search needs)  -- slice-aggregate-write-heads-4
     (λ c κs. search needs)  -- write-heads-requires
-    (λ c. search needs)  -- sub-t24
-    returns
-    returns-2)
+    (λ c κs. search among-refusable)  -- reading-of-requires
+    returns)

@@ -1,5 +1,5 @@
--- `translator::write_heads` meets its contract: the heads of the parties passed are written while nothing is found
--- (`heads-on`), and of what is found the smallest step is kept (`heads-off`). Assumes nothing.
+-- `translator::write_heads` meets its contract: the heads of the parties passed are written while no walk stops
+-- (`heads-on`), and of those that stop the one at the smallest step is kept (`heads-off`). Assumes nothing.
 use mathlib.Core.Logic.{inl, inr}
 use mathlib.Core.Path.{_≡_, sym, ap, _∙_}
 use lib.ListN.{length}
@@ -13,11 +13,11 @@ use Rattle.translator.proofs.write_heads.Statement.{statement}
 use Rattle.translator.proofs.write_heads.Tie as tie
 
 abbrev Inv-loop : tie.InvT-loop
-Inv-loop book since partners out₀ at sends₀ receives₀ ends₀ n next₀ end₀ all step₀ taken₀ party₀ out sends receives ends next end step taken party =
-    Measuring book n party out₀ at out next sends receives ends end step taken
+Inv-loop book since partners out₀ at sends₀ receives₀ ends₀ n next₀ end₀ all stop₀ party₀ out sends receives ends next end stop party =
+    Measuring book n party out₀ at out next sends receives ends end stop
 
 abbrev μ-loop : tie.MeasureT-loop
-μ-loop book since partners out₀ at sends₀ receives₀ ends₀ n next₀ end₀ all step₀ taken₀ party₀ out sends receives ends next end step taken party =
+μ-loop book since partners out₀ at sends₀ receives₀ ends₀ n next₀ end₀ all stop₀ party₀ out sends receives ends next end stop party =
     n - party
 
 -- a place or a need of `write_heads`, by its name
@@ -46,11 +46,11 @@ measure-requires c κs =
       claims = ready .claims;
       partners = ready .partners;
       party = omega arith;
-      within = let upto = among-within (at-loop .loop .inv .found) in omega arith;
+      within = let upto = among-within (at-loop .loop .inv .stops) in omega arith;
       low = omega arith;
     }
 
--- the party has a find among the steps before the one found so far, or has none
+-- the party's walk stops before the step at which one has stopped so far, or doesn't stop
 loop-again : in-heads tie.Need-loop-again
 loop-again c =
     let put : in-heads tie.After-put2 = search in
@@ -69,9 +69,9 @@ loop-again c =
     let head = put .put2 .ensures in
     elim (c .if1 .came) [
       | inl j ↦ heads-off all inside so-far measured (place .wide2 .ensures .0) (ended .put .ensures)
-          (offset .narrow .ensures) (count .narrow2 .ensures) head (j .0 .taken) (j .1) (j .2)
+          (offset .narrow .ensures) (count .narrow2 .ensures) head (j .0 .taken) (j .1)
       | inr j ↦ heads-on all inside so-far measured (place .wide2 .ensures .0) (ended .put .ensures)
-          (offset .narrow .ensures) (count .narrow2 .ensures) head (j .0 .left) (j .1) (j .2)
+          (offset .narrow .ensures) (count .narrow2 .ensures) head (j .0 .left) (j .1)
     ]
 
 -- the loop ends behind the last party

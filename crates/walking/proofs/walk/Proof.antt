@@ -1,5 +1,5 @@
--- `walking::walk` meets its contract: the party came through the steps before its next one, and nothing was found; a
--- step at which something is found is the last. Assumes nothing.
+-- `walking::walk` meets its contract: the party came through the steps before its next one and has not stopped; a
+-- step at which it stops is the last. Assumes nothing.
 use Prim.Native.Nat.{ℕ, _+_, _-_, _≤_, _<_}
 use mathlib.Core.List.{List}
 use mathlib.Core.Path.{_≡_, refl, _∙_}
@@ -118,7 +118,7 @@ same-length-5 c =
     let after-mark2 : in-walk tie.After-mark2 = search in
     after-mark2 .mark2 .ensures .size ∙ marks-same here
 
--- the step would make a taken atom
+-- the walk stops at this step
 returns : in-walk tie.Need-returns
 returns c =
     let after-mark2 : in-walk tie.After-mark2 = search in
@@ -131,7 +131,7 @@ returns c =
     (after-note .note .ensures) (after-mark2 .mark2 .ensures) refl
     (after-mark2 .mark2 .ensures .size ∙ marks-same here) (c .if1 .taken)
 
--- nothing was found, and nothing is to do before the party's next step
+-- the walk goes on, and nothing is to do before the party's next step
 loop-again : in-walk tie.Need-loop-again
 loop-again c =
     let else1 : in-walk tie.Else1 = search in
@@ -146,7 +146,7 @@ loop-again c =
           (after-note .note .ensures) (after-mark2 .mark2 .ensures) refl (else1 .if1 .left) (c .next-own2 .ensures),
     )
 
--- nothing was found in the steps before `upto`
+-- the walk has not stopped before `upto`
 returns-2 : in-walk tie.Need-returns-2
 returns-2 c =
     let here : in-walk tie.At-loop = search in

@@ -1,0 +1,106 @@
+-- Laws of where a party's walk stops. Assumes nothing.
+use Prim.Native.Nat.{ℕ, _+_, _<_}
+use native.Mathlib.Decide.{decLt}
+use native.Mathlib.Omega.{arith}
+use mathlib.Core.Bool.{Bool, true, false}
+use mathlib.Core.List.{List}
+use mathlib.Core.Path.{_≡_, refl, sym, ap, _∙_}
+use lib.Dec.{eqb}
+use borrow.Author.Tests.{eqb-true}
+use borrow.Author.Count.{below-more}
+use lib.ListN.{length}
+use Rattle.words.specs.Choice.{pick}
+use Rattle.words.specs.Choice.Laws.{pick-true, pick-false}
+use Rattle.words.specs.First.Laws.{clash, first-holds, any-first}
+use Rattle.terms.specs.Table.{terms}
+use Rattle.book.specs.Layout.{table, parties, steps, sender, messages}
+use Rattle.book.specs.Stop.{stop, nowhere}
+use Rattle.book.specs.declared.Stop.{Stop}
+use Rattle.translation.specs.Dictionary.{Dictionary}
+use Rattle.translation.specs.Build.{buildAll}
+use Rattle.translation.specs.Narration.{stepAt, narration}
+use Rattle.translation.specs.Taken.{taken, holdsBefore, madeAt, takenAt, unplayable, firstTaken}
+use Rattle.sending.specs.Sending.{againstIn, firstIn}
+use Rattle.sending.specs.Sending.Laws.{some-stops, none-stops}
+use Rattle.claims.specs.Claims.{Claims}
+use Rattle.translation.specs.Taken.Laws.{step-is}
+use Rattle.translation.specs.Steps.{before}
+use Rattle.walking.specs.Walk.{refusedFor, Unrefused, IdleUntil}
+use Rattle.translation.specs.Steps.Laws.{before-holds}
+use Rattle.walking.specs.Walk.Laws.{refused-idle}
+use Rattle.walking.specs.Stops.{stopsIn, stopOf, StopsBefore}
+
+module _ (b : List ℕ) (s : ℕ) (h : s < steps b) where
+  made-here : (p : ℕ) → p < parties b → sender b s ≡ p
+      → madeAt (narration b) s ≡ buildAll (terms (table b) (messages b s)) (before b p s .dictionary) .made
+  unfolding madeAt stepAt
+  made-here p l e =
+      ap (λ a. buildAll (a .messages) (holdsBefore (narration b) (a .sender) s) .made) (step-is b s h)
+      ∙ ap (λ q. buildAll (terms (table b) (messages b s)) (holdsBefore (narration b) q s) .made) e
+      ∙ ap (λ δ. buildAll (terms (table b) (messages b s)) δ .made) (before-holds b p l s (omega arith))
+
+  -- where code stops is where refusal 10 says
+  stops-first : (w : ℕ → ℕ) → ((r : ℕ) → w r ≡ pick (taken (narration b) s r) 10 0)
+      → firstIn w s (nowhere s) (madeAt (narration b) s) ≡ pick (unplayable (narration b) s) (stopOf b s) (nowhere s)
+  unfolding unplayable takenAt firstTaken pick
+  stops-first w d = go (unplayable (narration b) s) refl
+    where
+      free : (r : ℕ) → taken (narration b) s r ≡ false → w r ≡ 0
+      free r e = d r ∙ pick-false _ _ _ e
+
+      ten : (r : ℕ) → taken (narration b) s r ≡ true → w r ≡ 10
+      ten r e = d r ∙ pick-true _ _ _ e
+
+      bars : (r : ℕ) → taken (narration b) s r ≡ true → w r ≡ 0 → ⊥
+      bars r e z = let t = ten r e in absurd (omega arith)
+
+      go : (x : Bool) → unplayable (narration b) s ≡ x → firstIn w s (nowhere s) (madeAt (narration b) s) ≡ pick x (stopOf b s) (nowhere s)
+      go true e =
+          let made = madeAt (narration b) s in
+          let t = takenAt (narration b) s in
+          some-stops w s (taken (narration b) s) free bars made e
+          ∙ ap (λ n. stop n s (firstTaken (narration b) s)) (ten (firstTaken (narration b) s) (first-holds t (length made) (any-first t (length made) e)))
+      go false e = none-stops w s (taken (narration b) s) free bars (madeAt (narration b) s) e
+
+  pub stops-exact : (l : List ℕ) (p : ℕ) (δ : Dictionary) → Claims b l → p < parties b → δ ≡ before b p s .dictionary
+      → stopsIn b l p s δ ≡ pick (refusedFor b p s) (stopOf b s) (nowhere s)
+  unfolding stopsIn refusedFor pick againstIn
+  stops-exact l p δ c j d = go (eqb (sender b s) p) refl
+    where
+      go : (x : Bool) → eqb (sender b s) p ≡ x
+          → pick x (firstIn (againstIn l s) s (nowhere s) (buildAll (terms (table b) (messages b s)) δ .made)) (nowhere s)
+          ≡ pick (pick x (unplayable (narration b) s) false) (stopOf b s) (nowhere s)
+      go true e =
+          ap (firstIn (againstIn l s) s (nowhere s))
+          (ap (λ ε. buildAll (terms (table b) (messages b s)) ε .made) d ∙ sym (made-here p j (eqb-true (sender b s) p e)))
+          ∙ stops-first (againstIn l s) (λ q. ap (λ t. pick t 10 0) (c s q))
+      go false e = refl
+
+-- ---- one step more
+module _ (b : List ℕ) (p i : ℕ) (x : Stop) (e : x ≡ pick (refusedFor b p i) (stopOf b i) (nowhere i)) where
+  -- the walk stops at this step
+  pub stops-here : {n : ℕ} → i < n → Unrefused b p i → (x .number ≡ 0 → ⊥) → StopsBefore b p n x
+  unfolding pick
+  stops-here {n} l u z = go (refusedFor b p i) refl e
+    where
+      go : (y : Bool) → refusedFor b p i ≡ y → x ≡ pick y (stopOf b i) (nowhere i) → StopsBefore b p n x
+      go true r d = rw d (StopsBefore.one {s = i} l r u)
+      go false r d = absurd (z (ap (λ (k : Stop). k .number) d))
+
+  -- or this step is not refused
+  pub unrefused-on : Unrefused b p i → x .number ≡ 0 → Unrefused b p (i + 1)
+  unfolding pick
+  unrefused-on u z = below-more (λ k. refusedFor b p k ≡ false) i u (go (refusedFor b p i) refl e)
+    where
+      go : (y : Bool) → refusedFor b p i ≡ y → x ≡ pick y (stopOf b i) (nowhere i) → refusedFor b p i ≡ false
+      go true r d = let n = ap (λ (k : Stop). k .number) d in absurd (omega arith)
+      go false r d = r
+
+-- ---- steps in which the party has no part
+pub unrefused-skip : {b : List ℕ} {p i r : ℕ} → IdleUntil b p i r → Unrefused b p i → Unrefused b p r
+unrefused-skip {b} {p} {i} w u k l = elim (decLt k i) [ yes h ↦ u k h | no h ↦ refused-idle b p k (w .idle k (omega arith) l .0) ]
+
+-- ---- where nothing is refused, the walk stops nowhere
+pub stops-unrefused : {b : List ℕ} {p i : ℕ} {x : Stop} → Unrefused b p i → StopsBefore b p i x → x .number ≡ 0
+stops-unrefused u (StopsBefore.none n) = refl
+stops-unrefused u (StopsBefore.one {s = s} l r n) = absurd (clash r (u s l))

@@ -11,7 +11,7 @@ reply-requires c κs =
     let after-input : tie.After-input = search in
     let after-fill : tie.After-fill = search in
     let few = within-bytes (after-input .input .given .1) (after-fill .fill .ensures) in
-    (search needs, omega arith, search needs)
+    (omega arith, omega arith, search needs)
 
 pub run-spec : {M : Type 1} → statement M
 run-spec =

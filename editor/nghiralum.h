@@ -4,7 +4,7 @@
  * Any bytes may be handed in. The answer is one number: its lowest byte is 0 where there is an output, else the
  * refusal's number; the next four bytes are the output's length in words, or the refusal's place (of refusal 12 the
  * words needed, of 20 the words handed in, at most 4,294,967,295, of 21 the number that is out of range); the highest
- * three are the row of refusal 10, whose place is the step. A length that is no multiple of four, of a book, of a
+ * three are the row of refusals 10 and 13, whose place is the step. A length that is no multiple of four, of a book, of a
  * schedule or of a summary, is refusal 1. On a refusal no byte of `out` is written, else only the output's; up to three
  * bytes at the end of `out` that are no whole word stay in any case.
  *

@@ -70,12 +70,12 @@ unsafe extern "C" {
 ///
 /// # Errors
 ///
-/// The first of refusals 1 to 10 and 12 that applies; a book whose length is no multiple of four bytes is refusal 1. All
-/// of `out` is as it was then.
+/// The first of refusals 1 to 10, 13 and 12 that applies; a book whose length is no multiple of four bytes is refusal 1.
+/// All of `out` is as it was then.
 ///
 /// ```
-/// // One row, an atom; one party, named by it, who knows nothing; no steps.
-/// let words = [1u32, 8, 1, 12, 0, 15, 0, 15, 0, 0, 0, 0, 0, 0, 0];
+/// // One row, an atom; one party, named by it, who knows nothing and may make; no steps.
+/// let words = [1u32, 8, 1, 12, 0, 16, 0, 16, 0, 0, 0, 0, 0, 0, 0, 1];
 /// let book: Vec<u8> = words.iter().flat_map(|word| word.to_le_bytes()).collect();
 ///
 /// let mut out = [0xff; 24];
@@ -101,8 +101,8 @@ pub fn translate(book: &[u8], out: &mut [u8]) -> Result<usize, Refusal> {
 ///
 /// # Errors
 ///
-/// The first of refusals 1 to 12 that applies; a book or a schedule whose length is no multiple of four bytes is
-/// refusal 1, whatever else is wrong. All of `out` is as it was then.
+/// The first of refusals 1 to 10, 13, 11 and 12 that applies; a book or a schedule whose length is no multiple of four
+/// bytes is refusal 1, whatever else is wrong. All of `out` is as it was then.
 ///
 /// ```
 /// let book = std::fs::read("../books/example-1.book").expect("a book");
@@ -131,8 +131,8 @@ pub fn rehearse(book: &[u8], schedule: &[u8], out: &mut [u8]) -> Result<usize, R
 ///
 /// # Errors
 ///
-/// The first of refusals 1 to 10 and 12 that applies; a book whose length is no multiple of four bytes is refusal 1. All
-/// of `out` is as it was then.
+/// The first of refusals 1 to 10, 13 and 12 that applies; a book whose length is no multiple of four bytes is refusal 1.
+/// All of `out` is as it was then.
 ///
 /// ```
 /// let book = std::fs::read("../books/example-1.book").expect("a book");
@@ -190,7 +190,7 @@ pub fn held_after(summary: &[u8], party: u32, row: u32, step: u32) -> Result<boo
 ///
 /// # Errors
 ///
-/// The first of refusals 1 to 10 that applies.
+/// The first of refusals 1 to 10 and 13 that applies.
 ///
 /// ```
 /// let book = std::fs::read("../books/example-1.book").expect("a book");
@@ -209,11 +209,11 @@ pub fn listing(book: &[u8]) -> Result<Vec<u8>, Refusal> {
 ///
 /// # Errors
 ///
-/// The first of refusals 1 to 10 that applies.
+/// The first of refusals 1 to 10 and 13 that applies.
 ///
 /// ```
-/// // One row, an atom; one party, named by it, who knows nothing; no steps.
-/// let words = [1u32, 8, 1, 12, 0, 15, 0, 15, 0, 0, 0, 0, 0, 0, 0];
+/// // One row, an atom; one party, named by it, who knows nothing and may make; no steps.
+/// let words = [1u32, 8, 1, 12, 0, 16, 0, 16, 0, 0, 0, 0, 0, 0, 0, 1];
 /// let book: Vec<u8> = words.iter().flat_map(|word| word.to_le_bytes()).collect();
 ///
 /// // One party, one row, no step; it never holds the row, not even as its own name.

@@ -32,7 +32,7 @@ impl Refusal {
         self.number
     }
 
-    /// Where it is: a word of the header (refusals 2 and 3), a row (4 to 6), a party (7), a step (8 and 10) or a move
+    /// Where it is: a word of the header (refusals 2 and 3), a row (4 to 6), a party (7), a step (8, 10 and 13) or a move
     /// (11), counted from 0; the *words* needed for the output (12); the *words* of a summary that has another length
     /// (20), at most 4,294,967,295; the number in a question that is out of range (21); 0 where there is no place (1 and
     /// 9).
@@ -40,10 +40,10 @@ impl Refusal {
         self.place
     }
 
-    /// The row of the atom that can't be made; refusal 10 alone has it, besides the step.
+    /// The row of the atom that can't be made; refusals 10 and 13 alone have it, besides the step.
     pub const fn row(self) -> Option<u32> {
         match self.number {
-            10 => Some(self.second),
+            10 | 13 => Some(self.second),
             _ => None,
         }
     }
@@ -70,7 +70,7 @@ impl Refusal {
             6 => write!(out, "row {place} repeats an earlier row"),
             7 => write!(
                 out,
-                "party {place} breaks its rule: name, known rows or their list in the pool"
+                "party {place} breaks its rule: name, known rows, their list in the pool or its mark"
             ),
             8 => write!(
                 out,
@@ -84,6 +84,10 @@ impl Refusal {
             11 if place == MOST_MOVES => out.write_str("the schedule has more than 4,096 moves"),
             11 => write!(out, "move {place} of the schedule names no party"),
             12 => write!(out, "the output has {place} words, and there is room for fewer"),
+            13 => write!(
+                out,
+                "step {place} can't be played: its sender would have to make the atom of row {second}, and makes nothing"
+            ),
             20 => write!(
                 out,
                 "the summary has {place} words, and not 3 and one for each party and row that it says there are"
@@ -163,6 +167,9 @@ mod tests {
         let taken = refusal(10, 63, 1_023);
         assert_eq!((taken.number(), taken.place(), taken.row()), (10, 63, Some(1_023)));
         assert_eq!(taken.bytes_needed(), None);
+        let maker = refusal(13, 0, 700);
+        assert_eq!((maker.number(), maker.place(), maker.row()), (13, 0, Some(700)));
+        assert_eq!(maker.bytes_needed(), None);
         let room = refusal(12, 33_558_593, 0);
         assert_eq!(
             (room.place(), room.bytes_needed(), room.row()),
@@ -188,6 +195,9 @@ mod tests {
         assert_eq!(all.len(), 255);
         assert!(all.contains(&"refusal 77: one that this version has no sentence for, at 5".to_string()));
         assert!(refusal(10, 1, 3).to_string().contains("step 1 ") && refusal(10, 1, 3).to_string().contains("row 3 "));
+        let maker = refusal(13, 2, 7).to_string();
+        assert!(maker.contains("step 2 ") && maker.contains("row 7,") && maker.ends_with("makes nothing"));
+        assert!(refusal(7, 3, 0).to_string().contains("party 3 ") && refusal(7, 3, 0).to_string().contains("mark"));
         assert!(refusal(11, 4_096, 0).to_string().ends_with("more than 4,096 moves"));
         assert!(refusal(11, 4_095, 0).to_string().contains("move 4095 "));
         assert!(refusal(2, 6, 0).to_string().contains("pool"));

@@ -10,8 +10,13 @@ use std::thread;
 const LENT: usize = 4 * 16_384;
 const MARK: u8 = 0xa5;
 
+/// The words of a party: name, first, count, mark.
+const PARTY: usize = 4;
+/// The words of the longest book.
+const LONGEST: usize = 12_616;
+
 /// One row, one party, no step.
-const SMALLEST: [u32; 15] = [1, 8, 1, 12, 0, 15, 0, 15, 0, 0, 0, 0, 0, 0, 0];
+const SMALLEST: [u32; 16] = [1, 8, 1, 12, 0, 16, 0, 16, 0, 0, 0, 0, 0, 0, 0, 1];
 
 fn bytes(words: &[u32]) -> Vec<u8> {
     words.iter().flat_map(|word| word.to_le_bytes()).collect()
@@ -221,7 +226,7 @@ fn summaries_of_the_shelf() {
         let book = words(&book);
         for party in 0..parties {
             let own = &summary[3 + party * rows..][..rows];
-            let record = book[3] as usize + 3 * party;
+            let record = book[3] as usize + PARTY * party;
             let known = book[7] as usize + book[record + 1] as usize..;
             let known = &book[known][..book[record + 2] as usize];
             let given = (0..rows as u32).filter(|row| own[*row as usize] == 0);
@@ -291,9 +296,10 @@ fn odd_lengths_come_before_all_else() {
 
 #[test]
 fn books_longer_than_any() {
+    assert_eq!(book("full-longest.book").len(), 4 * LONGEST);
     for name in ["example-1.book", "full-longest.book"] {
         let book = book(name);
-        for more in [1, 2, 12_600, 1_000_000] {
+        for more in [1, 2, LONGEST, 1_000_000] {
             let mut longer = book.clone();
             longer.resize(book.len() + 4 * more, 0);
             assert_eq!(refused(listing(&longer)), (3, 8, None), "{name}");
@@ -342,9 +348,54 @@ fn refusals_of_books() {
     }
     met.sort();
     met.dedup();
-    assert_eq!(met, [1, 2, 3, 4, 5, 6, 7, 8, 9, 10]);
+    assert_eq!(met, [1, 2, 3, 4, 5, 6, 7, 8, 9, 10, 13]);
     let refusal = listing(&book("unplayable-private-half.book")).expect_err("unplayable");
     assert!(refusal.row().is_some());
+}
+
+/// A tag that makes nothing: refused where it would have to make its own nonce, by every call and in any room, before a
+/// bad move and before too little room; played where the reader makes the nonce.
+#[test]
+fn a_tag_that_makes_nothing() {
+    let own_nonce = book("unplayable-tag-randomized-hash-lock.book");
+    let thirteen = (13, 1, Some(5));
+    assert_eq!(refused(listing(&own_nonce)), thirteen);
+    assert_eq!(refused(summary(&own_nonce)), thirteen);
+    for room in [0, 3, 64, LENT] {
+        let mut out = vec![MARK; room];
+        assert_eq!(refused(translate(&own_nonce, &mut out)), thirteen);
+        assert_eq!(refused(write_summary(&own_nonce, &mut out)), thirteen);
+        for moves in [&[][..], &[0, 1, 2], &[99], &[0; 4_097]] {
+            assert_eq!(refused(rehearse(&own_nonce, &bytes(moves), &mut out)), thirteen);
+        }
+        assert!(out.iter().all(|byte| *byte == MARK));
+    }
+    assert!(listing(&book("tag-randomized-hash-lock.book")).is_ok());
+
+    // The mark is the last word of a party's: where the tag may make, its own nonce is played too.
+    let mut words = words(&own_nonce);
+    let mark = words[3] as usize + PARTY - 1;
+    assert_eq!(words[mark], 0);
+    words[mark] = 1;
+    assert!(listing(&bytes(&words)).is_ok());
+    for wrong in [2, u32::MAX] {
+        words[mark] = wrong;
+        assert_eq!(refused(listing(&bytes(&words))), (7, 0, None));
+    }
+}
+
+/// Of the atoms that can't be made the first is told, with 10 if it is taken and else 13.
+#[test]
+fn ten_and_thirteen() {
+    for (name, expected) in [
+        ("unplayable-maker", (13, 0, Some(3))),
+        ("unplayable-maker-then-taken", (13, 0, Some(3))),
+        ("unplayable-taken-then-maker", (10, 0, Some(1))),
+        ("unplayable-maker-at-an-earlier-step", (13, 0, Some(3))),
+        ("unplayable-taken-at-an-earlier-step", (10, 0, Some(2))),
+    ] {
+        assert_eq!(refused(listing(&book(&format!("{name}.book")))), expected, "{name}");
+    }
 }
 
 /// Rust gives a thread 2 MB where nobody says otherwise; every book of the shelf runs on them, the deepest too: halves

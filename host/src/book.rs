@@ -1,4 +1,5 @@
-//! The book: its words, its rules and the refusals 1 to 9 (document 01, "The book", "The refusals and their order").
+//! The book: its words, its rules and the refusals 1 to 9 (document 01, "The book", "The refusals and their order"), with
+//! the fourth word of a party (document 02, request 5).
 //! `read` gives the book of any words, or the first refusal that applies; `Book::words` writes it back.
 
 use crate::term::{Fold, Form, Shared, Term};
@@ -13,8 +14,9 @@ pub const COUNTS: [usize; 4] = [0, 2, 4, 6];
 pub const OFFSETS: [usize; 4] = [1, 3, 5, 7];
 /// The words of a row: kind, tag, first, count.
 pub const ROW: usize = 4;
-/// Of a party: name, first, count.
-pub const PARTY: usize = 3;
+/// Of a party: name, first, count, mark; and which of them is the mark.
+pub const PARTY: usize = 4;
+pub const MARK: usize = 3;
 /// Of a step: sender, receiver, first, count.
 pub const STEP: usize = 4;
 
@@ -76,6 +78,8 @@ pub struct Row {
 pub struct Party {
     pub name: u32,
     pub known: Vec<u32>,
+    /// Its mark: "1 may make, 0 may not".
+    pub makes: bool,
 }
 
 #[derive(Clone, PartialEq, Eq, Debug)]
@@ -121,12 +125,15 @@ pub struct Stop {
 pub enum Unmade {
     /// "Making a taken atom is refusal 10."
     Taken,
+    /// Refusal 13: "a party marked 0 would have to make an atom".
+    Maker,
 }
 
 impl From<Stop> for Refusal {
     fn from(stop: Stop) -> Refusal {
         let number = match stop.why {
             Unmade::Taken => 10,
+            Unmade::Maker => 13,
         };
         Refusal::new(number, &[stop.step, stop.row])
     }
@@ -170,6 +177,7 @@ impl Book {
         for party in &self.parties {
             words.push(party.name);
             words.extend(list(party.known.len()));
+            words.push(u32::from(party.makes));
         }
         for step in &self.steps {
             words.extend([step.sender, step.receiver]);
@@ -413,7 +421,7 @@ fn parties(section: &[u32], rows: &[Row], pool: &mut Pool) -> Result<Vec<Party>,
 }
 
 fn party(words: &[u32], rows: &[Row], earlier: &[Party], pool: &mut Pool) -> Option<Party> {
-    let [name, first, count] = words.try_into().ok()?;
+    let [name, first, count, mark] = words.try_into().ok()?;
     // "The name is an atom's row; a party that repeats an earlier party's name breaks the rule."
     if rows.get(name as usize)?.kind != ATOM || earlier.iter().any(|other| other.name == name) {
         return None;
@@ -422,10 +430,21 @@ fn party(words: &[u32], rows: &[Row], earlier: &[Party], pool: &mut Pool) -> Opt
     // "The known rows stand in strictly increasing order": the last is the largest.
     let in_order = known.windows(2).all(|pair| pair[0] < pair[1]);
     let in_range = known.last().is_none_or(|row| (*row as usize) < rows.len());
+    let makes = may_make(mark)?;
     (in_order && in_range).then(|| Party {
         name,
         known: known.to_vec(),
+        makes,
     })
+}
+
+/// What a party's mark says: "1 may make, 0 may not; anything else is refusal 7".
+fn may_make(mark: u32) -> Option<bool> {
+    match mark {
+        0 => Some(false),
+        1 => Some(true),
+        _ => None,
+    }
 }
 
 /// Refusal 8: the smallest step that breaks its rule.

@@ -65,7 +65,7 @@ mod tests {
     use super::*;
 
     /// One row, one party, no step.
-    const SMALLEST: [u32; 15] = [1, 8, 1, 12, 0, 15, 0, 15, 0, 0, 0, 0, 0, 0, 0];
+    const SMALLEST: [u32; 16] = [1, 8, 1, 12, 0, 16, 0, 16, 0, 0, 0, 0, 0, 0, 0, 1];
 
     #[test]
     fn the_same_answers_as_on_words() {
@@ -101,12 +101,12 @@ mod tests {
     fn odd_lengths_come_first() {
         let book = words::to_bytes(&SMALLEST);
         let one = Err(Refusal::new(1, &[0]));
-        assert_eq!(translate(&book[..59], &mut []), one);
+        assert_eq!(translate(&book[..63], &mut []), one);
         assert_eq!(rehearse(&book, &[9], &mut []), one);
         assert_eq!(rehearse(&[1; 40], &[9, 9, 9], &mut []), one);
-        assert_eq!(rehearse(&book[..58], &[0; 6], &mut []), one);
+        assert_eq!(rehearse(&book[..62], &[0; 6], &mut []), one);
         assert_eq!(rehearse(&book, &[9, 0, 0, 0], &mut []), Err(Refusal::new(11, &[0])));
-        assert_eq!(write_summary(&book[..59], &mut []), one);
+        assert_eq!(write_summary(&book[..63], &mut []), one);
         for odd in [1, 2, 3, 13, 17] {
             assert_eq!(ask(&[1; 17][..odd], 9, 9, 9), Err(Refusal::new(1, &[0])));
         }

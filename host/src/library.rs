@@ -76,18 +76,20 @@ impl Value {
 }
 
 impl Value {
-    /// The refusal as the host gives it. Rattle's `Refusal` has a case for each number, in their order; which values a case
-    /// has, this can only take from its number. A new refusal, or a case with other values, needs a line here. All bytes
-    /// were set before the call, so whatever case comes back, what is read here was written.
+    /// The refusal as the host gives it. Rattle's `Refusal` has a case for each number, in the order in which they came
+    /// up: 1 to 12, 20, 21, 13. Which values a case has, this can only take from its number. A new refusal, or a case with
+    /// other values, needs a line here. All bytes were set before the call, so whatever case comes back, what is read here
+    /// was written.
     fn refusal(self) -> Refusal {
         let number = match self.bytes[0] {
             case @ 0..12 => u32::from(case) + 1,
             case @ 12..14 => u32::from(case) + 8,
+            14 => 13,
             _ => NO_REFUSAL,
         };
         let place = match number {
             1 | 9 => vec![0],
-            10 => vec![self.word(4), self.word(8)],
+            10 | 13 => vec![self.word(4), self.word(8)],
             12 | 20 => vec![u32::try_from(self.length(8)).unwrap_or(u32::MAX)],
             _ => vec![self.word(4)],
         };
@@ -311,6 +313,8 @@ mod tests {
         bytes[4..8].copy_from_slice(&5u32.to_ne_bytes());
         bytes[8..12].copy_from_slice(&700u32.to_ne_bytes());
         assert_eq!(answer(1, bytes), Err(Refusal::new(10, &[5, 700])));
+        bytes[0] = 14;
+        assert_eq!(answer(1, bytes), Err(Refusal::new(13, &[5, 700])));
         bytes[0] = 3;
         assert_eq!(answer(1, bytes), Err(Refusal::new(4, &[5])));
         let mut bytes = [0; 16];
@@ -325,7 +329,7 @@ mod tests {
         bytes[4..8].copy_from_slice(&1_024u32.to_ne_bytes());
         assert_eq!(answer(1, bytes), Err(Refusal::new(21, &[1_024])));
         // Whatever comes back is read, and a case that there is none of is no refusal's.
-        for case in 14..=255 {
+        for case in 15..=255 {
             bytes[0] = case;
             assert_eq!(answer(0xff, bytes), Err(Refusal::new(255, &[1_024])));
         }
@@ -358,6 +362,7 @@ mod tests {
         assert_eq!(packed(&Err(Refusal::new(1, &[0]))), 1);
         assert_eq!(packed(&Err(Refusal::new(12, &[33_558_593]))), 33_558_593 << 8 | 12);
         assert_eq!(packed(&Err(Refusal::new(10, &[63, 1_023]))), 1_023 << 40 | 63 << 8 | 10);
+        assert_eq!(packed(&Err(Refusal::new(13, &[63, 1_023]))), 1_023 << 40 | 63 << 8 | 13);
         assert_eq!(packed_reply(&Ok(true)), 1 << 8);
         assert_eq!(packed_reply(&Ok(false)), 0);
         assert_eq!(packed_reply(&Err(Refusal::new(20, &[u32::MAX]))), 0xff_ffff_ff14);

@@ -77,7 +77,8 @@ fn party<'a>(table: &mut Table<'a>, terms: &[Written<'a>], line: &PartyLine<'a>)
         known.push(row);
     }
     known.sort_unstable();
-    Ok(Party { name, known })
+    let makes = line.makes;
+    Ok(Party { name, known, makes })
 }
 
 fn step<'a>(

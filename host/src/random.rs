@@ -1,5 +1,5 @@
-//! Random books: most well formed, about half of those playable, the rest damaged at one place or
-//! another, so that every refusal of document 01's table is met. And random questions about summaries.
+//! Random books: most well formed, about half of those playable, those with parties that make nothing among them, the
+//! rest damaged at one place or another, so that every refusal of a book is met. And random questions about summaries.
 
 mod damage;
 mod question;

@@ -71,6 +71,9 @@ fn rows_lines(texts: &Texts, out: &mut String) {
 fn party_line(party: &Party, texts: &Texts, out: &mut String) {
     out.push_str("party ");
     out.push_str(texts.row(party.name));
+    if !party.makes {
+        out.push_str(" makes nothing");
+    }
     if !party.known.is_empty() {
         out.push_str(" knows ");
         texts.list(&party.known, out);
@@ -95,6 +98,7 @@ fn mark_step(stop: Stop, step: &Step, book: &Book, texts: &Texts, out: &mut Stri
     let atom = texts.row(row);
     let reason = match why {
         Unmade::Taken => format!("{sender} would have to make {atom}, which is taken"),
+        Unmade::Maker => format!("{sender} would have to make {atom}, and makes nothing"),
     };
     let number = Refusal::from(stop).number;
     out.push_str(&format!("# refused {number} at step {at}, row {row}: {reason}\n"));

@@ -16,7 +16,7 @@ pub fn write(words: &[u32], out: &mut [u32]) -> Result<usize, Refusal> {
     translate::lend(&of(&book::read(words)?)?, out)
 }
 
-/// The summary of a book that keeps its rules, or refusal 10: "Q, T, L, then for each party and row 0 if given at the
+/// The summary of a book that keeps its rules, or the refusal where the walk stops: "Q, T, L, then for each party and row 0 if given at the
 /// start, s+1 if first in the dictionary after step s, L+1 if never".
 pub fn of(book: &Book) -> Result<Vec<u32>, Refusal> {
     let counts = [book.parties.len(), book.rows.len(), book.steps.len()];

@@ -1,5 +1,6 @@
-//! The translation of figure 3 as document 01 reads it, with document 02's order of receiving: one program per party
-//! (refusals 10 and 12), the listing's words, and the line that the small program prints.
+//! The translation of figure 3 as document 01 reads it, with document 02's order of receiving and its parties that make
+//! nothing: one program per party (refusals 10, 13 and 12), the listing's words, and the line that the small program
+//! prints.
 
 use crate::book::{self, Book, Refusal, Step, Stop, Unmade, READ};
 use crate::term::{Form, Shared, SharedMap, SharedSet};
@@ -89,14 +90,14 @@ impl Dictionary {
         }
     }
 
-    /// Whether sending a term would make an atom of this kind.
-    pub fn makes(&self, term: &Shared, such: &impl Fn(&Shared) -> bool) -> bool {
+    /// Of the atoms that sending a term would make, what is said of the first of which anything is, in building order.
+    fn first_made<T>(&self, term: &Shared, said: &impl Fn(&Shared) -> Option<T>) -> Option<T> {
         if self.holds(term) {
-            return false;
+            return None;
         }
         match term.form() {
-            Form::Atom(_) => such(term),
-            _ => term.parts().any(|part| self.makes(part, such)),
+            Form::Atom(_) => said(term),
+            _ => term.parts().find_map(|part| self.first_made(part, said)),
         }
     }
 }
@@ -104,6 +105,8 @@ impl Dictionary {
 /// One party on its way through the steps.
 struct Side {
     dictionary: Dictionary,
+    /// Whether it may make atoms.
+    makes: bool,
     /// "A party's placeholders count from 0": the next one.
     next: u32,
     events: Program,
@@ -141,16 +144,24 @@ impl Side {
         terms.iter().map(|term| self.build(term, taken)).collect()
     }
 
-    /// "An atom not in the dictionary is made, and is from then on known as itself. [..] Making a
-    /// taken atom is refusal 10."
+    /// "An atom not in the dictionary is made, and is from then on known as itself." Nothing else asks for the mark.
     fn make(&mut self, row: u32, atom: &Shared, taken: &Taken) -> Result<Image, (Unmade, u32)> {
-        if taken.has(atom) {
-            return Err((Unmade::Taken, row));
+        if let Some(why) = self.unmade(atom, taken) {
+            return Err((why, row));
         }
         self.events.push(Event::New { row });
         let images = &mut self.dictionary.images;
         images.insert(atom.clone(), Image::Itself(row));
         Ok(Image::Itself(row))
+    }
+
+    /// What keeps the party from making an atom that it lacks: "10 if it is taken and else 13".
+    fn unmade(&self, atom: &Shared, taken: &Taken) -> Option<Unmade> {
+        match (taken.has(atom), self.makes) {
+            (true, _) => Some(Unmade::Taken),
+            (false, false) => Some(Unmade::Maker),
+            (false, true) => None,
+        }
     }
 
     /// Receiving: the terms have the placeholders from `first` on, and are gone through left to right. "A cipher whose
@@ -180,7 +191,7 @@ impl Side {
 /// All terms that occur at any depth in a party's starting knowledge or in a message of an earlier
 /// step, and the parties' names: the atoms among them are the taken ones.
 #[derive(Clone, Default)]
-pub struct Taken {
+struct Taken {
     terms: SharedSet,
 }
 
@@ -192,7 +203,7 @@ impl Taken {
         }
     }
 
-    pub fn has(&self, atom: &Shared) -> bool {
+    fn has(&self, atom: &Shared) -> bool {
         self.terms.contains(atom)
     }
 }
@@ -201,7 +212,7 @@ impl Taken {
 pub struct Translation {
     pub terms: Vec<Shared>,
     rows: SharedMap<u32>,
-    pub taken: Taken,
+    taken: Taken,
     sides: Vec<Side>,
     step: u32,
 }
@@ -223,6 +234,7 @@ impl Translation {
             }
             sides.push(Side {
                 dictionary,
+                makes: party.makes,
                 next: 0,
                 events: Vec::new(),
                 stored: Vec::new(),
@@ -240,6 +252,12 @@ impl Translation {
     /// What a party holds by now.
     pub fn dictionary(&self, party: u32) -> &Dictionary {
         &self.sides[party as usize].dictionary
+    }
+
+    /// Why a party can't send a term at the next step; nothing if it can.
+    pub fn stops(&self, party: u32, term: &Shared) -> Option<Unmade> {
+        let side = &self.sides[party as usize];
+        side.dictionary.first_made(term, &|atom| side.unmade(atom, &self.taken))
     }
 
     /// The next step: "a party that is neither sender nor receiver does nothing".
@@ -278,8 +296,8 @@ impl Translation {
     }
 }
 
-/// One program per party of a book that keeps its rules, or where the walk stops. The steps are gone through in order,
-/// so that is the smallest step.
+/// One program per party of a book that keeps its rules, or where the walk stops, "at the first atom that can't be made":
+/// the steps are gone through in order, so that is at the smallest step.
 pub fn walk(book: &Book) -> Result<Vec<Program>, Stop> {
     let mut translation = Translation::start(book);
     for step in &book.steps {
@@ -368,7 +386,7 @@ impl Image {
     }
 }
 
-/// Translates a book into `out`: the listing's length, or the first refusal of 1 to 10 and 12. A
+/// Translates a book into `out`: the listing's length, or the first refusal of 1 to 10, 13 and 12. A
 /// refusal leaves all of `out` as it was, an acceptance the words past the length.
 pub fn translate(words: &[u32], out: &mut [u32]) -> Result<usize, Refusal> {
     let listing = listing(&programs(&book::read(words)?)?);

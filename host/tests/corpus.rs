@@ -8,6 +8,7 @@ use host::corpus::{check, write};
 use host::files;
 use host::narration::narrate;
 use host::show::show;
+use host::translate::print;
 use host::words;
 use std::fs;
 use std::path::PathBuf;
@@ -54,7 +55,7 @@ fn every_book_has_its_kind_of_answer() {
         } else if let Some(expected) = name.strip_prefix("refusal-") {
             assert_eq!(number, expected.split('-').next(), "{name}");
         } else if name.starts_with("unplayable-") {
-            assert_eq!(number, Some("10"), "{name}");
+            assert!(matches!(number, Some("10" | "13")), "{name}");
         } else {
             assert_eq!(refused, None, "{name}");
         }
@@ -69,13 +70,61 @@ fn every_source_begins_with_a_comment() {
         assert!(text.starts_with("# "), "{name}");
         let comments = text.lines().take_while(|line| line.starts_with('#'));
         let comments: String = comments.collect();
-        if listing(&name).starts_with("refused 10") {
-            assert!(comments.to_lowercase().contains("refusal 10"), "{name}");
+        let answer = listing(&name);
+        for number in ["10", "13"] {
+            if answer.starts_with(&format!("refused {number} ")) {
+                let reason = format!("refusal {number}");
+                assert!(comments.to_lowercase().contains(&reason), "{name}");
+            }
+        }
+        // Refusal 13 is of parties that make nothing alone.
+        if answer.starts_with("refused 13") {
+            assert!(text.contains(" makes nothing"), "{name}");
         }
     }
 }
 
-/// Document 01's trials, word for word, and those of document 02's order of receiving.
+/// Tags that make nothing: those that can be played, and in the two that can't the tag's own nonce.
+#[test]
+fn the_tags() {
+    let (mut played, mut refused) = (0, Vec::new());
+    for (name, path) in of_kind("narration") {
+        let text = fs::read_to_string(path).unwrap();
+        if text.contains("party Tag makes nothing") {
+            let answer = listing(&name);
+            match answer.strip_prefix("refused ") {
+                Some(refusal) => refused.push((name, refusal.to_string())),
+                None => played += 1,
+            }
+        }
+    }
+    assert_eq!(played, 7);
+    let expected = [
+        ("unplayable-tag-iso-three-pass", "13 1 4"),
+        ("unplayable-tag-randomized-hash-lock", "13 1 5"),
+    ];
+    assert_eq!(
+        refused,
+        expected.map(|(name, refusal)| (name.to_string(), refusal.to_string()))
+    );
+}
+
+/// A mark only refuses: books that are played with a party that makes nothing are played as if it might make.
+#[test]
+fn marks_are_in_no_program() {
+    let mut marked = 0;
+    for (name, path) in of_kind("narration") {
+        let text = fs::read_to_string(path).unwrap();
+        if text.contains(" makes nothing") && !listing(&name).starts_with("refused") {
+            let book = narrate(&text.replace(" makes nothing", "")).expect(&name);
+            assert_eq!(print(&words::to_bytes(&book.words())), listing(&name), "{name}");
+            marked += 1;
+        }
+    }
+    assert_eq!(marked, 8);
+}
+
+/// Document 01's trials, word for word, and document 02's: those of its order of receiving, and of its marks.
 const TRIALS: &[(&str, &str)] = &[
     ("trial-smallest", "1 3 2 6 0"),
     (
@@ -109,6 +158,20 @@ const TRIALS: &[(&str, &str)] = &[
     ),
     ("unplayable-taught-key", "refused 10 4 3"),
     (
+        "trial-makes-nothing",
+        "2 5 43 48 30 1 3 2 0 1 0 3 3 1 0 3 5 0 3 2 0 2 4 3 0 3 4 4 0 1 4 1 2 0 1 0 3 4 2 2 0 0 3 2 5 0 6 0 \
+         3 0 0 1 2 1 3 3 2 0 2 1 0 0 1 2 0 1 1 0 2 0 0 2 2 0 6 1 3 0",
+    ),
+    ("unplayable-maker", "refused 13 0 3"),
+    ("unplayable-maker-then-taken", "refused 13 0 3"),
+    ("unplayable-taken-then-maker", "refused 10 0 1"),
+    ("unplayable-maker-at-an-earlier-step", "refused 13 0 3"),
+    ("unplayable-taken-at-an-earlier-step", "refused 10 0 2"),
+    ("refusal-7-mark-2", "refused 7 1"),
+    ("refusal-7-mark-largest", "refused 7 0"),
+    ("refusal-3-three-word-parties", "refused 3 5"),
+    ("refusal-3-longest-and-one", "refused 3 8"),
+    (
         "trial-empty-cipher",
         "3 7 24 31 18 49 10 2 0 2 3 0 0 2 3 0 0 3 2 1 2 3 0 0 2 3 0 0 3 6 0 \
          3 0 0 2 5 0 2 0 0 5 5 1 2 0 0 3 6 0 3 1 0 2 6 2 7 0 8 1",
@@ -141,6 +204,8 @@ fn the_edges_are_reached() {
     assert!((8_192..16_384).contains(&length("full-ring")));
     let bytes = fs::read(books().join("full-longest.book")).unwrap();
     assert_eq!(bytes.len(), 4 * LONGEST);
+    let bytes = fs::read(books().join("refusal-3-longest-and-one.book")).unwrap();
+    assert_eq!(bytes.len(), 4 * LONGEST + 4);
 
     let shown = |name: &str| {
         let bytes = fs::read(books().join(format!("{name}.book"))).unwrap();

@@ -391,6 +391,23 @@ fn wrong_by_testing_taken_per_party() {
     assert!(["b:", "c:"].contains(&&told[..2]), "{told}");
 }
 
+/// A translator that asks for no marks keeps demand 3, as the machine has none: it is demand 2 that it breaks. The book is
+/// unplayable, and its programs, which work, are nobody's to give out.
+#[test]
+fn wrong_by_ignoring_marks() {
+    // A makes row 3 and sends it under row 2, which both know; B sends it back.
+    let cipher = row(2, 0, &[2, 3]);
+    let may_make = small(&[cipher], &[&[2], &[2]], &[step(0, 1, &[5]), step(1, 0, &[3])]);
+    let programs = translate::programs(&may_make).expect("row 3 is nobody's");
+    let marked = common::making_nothing(may_make.clone(), &[0]);
+    let refusal = translate::programs(&marked).expect_err("A makes nothing");
+    assert_eq!((refusal.number, refusal.place), (13, vec![0, 3]));
+    assert!(play(&marked, &programs, &mut Random::new(9)).is_ok());
+    // B makes nothing in either, so its mark changes nothing.
+    let other = common::making_nothing(may_make, &[1]);
+    assert_eq!(translate::programs(&other), Ok(programs));
+}
+
 /// The other half, where the image is one.
 fn turned(image: &Image) -> Option<Image> {
     match image {

@@ -23,13 +23,13 @@ fn books_and_random_ones() {
     let text = String::from_utf8(out).expect("text");
     assert!(same && text.ends_with(" 0 differences\n"), "{text}");
     let told = |function: &str| text.lines().find(|line| line.starts_with(function)).expect("a line");
-    for number in (1..=10).chain([12]) {
+    for number in (1..=10).chain([12, 13]) {
         assert!(
             told("translate: ").contains(&format!("refused {number}: ")),
             "{number}: {text}"
         );
     }
-    for number in 1..=12 {
+    for number in 1..=13 {
         assert!(
             told("rehearse: ").contains(&format!("refused {number}: ")),
             "{number}: {text}"

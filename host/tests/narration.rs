@@ -2,7 +2,7 @@
 
 mod common;
 
-use common::{atom, book, party, row, step, EXAMPLE_1};
+use common::{atom, book, making_nothing, party, row, step, EXAMPLE_1};
 use host::book::{read, Row};
 use host::narration::narrate;
 use host::random::Random;
@@ -73,6 +73,19 @@ fn rows_in_the_order_of_appearance() {
 }
 
 #[test]
+fn parties_that_make_nothing() {
+    let text = "party A makes nothing knows K\nparty B makes nothing\nparty C\nC -> A: N\n";
+    let plain = book(
+        vec![atom(), atom(), atom(), atom(), atom()],
+        &[party(0, &[1]), party(2, &[]), party(3, &[])],
+        &[step(2, 0, &[4])],
+    );
+    assert_eq!(narrate(text), Ok(making_nothing(plain.clone(), &[0, 1])));
+    // Nothing but the marks.
+    assert_eq!(narrate(&text.replace(" makes nothing", "")), Ok(plain));
+}
+
+#[test]
 fn tags_of_operations() {
     let tags = |terms: &str| -> Vec<u32> { rows(terms).iter().map(|row| row.tag).collect() };
     assert_eq!(tags("f(), g(), f(g())"), [0, 1, 0]);
@@ -99,6 +112,9 @@ fn blanks_comments_and_line_ends() {
     ] {
         assert_eq!(narrate(text).as_ref(), Ok(&plain), "{text:?}");
     }
+    let marked = making_nothing(plain, &[0, 1]);
+    let text = "party A  makes\tnothing   knows K\nparty B makes nothing# no more\nA -> B: {N}K-, f(K)\n";
+    assert_eq!(narrate(text), Ok(marked));
 }
 
 #[test]
@@ -117,6 +133,18 @@ fn no_word_is_reserved() {
     let book = narrate(&text.replace("knows()", "f()")).unwrap();
     assert_eq!(book.parties.len(), 3);
     assert_eq!(book.steps.len(), 3);
+
+    let text = "rows makes, nothing()\n\
+        party makes makes nothing knows makes, nothing\n\
+        party nothing knows makes\n\
+        party party makes nothing\n\
+        makes -> nothing: makes, nothing\n";
+    let mistake = narrate(text).unwrap_err();
+    assert_eq!((mistake.line, mistake.column), (1, 13));
+    let book = narrate(&text.replace("nothing()", "f()")).unwrap();
+    let makes: Vec<bool> = book.parties.iter().map(|party| party.makes).collect();
+    assert_eq!(makes, [false, true, false]);
+    assert_eq!(book.parties[0].known, [0, 2]);
 }
 
 /// The text, and where its mistake is to be found.
@@ -127,8 +155,17 @@ const MISTAKES: &[(&str, usize, usize, &str)] = &[
     ("rows N", 1, 7, "expected a party, found the end of the text"),
     ("party", 1, 6, "expected the party's name, found the end of the line"),
     ("party {A}K", 1, 7, "expected the party's name, found `{`"),
-    ("party A(N)", 1, 8, "expected `knows` or the end of the line, found `(`"),
-    ("party A B", 1, 9, "expected `knows` or the end of the line, found `B`"),
+    ("party A(N)", 1, 8, "expected `makes nothing`, `knows` or the end of the line, found `(`"),
+    ("party A B", 1, 9, "expected `makes nothing`, `knows` or the end of the line, found `B`"),
+    ("party A nothing", 1, 9, "expected `makes nothing`, `knows` or the end of the line, found `nothing`"),
+    ("party A makes", 1, 14, "expected `nothing` (what a party makes is not listed), found the end of the line"),
+    ("party A makes N", 1, 15, "expected `nothing` (what a party makes is not listed), found `N`"),
+    ("party A makes knows K", 1, 15, "expected `nothing` (what a party makes is not listed), found `knows`"),
+    ("party A makes, K", 1, 14, "expected `nothing` (what a party makes is not listed), found `,`"),
+    ("party A makes nothing K", 1, 23, "expected `knows` or the end of the line, found `K`"),
+    ("party A makes nothing makes nothing", 1, 23, "expected `knows` or the end of the line, found `makes`"),
+    ("party A makes nothing knows", 1, 28, "expected a term, found the end of the line"),
+    ("party A knows K makes nothing", 1, 17, "expected `,` or the end of the line, found `makes`"),
     ("party A knows", 1, 14, "expected a term, found the end of the line"),
     ("party A knows K,  # more", 1, 17, "expected a term, found the end of the line"),
     ("party A knows K M", 1, 17, "expected `,` or the end of the line, found `M`"),
@@ -323,9 +360,9 @@ fn pick(random: &mut Random, from: &[&'static str]) -> &'static str {
 
 /// A random text, most of them close to narrations.
 fn text(random: &mut Random) -> String {
-    const PIECES: [&str; 24] = [
+    const PIECES: [&str; 26] = [
         "A", "B", "K", "N", "f(", "op1(", "{", "}", "}K", "(", ")", ",", ", ", "+", "-", "->", ":", " ", "#", "party",
-        "knows", "rows", "\n", "f()",
+        "knows", "makes ", "nothing", "rows", "\n", "f()",
     ];
     let mut text = String::new();
     if random.percent(80) {
@@ -333,7 +370,16 @@ fn text(random: &mut Random) -> String {
     }
     for _ in 0..random.below(4) {
         if random.percent(80) {
-            text.push_str(pick(random, &["A -> B: ", "B -> A: ", "rows ", "party C knows "]));
+            text.push_str(pick(
+                random,
+                &[
+                    "A -> B: ",
+                    "B -> A: ",
+                    "rows ",
+                    "party C knows ",
+                    "party C makes nothing knows ",
+                ],
+            ));
         }
         if random.percent(70) {
             term(random, 4, &mut text);

@@ -82,6 +82,44 @@ A -> B:
 }
 
 #[test]
+fn refusal_13_under_its_step() {
+    let text = shown(
+        "party Tag makes nothing knows K\n\
+        party Reader makes nothing\n\
+        party Server knows K\n\
+        Server -> Tag: N\n\
+        Tag -> Reader: {N}K\n\
+        Tag -> Reader: {f(R)}K\n\
+        Reader -> Tag:\n",
+    );
+    let expected = "\
+party A makes nothing knows n1
+party B makes nothing
+party C knows n1
+
+C -> A: n4
+A -> B: {n4}n1
+A -> B: {op0(n6)}n1
+# refused 13 at step 2, row 6: A would have to make n6, and makes nothing
+B -> A:
+";
+    assert_eq!(text, expected);
+    assert_eq!(show(&narrate(&text).unwrap().words()), expected);
+}
+
+/// The mark is shown; the programs are what they would be without it.
+#[test]
+fn parties_that_make_nothing() {
+    let text = "party A\nparty B makes nothing knows A\n\nA -> B: n2\nB -> A: n2, A\n";
+    let marked = shown(text);
+    assert!(marked.starts_with(text), "{marked}");
+    assert_eq!(
+        marked.replace(" makes nothing", ""),
+        shown(&text.replace(" makes nothing", ""))
+    );
+}
+
+#[test]
 fn a_rows_line_where_the_order_needs_it() {
     // The known rows are sorted, so Y would come before X.
     let text = shown("party A knows f(X, Y), Y\n");
@@ -123,23 +161,39 @@ fn refused_words() {
 # length: 8
 "
     );
-    let words = [
-        2, 8, 2, 16, 1, 22, 3, 26, 0, 0, 0, 0, 1, 7, 0, 2, 0, 2, 0, 0, 2, 0, 0, 1, 2, 4000000000, 0, 0, 1,
+    let mut words = [
+        2, 8, 2, 16, 1, 24, 3, 28, 0, 0, 0, 0, 1, 7, 0, 2, 0, 2, 0, 0, 0, 2, 0, 1, 0, 1, 2, 4000000000, 0, 0, 1,
     ];
     let text = show(&words);
-    let (_, sections) = text.split_once("# length: 29\n").unwrap();
+    let (_, sections) = text.split_once("# length: 31\n").unwrap();
     assert_eq!(
         sections,
         "\
 # row 0: kind 0, tag 0, first 0, count 0; parts: none
 # row 1: kind 1, tag 7, first 0, count 2; parts: 0 0
-# party 0: name 0, first 2, count 0; known: none
-# party 1: name 0, first 2, count 0; known: none
+# party 0: name 0, first 2, count 0, mark 0; known: none
+# party 1: name 0, first 2, count 0, mark 1; known: none
 # refused 7 at party 1: name 0 is the name of party 0 already
 # step 0: sender 0, receiver 1, first 2, count 4000000000; messages: 1 ..
 # pool: 3 words
 "
     );
+    words[19] = 2;
+    let party = "\
+# party 0: name 0, first 2, count 0, mark 2; known: none
+# refused 7 at party 0: mark 2 is neither 1, may make, nor 0, may not
+# party 1: name 0, first 2, count 0, mark 1; known: none
+";
+    assert!(show(&words).contains(party), "{}", show(&words));
+}
+
+/// A book from before the parties had marks.
+#[test]
+fn parties_of_three_words() {
+    let text = show(&[2, 8, 2, 16, 0, 22, 0, 22, 0, 0, 0, 0, 0, 0, 0, 0, 0, 0, 0, 1, 0, 0]);
+    let mark = "# word 5, offset of the steps: 22\n\
+        # refused 3 at header word 5: the offset of the steps is 22, by the counts it is 24\n";
+    assert!(text.contains(mark), "{text}");
 }
 
 #[test]
@@ -176,6 +230,8 @@ fn tables_of_any_order_come_back() {
             if random.percent(70) || book.parties.is_empty() {
                 let known: Vec<u32> = (0..count as u32).filter(|_| random.percent(20)).collect();
                 book.parties.push(party(name as u32, &known));
+                let last = book.parties.last_mut().expect("just pushed");
+                last.makes = random.percent(70);
             }
         }
         let parties = book.parties.len();
@@ -222,7 +278,7 @@ fn the_heaviest_table_comes_back() {
 #[test]
 fn nothing_that_is_shown_panics() {
     let mark = |text: &str| text.lines().filter(|line| line.starts_with("# refused ")).count();
-    let mut refused = [0; 13];
+    let mut refused = [0; 10];
     let mut see = |words: &[u32]| {
         let text = show(words);
         match read(words) {

@@ -1,6 +1,6 @@
 //! What the random books have in them: every refusal, long listings, and all kinds of events.
 
-use host::book::{self, Book};
+use host::book::{self, Book, Layout, COUNTS, HEADER, MARK, OFFSETS};
 use host::compare;
 use host::random;
 use host::term::Form;
@@ -23,7 +23,7 @@ fn every_answer_occurs() {
         long += usize::from(number == 0 && line.split(' ').count() > 10_000);
     }
     println!("{counts:?}, {long} long, {uneven} uneven");
-    for number in 1..=10 {
+    for number in (1..=10).chain([13]) {
         let count = counts.get(&number).copied().unwrap_or(0);
         assert!(count >= 20, "refusal {number} only {count} times");
     }
@@ -33,8 +33,74 @@ fn every_answer_occurs() {
     assert!(uneven >= 5);
     // Of the well-formed ones about half are playable.
     let playable = counts[&0] + counts[&12];
-    let share = 100 * playable / (playable + counts[&10]);
+    let share = 100 * playable / (playable + counts[&10] + counts[&13]);
     assert!((40..=75).contains(&share), "{share} of a hundred are playable");
+}
+
+/// Books with parties that make nothing: about half can be played, and there such parties have something to say while
+/// others make. The other half are refused by 10 or by 13.
+#[test]
+fn parties_that_make_nothing() {
+    let mut counts: BTreeMap<u32, usize> = BTreeMap::new();
+    let (mut said, mut made) = (0, 0);
+    for bytes in random::books(SEED, 2_000) {
+        let Ok(book) = words::of_bytes(&bytes).and_then(|words| book::read(&words)) else {
+            continue;
+        };
+        if book.parties.iter().all(|party| party.makes) {
+            continue;
+        }
+        let programs = translate::programs(&book);
+        let number = programs.as_ref().err().map_or(0, |refusal| refusal.number);
+        *counts.entry(number).or_default() += 1;
+        for (party, program) in book.parties.iter().zip(programs.iter().flatten()) {
+            let news = program
+                .iter()
+                .filter(|event| matches!(event, Event::New { .. }))
+                .count();
+            let speaks = |event: &&Event| matches!(event, Event::Send { images, .. } if !images.is_empty());
+            match party.makes {
+                true => made += news,
+                false => {
+                    assert_eq!(news, 0, "{book:?}");
+                    said += program.iter().filter(speaks).count();
+                }
+            }
+        }
+    }
+    println!("{counts:?}, {said} steps of those who make nothing, {made} atoms made");
+    let all: usize = counts.values().sum();
+    let share = 100 * counts[&0] / all;
+    assert!((40..=65).contains(&share), "{share} of a hundred are playable");
+    assert!(counts[&10] >= 50 && counts[&13] >= 40, "{counts:?}");
+    assert!(said > 500 && made > 200, "{said}, {made}");
+}
+
+/// Marks that are none, and books from before there were any, are among the damaged ones.
+#[test]
+fn damaged_marks() {
+    let (mut wrong, mut missing) = (0, 0);
+    for bytes in random::books(SEED, 4_000) {
+        let Ok(words) = words::of_bytes(&bytes) else {
+            continue;
+        };
+        let Err(refusal) = book::read(&words) else {
+            continue;
+        };
+        if words.len() < HEADER {
+            continue;
+        }
+        let at = refusal.place[0] as usize;
+        match refusal.number {
+            3 if at == OFFSETS[2] => {
+                let old = Layout::counted(&words).steps as u32 - words[COUNTS[1]];
+                missing += usize::from(words[at] == old);
+            }
+            7 => wrong += usize::from(words[Layout::counted(&words).party(at) + MARK] > 1),
+            _ => (),
+        }
+    }
+    assert!(wrong >= 10 && missing >= 10, "{wrong} wrong marks, {missing} without");
 }
 
 #[test]

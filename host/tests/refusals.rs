@@ -1,10 +1,10 @@
-//! Every refusal of document 01's table at each of its places, their order, and that all lent
+//! Every refusal of a book, document 01's and document 02's, at each of its places, their order, and that all lent
 //! words stay as they were.
 
 mod common;
 
-use common::{atoms, book, parties, party, row, step};
-use host::book::{read, Book, Layout, Refusal, Row, Step, HEADER};
+use common::{atoms, book, making_nothing, parties, party, row, step};
+use host::book::{read, Book, Layout, Refusal, Row, Step, HEADER, MARK};
 use host::rehearse::rehearse;
 use host::translate::translate;
 
@@ -54,7 +54,7 @@ fn refused(words: &[u32]) -> Option<(u32, Vec<u32>)> {
     let mut out = old.clone();
     let rehearsed = rehearse(words, &[], &mut out).err();
     assert_eq!(out, old);
-    if number < 11 {
+    if number != 12 {
         let same = Refusal {
             number,
             place: place.clone(),
@@ -294,6 +294,12 @@ fn refusal_7() {
         (&[(party_at(0) + 2, 2)], 7, 1),
         (&[(party_at(1) + 2, 11)], 7, 1),
         (&[(party_at(1) + 2, 2)], 8, 0),
+        // The mark.
+        (&[(party_at(0) + MARK, 2)], 7, 0),
+        (&[(party_at(1) + MARK, 2)], 7, 1),
+        (&[(party_at(0) + MARK, 256)], 7, 0),
+        (&[(party_at(0) + MARK, 1 << 31)], 7, 0),
+        (&[(party_at(1) + MARK, MAX)], 7, 1),
         // The known rows.
         (&[(pool_at(9), 0)], 7, 0),
         (&[(pool_at(9), 2)], 7, 0),
@@ -305,7 +311,14 @@ fn refusal_7() {
         // The smallest, and before any step.
         (&[(party_at(1), 9), (party_at(0), 9)], 7, 0),
         (&[(party_at(1), 9), (step_at(0), 9)], 7, 1),
+        (&[(party_at(1) + MARK, 2), (party_at(0) + MARK, 3)], 7, 0),
+        (&[(party_at(1) + MARK, 2), (party_at(0), 9)], 7, 0),
+        (&[(party_at(1) + MARK, 2), (step_at(0), 9)], 7, 1),
     ]);
+    // Marks 1 and 0 both keep the rule: B makes nothing in the sound book.
+    let words = making_nothing(sound(), &[1]).words();
+    assert_eq!((words[party_at(0) + MARK], words[party_at(1) + MARK]), (1, 0));
+    assert_eq!(refused(&words), None);
     for (kept, party) in [(8, 0), (10, 0), (11, 1), (13, 1)] {
         let mut words = sound().words();
         words[6] = kept as u32;
@@ -429,6 +442,77 @@ fn refusal_10() {
     // A row in the dictionary is sent as it is, whatever is in it.
     let entry = three(&rows, [&[6], &[], &[3]], &[step(0, 1, &[6])]);
     assert_eq!(taken(&entry), None);
+}
+
+/// "A party marked 0 would have to make an atom": the first atom that can't be made, 10 if it is taken and else 13.
+#[test]
+fn refusal_13() {
+    let unmade = |marked: &[usize], book: &Book| refused(&making_nothing(book.clone(), marked).words());
+    let nothing: [&[u32]; 3] = [&[], &[], &[]];
+    // An atom that is nobody's yet, alone and at any depth; the mark is the sender's.
+    let inside = [row(2, 0, &[3, 4]), row(1, 0, &[6]), row(3, 0, &[4])];
+    for (message, row) in [(4, 4), (6, 3), (7, 3), (8, 4)] {
+        let fresh = three(&inside, nothing, &[step(2, 1, &[]), step(0, 1, &[message])]);
+        assert_eq!(unmade(&[], &fresh), None);
+        assert_eq!(unmade(&[1, 2], &fresh), None);
+        assert_eq!(unmade(&[0], &fresh), Some((13, vec![1, row])));
+        assert_eq!(unmade(&[0, 1, 2], &fresh), Some((13, vec![1, row])));
+    }
+    // A taken atom is 10 whoever would make it: a name, known to another, or sent among others.
+    let name = three(&[], nothing, &[step(0, 1, &[2])]);
+    assert_eq!(unmade(&[0], &name), Some((10, vec![0, 2])));
+    let known = three(&inside, [&[], &[], &[7]], &[step(0, 1, &[8])]);
+    assert_eq!(unmade(&[0], &known), Some((10, vec![0, 4])));
+    let sent = three(&[], nothing, &[step(0, 1, &[4]), step(2, 1, &[4])]);
+    assert_eq!(unmade(&[2], &sent), Some((10, vec![1, 4])));
+    // Of one step the first in building order, where K is C's and N nobody's: messages left to right, a key before
+    // its contents.
+    let rows = [row(2, 0, &[3, 4]), row(2, 0, &[4, 3])];
+    for (messages, refusal) in [
+        (&[6][..], (10, vec![0, 3])),
+        (&[7], (13, vec![0, 4])),
+        (&[3, 4], (10, vec![0, 3])),
+        (&[4, 3], (13, vec![0, 4])),
+        (&[5, 6], (13, vec![0, 5])),
+    ] {
+        let both = three(&rows, [&[], &[], &[3]], &[step(0, 1, messages)]);
+        assert_eq!(unmade(&[0], &both), Some(refusal), "{messages:?}");
+        // Where the sender may make, N and M are no matter.
+        assert_eq!(unmade(&[1], &both), Some((10, vec![0, 3])), "{messages:?}");
+    }
+    // Of several steps the smallest, whichever of the two it is.
+    let (maker, taken) = (step(0, 1, &[4]), step(1, 0, &[2]));
+    let first = three(&[], nothing, &[maker.clone(), taken.clone()]);
+    assert_eq!(unmade(&[0], &first), Some((13, vec![0, 4])));
+    assert_eq!(unmade(&[], &first), Some((10, vec![1, 2])));
+    let second = three(&[], nothing, &[taken, maker]);
+    assert_eq!(unmade(&[0], &second), Some((10, vec![0, 2])));
+    // What is held is not made: known, stored, found in a cipher; nor is anything made below a row that is held.
+    let cipher = [row(2, 0, &[3, 4]), row(1, 0, &[])];
+    let held = three(
+        &cipher,
+        [&[3], &[3], &[]],
+        &[step(0, 1, &[6, 5]), step(1, 2, &[6, 4, 5, 7]), step(2, 0, &[6, 4])],
+    );
+    assert_eq!(unmade(&[1, 2], &held), None);
+    assert_eq!(unmade(&[0, 1, 2], &held), Some((13, vec![0, 4])));
+    let entry = three(&cipher, [&[6], &[], &[]], &[step(0, 1, &[6])]);
+    assert_eq!(unmade(&[0], &entry), None);
+    // After refusal 9.
+    let words = making_nothing(second, &[0]).words();
+    let longer = |words: &[u32]| {
+        let mut words = [words, &[0]].concat();
+        words[6] += 1;
+        words
+    };
+    assert_eq!(refused(&longer(&words)), Some((9, vec![0])));
+    let words = making_nothing(first, &[0]).words();
+    assert_eq!(refused(&longer(&words)), Some((9, vec![0])));
+    // Before 11 and 12.
+    let thirteen = Err(Refusal::new(13, &[0, 4]));
+    assert_eq!(rehearse(&words, &[9], &mut [0; 3]), thirteen);
+    assert_eq!(rehearse(&words, &[], &mut []), thirteen);
+    assert_eq!(translate(&words, &mut []), thirteen);
 }
 
 #[test]

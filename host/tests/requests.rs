@@ -169,15 +169,33 @@ fn summaries_and_questions() {
     assert_eq!(answered(&stream.concat()), (lines, Ok(8)));
 }
 
-/// Acceptance is more than reading: a book that keeps its rules and can't be played.
+/// Acceptance is more than reading: a book that keeps its rules and can't be played, by 10 or by 13.
 #[test]
 fn read_and_accept_differ() {
-    let book = top().join("books/unplayable-late-key.book");
-    let book = slice(&of_bytes(&std::fs::read(book).unwrap()).unwrap());
-    let (lines, _) = answered(&to_bytes(&[&[1][..], &book, &[2], &book].concat()));
-    let (first, second) = lines.split_once('\n').unwrap();
-    assert_eq!(first, "accepted");
-    assert!(second.starts_with("refused 10 "), "{second}");
+    for (name, refusal) in [
+        ("unplayable-late-key", "refused 10 2 3\n"),
+        ("unplayable-maker", "refused 13 0 3\n"),
+    ] {
+        let book = top().join(format!("books/{name}.book"));
+        let book = slice(&of_bytes(&std::fs::read(book).unwrap()).unwrap());
+        let stream = [
+            &[1][..],
+            &book,
+            &[2],
+            &book,
+            &[3],
+            &book,
+            &[0],
+            &[4],
+            &book,
+            &[1, 99, 0],
+            &[7],
+            &book,
+            &[0],
+        ];
+        let (lines, count) = answered(&to_bytes(&stream.concat()));
+        assert_eq!((lines, count), (format!("accepted\n{}", refusal.repeat(4)), Ok(5)));
+    }
 }
 
 #[test]
@@ -280,11 +298,11 @@ fn the_stream_of_the_books() {
     let calls = Calls::of(&top().join("books")).unwrap();
     let (lines, count) = answered(&calls.stdin);
     assert_eq!((lines.as_bytes(), count), (&calls.stdout[..], Ok(calls.requests)));
-    assert!(calls.requests < 1_400, "{}", calls.requests);
+    assert!(calls.requests < 1_700, "{}", calls.requests);
     for whole in ["accepted", "yes", "no", "refused 12 16387"] {
         assert!(lines.lines().any(|line| line == whole), "{whole}");
     }
-    for number in (1..=12).chain([20, 21]) {
+    for number in (1..=13).chain([20, 21]) {
         let refused = format!("refused {number} ");
         assert!(lines.contains(&refused), "{refused}");
     }
@@ -310,7 +328,7 @@ fn the_stream_of_the_books() {
         }
     }
     for number in [7, 9] {
-        for kind in ["refused 2", "refused 10", "refused 12", "2 5"] {
+        for kind in ["refused 2", "refused 10", "refused 13", "refused 12", "2 5"] {
             assert!(met.contains(&(number, kind.to_string())), "{number} {kind}");
         }
     }
@@ -320,11 +338,18 @@ fn the_stream_of_the_books() {
 /// Random requests are whole, and the same seed gives the same ones.
 #[test]
 fn random_requests() {
-    let stream = requests::random(5, 300);
-    assert_eq!(stream, requests::random(5, 300));
+    let stream = requests::random(5, 600);
+    assert_eq!(stream, requests::random(5, 600));
     let (lines, count) = answered(&stream);
-    assert_eq!(count, Ok(300));
-    for kind in ["accepted\n", "refused 2 ", "refused 10 ", "refused 11 ", "refused 12 "] {
+    assert_eq!(count, Ok(600));
+    for kind in [
+        "accepted\n",
+        "refused 2 ",
+        "refused 10 ",
+        "refused 11 ",
+        "refused 12 ",
+        "refused 13 ",
+    ] {
         assert!(lines.contains(kind), "{kind}");
     }
     // All functions occur, and all answers to questions, each several times.

@@ -29,6 +29,10 @@ enum Fake {
     NoRehearsal,
     WordsPastTheOutput,
     WordsAnswer,
+    MarksIgnored,
+    MakerForTaken,
+    TakenForMaker,
+    MakerWithoutRow,
     NeverIsTheLastStep,
     BuildableForHeld,
     SummaryBytesShort,
@@ -41,6 +45,15 @@ enum Fake {
     StepMayBeL,
     OddSummaryLetPass,
     NoOnBytes,
+}
+
+/// A book's words with all parties marked 1, where it keeps its rules.
+fn all_may_make(book: &[u32]) -> Vec<u32> {
+    let Ok(mut whole) = host::book::read(book) else {
+        return book.to_vec();
+    };
+    whole.parties.iter_mut().for_each(|party| party.makes = true);
+    whole.words()
 }
 
 fn whole(bytes: &[u8]) -> &[u8] {
@@ -73,6 +86,9 @@ impl Fake {
             (Fake::RefusalWrites, Err(_)) if !out.is_empty() => out[0] ^= 1,
             (Fake::WrittenPastTheOutput, Ok(length)) if out.len() >= 4 * length + 4 => out[4 * length] ^= 1,
             (Fake::HighBitsOfTheAnswer, Err(_)) => return packed(&answer) | 1 << 63,
+            (Fake::MakerWithoutRow, Err(Refusal { number: 13, place })) => {
+                return packed(&Err(Refusal::new(13, &place[..1])));
+            }
             _ => (),
         }
         packed(&answer)
@@ -159,8 +175,14 @@ impl Side for Fake {
     }
 
     fn translate(&self, book: &[u32], out: &mut [u32]) -> Answer {
+        let book = match self {
+            Fake::MarksIgnored => &all_may_make(book),
+            _ => book,
+        };
         let answer = translate::translate(book, out);
         match (self, &answer) {
+            (Fake::MakerForTaken, Err(Refusal { number: 10, place })) => return Err(Refusal::new(13, place)),
+            (Fake::TakenForMaker, Err(Refusal { number: 13, place })) => return Err(Refusal::new(10, place)),
             (Fake::WordsPastTheOutput, Ok(length)) if out.len() > *length => out[*length] ^= 1,
             (Fake::WordsAnswer, Ok(length)) => return Ok(length + 1),
             _ => (),
@@ -206,12 +228,12 @@ fn told(fake: Fake, trials: &Trials, keep: &Folder) -> (bool, String) {
 #[test]
 fn right_and_wrong_ones() {
     let keep = Folder::new("routes");
-    let random = Trials::new(&[], 3, 400).expect("random ones");
+    let random = Trials::new(&[], 3, 800).expect("random ones");
     let (same, text) = told(Fake::Right, &random, &keep);
     assert!(same, "{text}");
-    assert!(text.starts_with("seed 3, 400 random books and schedules, 0 fixed ones\n"));
+    assert!(text.starts_with("seed 3, 800 random books and schedules, 0 fixed ones\n"));
     assert!(text.ends_with(" calls on each route, 0 differences\n"), "{text}");
-    for number in (1..=10).chain([12]) {
+    for number in (1..=10).chain([12, 13]) {
         assert!(text.contains(&format!("refused {number}: ")), "{text}");
     }
     let met = [
@@ -230,7 +252,7 @@ fn right_and_wrong_ones() {
         assert!(text.contains(&format!("{met}: ")), "{met}: {text}");
     }
     let line = |function: &str| text.lines().find(|line| line.starts_with(function)).expect("a line");
-    for number in (1..=10).chain([12]) {
+    for number in (1..=10).chain([12, 13]) {
         assert!(
             line("summary: ").contains(&format!("refused {number}: ")),
             "{number}: {text}"
@@ -256,6 +278,10 @@ fn right_and_wrong_ones() {
         Fake::NoRehearsal,
         Fake::WordsPastTheOutput,
         Fake::WordsAnswer,
+        Fake::MarksIgnored,
+        Fake::MakerForTaken,
+        Fake::TakenForMaker,
+        Fake::MakerWithoutRow,
         Fake::NeverIsTheLastStep,
         Fake::BuildableForHeld,
         Fake::SummaryBytesShort,

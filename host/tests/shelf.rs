@@ -23,7 +23,7 @@ fn the_crate_is_current() {
     assert_eq!(shelf.check(&top().join("crates/shelf")), Ok(()));
     // Seven lines a book, and each kind of answer.
     assert_eq!(text(&shelf).lines().count(), 7 * shelf.books);
-    for number in 1..=12 {
+    for number in 1..=13 {
         let refused = format!("refused {number} ");
         assert!(text(&shelf).contains(&refused), "{refused}");
     }

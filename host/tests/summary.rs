@@ -3,7 +3,7 @@
 
 mod common;
 
-use common::{atoms, book, parties, party, printed, row, step, top, Folder, EXAMPLE_1, SMALLEST};
+use common::{atoms, book, making_nothing, parties, party, printed, row, step, top, Folder, EXAMPLE_1, SMALLEST};
 use host::book::{read, Book, Refusal};
 use host::random;
 use host::summary::{ask, held_after, of, write};
@@ -88,6 +88,26 @@ fn held_is_more_than_buildable() {
         3, 3, 3, 3, 1, 3, 0, 3,
     ];
     assert_eq!(written(&book.words()), Ok(summary.to_vec()));
+}
+
+/// The mark is no matter of what is held: a tag that makes nothing holds the nonce that came, after the step it came in.
+#[test]
+fn a_party_that_makes_nothing() {
+    let steps = [step(0, 1, &[3]), step(1, 0, &[4])];
+    let book = book(
+        [atoms(4), vec![row(2, 0, &[2, 3])]].concat(),
+        &[party(0, &[2]), party(1, &[2])],
+        &steps,
+    );
+    let summary = [2, 5, 2, 3, 3, 0, 1, 3, 3, 3, 0, 1, 3];
+    assert_eq!(written(&book.words()), Ok(summary.to_vec()));
+    let marked = making_nothing(book.clone(), &[1]);
+    assert_eq!(written(&marked.words()), Ok(summary.to_vec()));
+    every_question(&marked, &summary);
+    // Where it would have to make, there is no summary and no answer.
+    let maker = making_nothing(book, &[0]);
+    assert_eq!(written(&maker.words()), Err(Refusal::new(13, &[0, 3])));
+    assert_eq!(held_after(&maker, 0, 2, 0), Err(Refusal::new(13, &[0, 3])));
 }
 
 #[test]
@@ -232,7 +252,7 @@ fn refused_books() {
     }
     met.sort();
     met.dedup();
-    assert_eq!(met, (1..=10).collect::<Vec<u32>>());
+    assert_eq!(met, (1..=10).chain([13]).collect::<Vec<u32>>());
 }
 
 #[test]
@@ -384,6 +404,8 @@ row  A       B       term
     assert_eq!(printed(&["summary", &refused.to_string_lossy()]), "refused 6 2\n");
     let unplayable = top().join("books/unplayable-late-key.book");
     assert_eq!(printed(&["summary", &unplayable.to_string_lossy()]), "refused 10 2 3\n");
+    let maker = top().join("books/unplayable-maker.book");
+    assert_eq!(printed(&["summary", &maker.to_string_lossy()]), "refused 13 0 3\n");
     let uneven = folder.file("uneven.book", [0]);
     assert_eq!(printed(&["summary", &uneven]), "refused 1 0\n");
 }

@@ -1,10 +1,10 @@
-//! Document 01's "Trials at the edges", marked P or not, and document 02's order of receiving. Every expected word was
-//! worked out by hand. Examples 2 to 4 are in tests/examples.rs.
+//! Document 01's "Trials at the edges", marked P or not, document 02's order of receiving, and its parties that make
+//! nothing. Every expected word was worked out by hand. Examples 2 to 4 are in tests/examples.rs.
 
 mod common;
 
-use common::{atom, atoms, book, party, row, step, EXAMPLE_1, LISTING_1, SMALLEST};
-use host::book::{read, Book, Party, Refusal, Row, Step, LONGEST, READ};
+use common::{atom, atoms, book, making_nothing, party, row, step, EXAMPLE_1, LISTING_1, SMALLEST};
+use host::book::{read, Book, Layout, Party, Refusal, Row, Step, LONGEST, MARK, READ};
 use host::translate::{print, translate};
 use host::words::{self, to_bytes};
 
@@ -381,6 +381,91 @@ fn contents_are_numbered_before_they_are_received() {
     assert_eq!(listing(&book.words()), Ok(joined(&[&a, &b])));
 }
 
+/// Rows R, T, K, N, {N, T}K, f(N). R makes N; T sends it back under K and in an operation, and need make nothing.
+#[test]
+fn a_sender_that_makes_nothing() {
+    let rows = [atoms(4), vec![row(2, 0, &[2, 3, 1]), row(1, 7, &[3])]].concat();
+    let steps = [step(0, 1, &[3]), step(1, 0, &[4, 5])];
+    let plain = book(rows, &[party(0, &[1, 2]), party(1, &[1, 2])], &steps);
+    let r = [
+        &[1, 3, 2, 0, 1, 0, 3][..],      // new N; N
+        &[3, 1, 0, 2, 5, 0, 2, 2, 0, 2], // x0 holds x2, x3
+        &[4, 2, 0, 3, 4, 3, 0, 1],       // x2 = N, x3 = T
+        &[4, 1, 2, 7, 1, 0, 3, 6, 0],    // x1 = f(N)
+    ];
+    let t = [
+        &[3, 0, 0, 1][..],                                 // x0, stored
+        &[2, 1, 2, 3, 2, 0, 2, 1, 0, 0, 1, 2, 7, 1, 1, 0], // {x0, T}K, f(x0)
+        &[6, 1, 3, 0],                                     // N is x0
+    ];
+    let programs = joined(&[&r.concat(), &t.concat()]);
+    assert_eq!(listing(&plain.words()), Ok(programs.clone()));
+    // "1 may make, 0 may not": the fourth word of a party, and nothing else in the listing.
+    let marked = making_nothing(plain.clone(), &[1]).words();
+    let mut words = plain.words();
+    words[8 + 4 * 6 + 4 + 3] = 0;
+    assert_eq!(words, marked);
+    assert_eq!(listing(&marked), Ok(programs));
+    // Marked, R can't begin.
+    assert_eq!(
+        listing(&making_nothing(plain, &[0]).words()),
+        Err(Refusal::new(13, &[0, 3]))
+    );
+}
+
+/// "The walk stops at the first atom that can't be made, with 10 if it is taken and else 13."
+#[test]
+fn the_first_atom_that_cannot_be_made() {
+    // Rows R, T, M, N, {M}N, {N}M; R knows M.
+    let rows = [atoms(4), vec![row(2, 0, &[3, 2]), row(2, 0, &[2, 3])]].concat();
+    let answer = |steps: &[Step]| {
+        let book = book(rows.clone(), &[party(0, &[2]), party(1, &[])], steps);
+        let words = making_nothing(book, &[1]).words();
+        listing(&words).map_err(|refusal| (refusal.number, refusal.place))
+    };
+    // Untaken N first and then taken M, and the other way round.
+    assert_eq!(answer(&[step(1, 0, &[3, 2])]), Err((13, vec![0, 3])));
+    assert_eq!(answer(&[step(1, 0, &[4])]), Err((13, vec![0, 3])));
+    assert_eq!(answer(&[step(1, 0, &[2, 3])]), Err((10, vec![0, 2])));
+    assert_eq!(answer(&[step(1, 0, &[5])]), Err((10, vec![0, 2])));
+    // A 13 at step 0 before a 10 at step 1, and the other way round: R would have to make T's name.
+    let (maker, taken) = (step(1, 0, &[3]), step(0, 1, &[1]));
+    assert_eq!(answer(&[maker.clone(), taken.clone()]), Err((13, vec![0, 3])));
+    assert_eq!(answer(&[taken, maker]), Err((10, vec![0, 1])));
+    // Once R has sent N, T holds it; had R sent it to another, it would be taken.
+    assert!(answer(&[step(0, 1, &[3]), step(1, 0, &[3])]).is_ok());
+}
+
+#[test]
+fn marks_that_are_none() {
+    let mark = Layout::of([1, 1, 0, 0]).party(0) + MARK;
+    for (word, answer) in [
+        (0, Ok(vec![1, 3, 2, 6, 0])),
+        (1, Ok(vec![1, 3, 2, 6, 0])),
+        (2, Err(Refusal::new(7, &[0]))),
+        (u32::MAX, Err(Refusal::new(7, &[0]))),
+    ] {
+        let mut words = SMALLEST;
+        words[mark] = word;
+        assert_eq!(listing(&words), answer, "mark {word}");
+    }
+}
+
+/// Example 1 as it was when a party had three words, 53 in all: the steps should begin two words later.
+#[test]
+fn an_old_book() {
+    let old = [
+        5, 8, 2, 28, 2, 34, 11, 42, //
+        0, 0, 0, 0, 0, 0, 0, 0, 0, 0, 0, 0, 0, 0, 0, 0, //
+        2, 0, 0, 3, //
+        0, 3, 3, 1, 6, 3, //
+        1, 0, 9, 1, 0, 1, 10, 1, //
+        2, 3, 1, 0, 1, 2, 0, 1, 2, 3, 4,
+    ];
+    assert_eq!(listing(&old), Err(Refusal::new(3, &[5])));
+    assert_eq!(print(&to_bytes(&old)), "refused 3 5");
+}
+
 /// Two parties that know row 0 send and compare halves of these sizes, one a step: 9 words, and
 /// 9 more and twice the size for each.
 fn halves_of_sizes(sizes: &[u32]) -> Book {
@@ -415,12 +500,23 @@ fn the_longest_book() {
     let steps: Vec<Step> = (0..64).map(step).collect();
     let rows = [atoms(576), (0..448).map(operation).collect()].concat();
     let words = book(rows, &parties, &steps).words();
-    assert_eq!((words.len(), LONGEST), (12_600, 12_600));
+    assert_eq!((words.len(), LONGEST), (12_616, 12_616));
     // Each party sends 4 times 8 images of 19 words, and compares as many.
     let own = 4 * (3 + 8 * 19) + 4 * (4 + 8 * 21) + 2;
     let length = listing(&words).map(|listing| listing.len());
     assert_eq!(length, Ok(33 + 16 * own));
     assert_eq!(print(&to_bytes(&words)), format!("refused 12 {}", 33 + 16 * own));
+    // They only send what they know, so that all of them may be marked 0.
+    let all: Vec<usize> = (0..16).collect();
+    let marked = making_nothing(read(&words).expect("a book"), &all).words();
+    assert_eq!(listing(&marked).map(|listing| listing.len()), length);
+    // One word more is no book's length.
+    for words in [words, marked] {
+        let longer = [&words[..], &[0]].concat();
+        assert_eq!(longer.len(), 12_617);
+        assert_eq!(listing(&longer), Err(Refusal::new(3, &[8])));
+        assert_eq!(print(&to_bytes(&longer)), "refused 3 8");
+    }
 }
 
 #[test]
@@ -431,7 +527,7 @@ fn the_small_program_reads_so_far_and_no_further() {
     file.extend([0, 0, 0]);
     assert_eq!(print(&file), "refused 3 8");
     // One word more than the longest book is read of a longer file, and that is a multiple of four bytes.
-    assert_eq!((READ, 4 * READ), (12_601, 50_404));
+    assert_eq!((READ, 4 * READ), (12_617, 50_468));
     file.resize(4 * READ + 1, 0);
     assert_eq!(print(&file), "refused 3 8");
     file.resize(4 * READ - 1, 0);

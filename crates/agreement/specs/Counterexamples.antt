@@ -70,6 +70,7 @@ duplicates =
     record {
       names = partyName 0 ∷ partyName 1 ∷ [];
       knows = (madeKey ∷ nonce ∷ []) ∷ (madeKey ∷ []) ∷ [];
+      makes = true ∷ true ∷ [];
       says = stepFrom 0 1 (twoTerms (Term.cipher madeKey (oneTerm nonce)) (Term.cipher madeKey (oneTerm token))) ∷ [];
     }
 
@@ -102,6 +103,7 @@ sealed =
     record {
       names = partyName 0 ∷ partyName 1 ∷ [];
       knows = (Term.public key ∷ []) ∷ (key ∷ []) ∷ [];
+      makes = true ∷ true ∷ [];
       says = stepFrom 0 1 (oneTerm (Term.cipher (Term.public key) (oneTerm nonce))) ∷ [];
     }
 
@@ -130,6 +132,7 @@ missing =
     record {
       names = partyName 0 ∷ partyName 1 ∷ [];
       knows = (nonce ∷ []) ∷ [] ∷ [];
+      makes = true ∷ true ∷ [];
       says = stepFrom 1 0 (oneTerm nonce) ∷ [];
     }
 
@@ -204,6 +207,7 @@ unseen =
     record {
       names = partyName 0 ∷ partyName 1 ∷ partyName 2 ∷ [];
       knows = [] ∷ [] ∷ [] ∷ [];
+      makes = true ∷ true ∷ true ∷ [];
       says = stepFrom 0 1 (oneTerm nonce) ∷ stepFrom 2 1 (oneTerm nonce) ∷ [];
     }
 
@@ -228,6 +232,7 @@ twoSteps =
     record {
       names = partyName 0 ∷ partyName 1 ∷ [];
       knows = (nonce ∷ token ∷ []) ∷ [] ∷ [];
+      makes = true ∷ true ∷ [];
       says = stepFrom 0 1 (oneTerm nonce) ∷ stepFrom 0 1 (oneTerm token) ∷ [];
     }
 

@@ -1,4 +1,4 @@
--- The atoms that a program makes, against those that refusal 10 looks at. Document 01: "An atom is taken at a step if it is a party's
+-- The atoms that a program makes, against those that refusals 10 and 13 look at. Document 01: "An atom is taken at a step if it is a party's
 -- name, or occurs at any depth in any party's starting knowledge or in a message of an earlier step. Making a taken atom is
 -- refusal 10."
 use Prim.Native.Nat.{ℕ, suc, _<_}

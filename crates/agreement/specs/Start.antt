@@ -36,7 +36,7 @@ use Rattle.agreement.specs.News.Laws.{program-free, program-once, progra
 use Rattle.agreement.specs.Log.{Logged}
 use Rattle.agreement.specs.Log.Laws.{reach-logged}
 
--- a narration among the first Q parties that refusal 10 lets pass
+-- a narration among the first Q parties that refusals 10 and 13 let pass
 pub record PlayableAmong (N : Narration) (Q : ℕ) : Type 0 where
   pub senders : (s : ℕ) → s < length (N .says) → stepOf N s .sender < Q
   pub playable : (s : ℕ) → s < length (N .says) → Playable N s

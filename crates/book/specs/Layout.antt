@@ -1,5 +1,6 @@
 -- Where a book's words lie. Document 01: "a header of counts and offsets, then four sections without gaps"; "Row: kind, tag, first,
--- count. Party: name, first, count. Step: sender, receiver, first, count. Pool: row numbers." Widths, bounds and offsets stand here
+-- count. Party: name, first, count. Step: sender, receiver, first, count. Pool: row numbers." Document 02, [5]: "The party record gets a
+-- fourth word, 1 may make, 0 may not"; "Steps now start at 8+4T+4Q and the longest book is 12,616 words." Widths, bounds and offsets stand here
 -- and nowhere else. A word past the book's end is read as 0; no rule is asked there of a book that refusals 1 to 3 let pass.
 use Prim.Native.Nat.{ℕ, zero, suc, _+_, _*_}
 use mathlib.Core.List.{List, [], _∷_}
@@ -21,7 +22,7 @@ abbrev pub sections : ℕ
 sections = 4
 
 abbrev pub width : ℕ → ℕ
-width i = getD (4 ∷ 3 ∷ 4 ∷ 1 ∷ []) i 0
+width i = getD (4 ∷ 4 ∷ 4 ∷ 1 ∷ []) i 0
 
 abbrev pub least : ℕ → ℕ
 least i = getD (1 ∷ 1 ∷ 0 ∷ 0 ∷ []) i 0
@@ -29,8 +30,8 @@ least i = getD (1 ∷ 1 ∷ 0 ∷ 0 ∷ []) i 0
 abbrev pub most : ℕ → ℕ
 most i = getD (1024 ∷ 16 ∷ 64 ∷ 8192 ∷ []) i 0
 
--- the longest book, each section at its bound. "It reads one word more than the longest book .. and no further": the words that are
--- loaded of a book, however long it is, and their bytes
+-- the longest book, each section at its bound: "the longest book is 12,616 words". "It reads one word more than the longest book .. and no
+-- further": the words that are loaded of a book, however long it is, and their bytes
 abbrev pub longest : ℕ
 longest = header + width 0 * most 0 + width 1 * most 1 + width 2 * most 2 + width 3 * most 3
 
@@ -88,6 +89,9 @@ partyFirst b p = field b 1 p 1
 
 abbrev pub partyCount : List ℕ → ℕ → ℕ
 partyCount b p = field b 1 p 2
+
+abbrev pub mark : List ℕ → ℕ → ℕ
+mark b p = field b 1 p 3
 
 abbrev pub sender : List ℕ → ℕ → ℕ
 sender b s = field b 2 s 0

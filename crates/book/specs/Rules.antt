@@ -1,5 +1,5 @@
 -- The rule of a row, a party and a step, and of the header's words: as predicates with named fields, and as tests that compute.
--- Document 01, "The book". Rules.Laws has that each test and its predicate agree.
+-- Document 01, "The book", and document 02, [5]. Rules.Laws has that each test and its predicate agree.
 use Prim.Native.Nat.{ℕ, _+_, _-_, _≤_, _<_}
 use mathlib.Core.Bool.{Bool, true, false, not, _||_}
 use mathlib.Core.List.{List, [], _∷_}
@@ -11,7 +11,7 @@ use Rattle.words.specs.First.{any}
 use Rattle.words.specs.Run.{sameWords}
 use Rattle.terms.specs.Kind.{ofKind, lastKind}
 use Rattle.terms.specs.Table.{rowSize}
-use Rattle.book.specs.Layout.{sections, least, most, counted, begins, offset, rows, parties, steps, pool, kind, tag, rowFirst, rowCount, name, partyFirst, partyCount, sender, receiver, stepFirst, stepCount, pooled, parts, rowsBefore, partiesBefore, stepsBefore, table}
+use Rattle.book.specs.Layout.{sections, least, most, counted, begins, offset, rows, parties, steps, pool, kind, tag, rowFirst, rowCount, name, partyFirst, partyCount, mark, sender, receiver, stepFirst, stepCount, pooled, parts, rowsBefore, partiesBefore, stepsBefore, table}
 pub mod Laws
 
 -- ---- tests
@@ -102,13 +102,19 @@ pub record PartyRule (b : List ℕ) (p : ℕ) : Type 0 where
   pub named : name b p < rows b
   pub atomic : kind b (name b p) ≡ 0
   pub alone : (k : ℕ) → k < p → name b k ≡ name b p → ⊥
+  -- "1 may make, 0 may not; anything else is refusal 7"
+  pub marked : mark b p ≤ 1
   pub listed : ListRule b 0 256 (partyCount b p) (partyFirst b p) (partiesBefore b p) (rows b)
   -- "the known rows stand in strictly increasing order"
   pub rising : (j : ℕ) → j < partyCount b p - 1 → pooled b (partyFirst b p) j < pooled b (partyFirst b p) (j + 1)
 
+unfoldable pub nameBreaks : List ℕ → ℕ → Bool
+nameBreaks b p =
+    oneOf (leb (rows b) (name b p) ∷ differs (kind b (name b p)) 0 ∷ any (λ k. eqb (name b k) (name b p)) p ∷ [])
+
 unfoldable pub partyBreaks : List ℕ → ℕ → Bool
 partyBreaks b p =
-    oneOf (leb (rows b) (name b p) ∷ differs (kind b (name b p)) 0 ∷ any (λ k. eqb (name b k) (name b p)) p
+    oneOf (nameBreaks b p ∷ ltb 1 (mark b p)
     ∷ listBreaks b 0 256 (partyCount b p) (partyFirst b p) (partiesBefore b p) (rows b)
     ∷ any (λ j. leb (pooled b (partyFirst b p) (j + 1)) (pooled b (partyFirst b p) j)) (partyCount b p - 1) ∷ [])
 

@@ -1,5 +1,5 @@
--- Where a party's walk stops, as one value: which refusal it is, with the step and the row. Document 01, refusal 10: "smallest step, and
--- the first such row in building order".
+-- Where a party's walk stops, as code has it: one value that says which refusal it is, with the step and the row. Document 02, [5]: "the
+-- walk stops at the first atom that can't be made, with 10 if it is taken and else 13"; "place is step and row".
 use Prim.Native.Nat.{ℕ}
 use mathlib.Core.List.{[], _∷_}
 use lib.Dec.{eqb}
@@ -11,7 +11,7 @@ pub mod Laws
 abbrev pub stop : ℕ → ℕ → ℕ → Stop
 stop n s r = record { number = n; step = s; row = r }
 
--- it did not stop before step s
+-- it does not stop: not in step s, of one step; not before step s, of a walk
 abbrev pub nowhere : ℕ → Stop
 nowhere s = stop 0 s 0
 

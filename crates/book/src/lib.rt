@@ -13,7 +13,7 @@ ghost use Rattle.book.specs.Said.{refusalSays, toldSays};
 ghost use Rattle.book.specs.Span.{entry as entryAt, Span};
 ghost use Rattle.book.specs.Valid.{Valid};
 ghost use Rattle.book.specs.Layout.{sections, width, rows as rowsOf, parties as partiesOf, steps as stepsOf, pool as poolOf, field, pooled as pooledAt};
-ghost use Rattle.book.specs.Layout.{kind, tag, rowFirst, rowCount, name, partyFirst, partyCount, sender, receiver, stepFirst, stepCount};
+ghost use Rattle.book.specs.Layout.{kind, tag, rowFirst, rowCount, name, partyFirst, partyCount, mark, sender, receiver, stepFirst, stepCount};
 
 // Why a book, a schedule, a buffer, a summary or a question is refused: document 01's table and document 02's lines, a case a line.
 pub enum Refusal {
@@ -31,6 +31,7 @@ pub enum Refusal {
     Room(usize),
     Summary(usize),
     Question(u32),
+    Maker(u32, u32),
 }
 
 // A refusal as it is told: its number with one value, or with two.
@@ -54,8 +55,17 @@ pub struct Stop {
 }
 
 impl Stop {
-    // The refusals' numbers: the atom is taken.
+    // The refusals' numbers: the atom is taken, or its sender makes nothing.
     pub const TAKEN: u32 = 10;
+
+    pub const MAKER: u32 = 13;
+}
+
+// A party's mark, if it may make atoms; 0 if it may not.
+pub struct Mark {}
+
+impl Mark {
+    pub const MAKES: u32 = 1;
 }
 
 // Where a book's words lie: the words of the header, the number of sections, and the words of a record of each.
@@ -68,7 +78,7 @@ impl Layout {
 
     pub const ROW: u32 = 4;
 
-    pub const PARTY: u32 = 3;
+    pub const PARTY: u32 = 4;
 
     pub const STEP: u32 = 4;
 
@@ -375,7 +385,7 @@ pub fn row_count(book: &[u32], row: u32) -> usize
     wide(row_word(book, row, 3))
 }
 
-// A party's record: name, first, count.
+// A party's record: name, first, count, mark.
 pub fn party_name(book: &[u32], party: u32) -> u32
     requires { ⌜ Headed (now book) × (party < partiesOf (now book)) ⌝ }
     ensures { λ r. ⌜ r ≡ name (now (book .entry)) party ⌝ }
@@ -395,6 +405,13 @@ pub fn party_count(book: &[u32], party: u32) -> usize
     ensures { λ r. ⌜ (r ≡ partyCount (now (book .entry)) party) × (r < 2 ^ 32) ⌝ }
 {
     wide(party_word(book, party, 2))
+}
+
+pub fn party_mark(book: &[u32], party: u32) -> u32
+    requires { ⌜ Headed (now book) × (party < partiesOf (now book)) ⌝ }
+    ensures { λ r. ⌜ r ≡ mark (now (book .entry)) party ⌝ }
+{
+    party_word(book, party, 3)
 }
 
 // A step's record: sender, receiver, first, count.
@@ -462,5 +479,6 @@ pub fn told_of(refusal: Refusal) -> Told
         Refusal::Room(needed) => Told::One(12, needed as u64),
         Refusal::Summary(length) => Told::One(20, length as u64),
         Refusal::Question(number) => Told::One(21, number as u64),
+        Refusal::Maker(step, row) => Told::Two(13, step as u64, row as u64),
     }
 }

@@ -17,7 +17,7 @@ Claims b l = (s q : ℕ) → takenIn l s q ≡ taken (narration b) s q
 -- ---- on the way there
 -- the book's narration with the first k steps only
 unfoldable pub cut : List ℕ → ℕ → Narration
-cut b k = record { names = narration b .names; knows = narration b .knows; says = values (stepAt b) 0 k }
+cut b k = record { names = narration b .names; knows = narration b .knows; makes = narration b .makes; says = values (stepAt b) 0 k }
 
 -- the table once k steps are gone through: no entry is of a later step
 pub record ClaimsBefore (b : List ℕ) (k : ℕ) (l : List ℕ) : Type 0 where

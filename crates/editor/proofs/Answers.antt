@@ -1,6 +1,7 @@
 -- Answers, packed and on bytes: the bounds that packing rests on, and what came of a call on the words that bytes make. Assumes nothing.
 use Prim.Native.Nat.{ℕ, _+_, _/_, _≤_, _<_, min}
 use mathlib.Core.List.{List, [], _∷_}
+use mathlib.Core.Logic.{⊎-elim}
 use mathlib.Core.Path.{_≡_, refl, sym, ap, ap₂, _∙_}
 use native.Mathlib.Omega.{arith}
 use native.Mathlib.Decide.{ℕ-discrete}
@@ -39,10 +40,10 @@ laid-length s out ws = elim (ℕ-discrete (s .number) 0) [
 -- ---- packing
 -- the bounds of one value, and of two
 pub one-bounds : {n v : ℕ} → Small (said n (v ∷ [])) → (n < 256) × (v < 4294967296)
-one-bounds (Small.one ln other lv) = (ln, lv)
+one-bounds (Small.one ln other another lv) = (ln, lv)
 
-pub two-bounds : {n v w : ℕ} → Small (said n (v ∷ w ∷ [])) → (n ≡ 10) × (v < 4294967296) × (w < 16777216)
-two-bounds (Small.two lv lw) = (refl, lv, lw)
+pub two-bounds : {n v w : ℕ} → Small (said n (v ∷ w ∷ [])) → (n ≤ 13) × (v < 4294967296) × (w < 16777216)
+two-bounds (Small.two stops lv lw) = (⊎-elim (λ e. omega arith) (λ e. omega arith) stops, lv, lw)
 
 -- what a caller in another language gets
 pub packed-came : {o : Outcome} {new : List ℕ} {n : ℕ} (r : Answer) → came r new ≡ o → n ≡ pack (answerSays r) → returned n new ≡ packed o

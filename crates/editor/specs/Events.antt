@@ -10,7 +10,7 @@ use Rattle.translation.specs.Steps.{before}
 use Rattle.holding.specs.View.{rowOf}
 use Rattle.holding.specs.Partners.{Partners}
 
--- a party of a valid book, and the table of its partners. That it makes no taken atom is not asked: its events are what they are in any case
+-- a party of a valid book, and the table of its partners. That its walk stops nowhere is not asked: its events are what they are in any case
 pub record EventsReady (b ps : List ℕ) (p : ℕ) : Type 0 where
   pub valid : Valid b
   pub partners : Partners b ps

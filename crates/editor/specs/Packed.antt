@@ -1,7 +1,9 @@
 -- An answer in one number, for callers in another language: an answer that came back through a lent place would be a lent word that a
 -- refusal changes.
 use Prim.Native.Nat.{ℕ, _+_, _*_, _/_, _%_, _<_, min}
+use mathlib.Core.Bool.{Bool, _||_}
 use mathlib.Core.List.{List, [], _∷_, map}
+use mathlib.Core.Logic.{_⊎_}
 use mathlib.Core.Path.{_≡_}
 use lib.ListN.{getD}
 use lib.Dec.{eqb}
@@ -14,9 +16,12 @@ pub mod Laws
 unfoldable pub pack : Said → ℕ
 pack s = s .number + 256 * getD (s .values) 0 0 + 1099511627776 * getD (s .values) 1 0
 
--- of the values, refusal 10 alone has two
+-- of the answers, refusals 10 and 13 alone have two values, a step and a row
+abbrev pub twoValues : ℕ → Bool
+twoValues n = eqb n 10 || eqb n 13
+
 unfoldable pub unpack : ℕ → Said
-unpack n = said (n % 256) (n / 256 % 4294967296 ∷ pick (eqb (n % 256) 10) (n / 1099511627776 ∷ []) [])
+unpack n = said (n % 256) (n / 256 % 4294967296 ∷ pick (twoValues (n % 256)) (n / 1099511627776 ∷ []) [])
 
 -- a summary may have more words than 32 bits count: refusal 20 then tells the largest number that they hold
 abbrev pub capped : Said → Said
@@ -24,8 +29,8 @@ capped s = said (s .number) (map (min 4294967295) (s .values))
 
 -- an answer that fits
 pub data Small : Said → Type 0 where
-  one : {n v : ℕ} → n < 256 → (n ≡ 10 → ⊥) → v < 4294967296 → Small (said n (v ∷ []))
-  two : {v w : ℕ} → v < 4294967296 → w < 16777216 → Small (said 10 (v ∷ w ∷ []))
+  one : {n v : ℕ} → n < 256 → (n ≡ 10 → ⊥) → (n ≡ 13 → ⊥) → v < 4294967296 → Small (said n (v ∷ []))
+  two : {n v w : ℕ} → (n ≡ 10) ⊎ (n ≡ 13) → v < 4294967296 → w < 16777216 → Small (said n (v ∷ w ∷ []))
 
 -- what such a caller gets: the number, and the lent bytes afterwards
 pub record Returned : Type 0 where

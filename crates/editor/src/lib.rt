@@ -115,7 +115,7 @@ fn write_events(
     }
 }
 
-// The program of a party that makes no taken atom, as bytes.
+// The program of a party whose walk stops nowhere, as bytes.
 fn write_program(
     book: &[u32],
     since: &ByRow,

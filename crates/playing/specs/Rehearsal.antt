@@ -17,7 +17,7 @@ use Rattle.translation.specs.Receive.{Event}
 use Rattle.translation.specs.Standing.{standing, ifWaits}
 use Rattle.translation.specs.Narration.{narration}
 use Rattle.translation.specs.Listing.{listing}
-use Rattle.translation.specs.Outcome.{Outcome, takenLine, roomLine, laid}
+use Rattle.translation.specs.Outcome.{Outcome, stopLine, roomLine, laid}
 use Rattle.agreement.specs.Machine.{System, Move, move, started}
 use Rattle.agreement.specs.Agree.{receiverOf}
 pub mod Laws
@@ -53,10 +53,10 @@ longLine ms = line 11 1 (λ i. ltb mostMoves (length ms)) (λ i. mostMoves ∷ [
 unfoldable pub moveLine : ℕ → List ℕ → Line
 moveLine q ms = line 11 (length ms) (λ i. leb q (getD ms i 0)) here
 
--- ---- refusals 1 to 10 are the book's, then 11, and 12 is the last
+-- ---- refusals 1 to 10 and 13 are the book's, then 11, and 12 is the last
 unfoldable pub rehearsalSays : List ℕ → List ℕ → List ℕ → Said
 rehearsalSays b ms out =
-    firstOf (readingTable b ++ takenLine b ∷ longLine ms ∷ moveLine (parties b) ms ∷ roomLine (length out) (parties b) ∷ []) (said 0 (parties b ∷ []))
+    firstOf (readingTable b ++ stopLine b ∷ longLine ms ∷ moveLine (parties b) ms ∷ roomLine (length out) (parties b) ∷ []) (said 0 (parties b ∷ []))
 
 -- of the words b, the schedule ms and the lent words out
 unfoldable pub rehearsal : List ℕ → List ℕ → List ℕ → Outcome

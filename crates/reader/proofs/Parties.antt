@@ -3,20 +3,20 @@ use Prim.Native.Nat.{ℕ, _+_, _-_, _≤_, _<_}
 use mathlib.Core.Bool.{Bool, true, false}
 use mathlib.Core.List.{List}
 use mathlib.Core.Path.{_≡_, sym, ap, _∙_}
-use lib.Dec.{leb, eqb}
+use lib.Dec.{ltb, leb, eqb}
 use native.Mathlib.Omega.{arith}
-use borrow.Author.Tests.{le-leb, lt-leb}
+use borrow.Author.Tests.{le-ltb, lt-ltb, le-leb, lt-leb}
 use Rattle.words.specs.First.{any}
-use Rattle.book.specs.Layout.{rows, kind, name, partyFirst, partyCount, pooled, partiesBefore}
-use Rattle.book.specs.Rules.{differs, listBreaks, partyBreaks}
+use Rattle.book.specs.Layout.{rows, kind, name, partyFirst, partyCount, mark, pooled, partiesBefore}
+use Rattle.book.specs.Rules.{differs, listBreaks, nameBreaks, partyBreaks}
 use Rattle.book.specs.Rules.Laws.{differs-same, differs-true}
 use Rattle.reader.proofs.Tests.{one-here, one-on, one-last}
 
--- ---- partyBreaks, test after test: the name is no row, no atom, an earlier party's; the known rows break the rule of a list, or don't rise
+-- ---- nameBreaks, test after test: the name is no row, no atom, an earlier party's
 module _ (b : List ℕ) (p who t : ℕ) (dn : who ≡ name b p) (dt : t ≡ rows b) where
-  pub party-no-row : t ≤ who → true ≡ partyBreaks b p
-  unfolding partyBreaks
-  party-no-row h = one-here _ _ (le-leb (rows b) (name b p) (omega arith))
+  pub name-no-row : t ≤ who → true ≡ nameBreaks b p
+  unfolding nameBreaks
+  name-no-row h = one-here _ _ (le-leb (rows b) (name b p) (omega arith))
 
   module _ (l : who < t) (k : ℕ) (dk : k ≡ kind b who) where
     named : leb (rows b) (name b p) ≡ false
@@ -25,32 +25,39 @@ module _ (b : List ℕ) (p who t : ℕ) (dn : who ≡ name b p) (dt : t ≡ rows
     kinded : k ≡ kind b (name b p)
     kinded = dk ∙ ap (kind b) dn
 
-    pub party-no-atom : (k ≡ 0 → ⊥) → true ≡ partyBreaks b p
+    pub name-no-atom : (k ≡ 0 → ⊥) → true ≡ nameBreaks b p
+    unfolding nameBreaks
+    name-no-atom n = one-on _ _ _ named (one-here _ _ (differs-true _ _ (λ e. n (kinded ∙ e))))
+
+    pub name-again : k ≡ 0 → (v : Bool) → v ≡ any (λ j. eqb (name b j) (name b p)) p → v ≡ nameBreaks b p
+    unfolding nameBreaks
+    name-again a v dv = one-on _ _ _ named (one-on _ _ _ (differs-same _ _ (sym kinded ∙ a)) (one-last v _ dv))
+
+-- ---- partyBreaks, test after test: the name breaks its rule; the mark is neither 0 nor 1; the known rows break the rule of a list, or don't
+-- rise
+module _ (b : List ℕ) (p : ℕ) (v : Bool) (dv : v ≡ nameBreaks b p) where
+  pub party-name : v ≡ true → true ≡ partyBreaks b p
+  unfolding partyBreaks
+  party-name e = one-here _ _ (sym dv ∙ e)
+
+  module _ (e : v ≡ false) (m : ℕ) (dm : m ≡ mark b p) where
+    pub party-mark : 1 < m → true ≡ partyBreaks b p
     unfolding partyBreaks
-    party-no-atom n = one-on _ _ _ named (one-here _ _ (differs-true _ _ (λ e. n (kinded ∙ e))))
+    party-mark h = one-on _ _ _ (sym dv ∙ e) (one-here _ _ (lt-ltb 1 (mark b p) (omega arith)))
 
-    module _ (a : k ≡ 0) (v : Bool) (dv : v ≡ any (λ j. eqb (name b j) (name b p)) p) where
-      atomic : differs (kind b (name b p)) 0 ≡ false
-      atomic = differs-same _ _ (sym kinded ∙ a)
+    module _ (low : m ≤ 1) (n f before u : ℕ)
+        (en : n ≡ partyCount b p) (ef : f ≡ partyFirst b p) (eb : before ≡ partiesBefore b p) (eu : u ≡ rows b)
+        (w : Bool) (dw : w ≡ listBreaks b 0 256 n f before u) where
+      list : w ≡ listBreaks b 0 256 (partyCount b p) (partyFirst b p) (partiesBefore b p) (rows b)
+      list = dw ∙ rw (en, ef, eb, eu)
 
-      pub party-repeats : v ≡ true → true ≡ partyBreaks b p
+      marked : ltb 1 (mark b p) ≡ false
+      marked = le-ltb 1 (mark b p) (omega arith)
+
+      pub party-list : w ≡ true → true ≡ partyBreaks b p
       unfolding partyBreaks
-      party-repeats e = one-on _ _ _ named (one-on _ _ _ atomic (one-here _ _ (sym dv ∙ e)))
+      party-list h = one-on _ _ _ (sym dv ∙ e) (one-on _ _ _ marked (one-here _ _ (sym list ∙ h)))
 
-      module _ (e : v ≡ false) (n f before u : ℕ)
-          (en : n ≡ partyCount b p) (ef : f ≡ partyFirst b p) (eb : before ≡ partiesBefore b p) (eu : u ≡ rows b)
-          (w : Bool) (dw : w ≡ listBreaks b 0 256 n f before u) where
-        list : w ≡ listBreaks b 0 256 (partyCount b p) (partyFirst b p) (partiesBefore b p) (rows b)
-        list = dw ∙ rw (en, ef, eb, eu)
-
-        alone : any (λ j. eqb (name b j) (name b p)) p ≡ false
-        alone = sym dv ∙ e
-
-        pub party-list : w ≡ true → true ≡ partyBreaks b p
-        unfolding partyBreaks
-        party-list h = one-on _ _ _ named (one-on _ _ _ atomic (one-on _ _ _ alone (one-here _ _ (sym list ∙ h))))
-
-        pub party-falls : w ≡ false → (x : Bool) → x ≡ any (λ j. leb (pooled b f (j + 1)) (pooled b f j)) (n - 1) → x ≡ partyBreaks b p
-        unfolding partyBreaks
-        party-falls h x dx =
-            one-on _ _ _ named (one-on _ _ _ atomic (one-on _ _ _ alone (one-on _ _ _ (sym list ∙ h) (one-last x _ (dx ∙ rw (en, ef))))))
+      pub party-falls : w ≡ false → (x : Bool) → x ≡ any (λ j. leb (pooled b f (j + 1)) (pooled b f j)) (n - 1) → x ≡ partyBreaks b p
+      unfolding partyBreaks
+      party-falls h x dx = one-on _ _ _ (sym dv ∙ e) (one-on _ _ _ marked (one-on _ _ _ (sym list ∙ h) (one-last x _ (dx ∙ rw (en, ef)))))

@@ -4,12 +4,14 @@ use book::ByRow;
 use book::Kind;
 use book::Layout;
 use book::Limit;
+use book::Mark;
 use book::Reading;
 use book::Refusal;
 use book::Section;
 use book::parties;
 use book::party_count;
 use book::party_first;
+use book::party_mark;
 use book::party_name;
 use book::pool;
 use book::pooled;
@@ -36,7 +38,7 @@ ghost use Rattle.book.specs.Headed.{Headed};
 ghost use Rattle.book.specs.Layout.{rows as rowsOf, parties as partiesOf, steps as stepsOf, pool as poolOf, pooled as pooledAt};
 ghost use Rattle.book.specs.Layout.{header, sections, name, rowsBefore, partiesBefore, stepsBefore, table};
 ghost use Rattle.book.specs.Rules.{outside as outsideOf, countBreaks, offsetBreaks, listBreaks};
-ghost use Rattle.book.specs.Rules.{rowBreaks, sizeBreaks, alike, repeats, partyBreaks, stepBreaks};
+ghost use Rattle.book.specs.Rules.{rowBreaks, sizeBreaks, alike, repeats, nameBreaks, partyBreaks, stepBreaks};
 ghost use Rattle.book.specs.Said.{readingSays, accepted};
 ghost use Rattle.book.specs.Refusals.{firstOf, readingTable, verdict};
 ghost use Rattle.reader.specs.Keys.{mixed as mixedOf, keyOf, ChainedFrom};
@@ -372,10 +374,10 @@ fn entry_falls(book: &[u32], first: usize, n: usize) -> bool
     false
 }
 
-// The party breaks its rule.
-fn party_breaks(book: &[u32], party: u32, before: usize) -> bool
-    requires { ⌜ Headed (now book) × (party < partiesOf (now book)) × (before ≡ partiesBefore (now book) party) ⌝ }
-    ensures { λ r. ⌜ r ≡ partyBreaks (now (book .entry)) party ⌝ }
+// The party's name is no atom's row, or an earlier party's name.
+fn name_breaks(book: &[u32], party: u32) -> bool
+    requires { ⌜ Headed (now book) × (party < partiesOf (now book)) ⌝ }
+    ensures { λ r. ⌜ r ≡ nameBreaks (now (book .entry)) party ⌝ }
 {
     let own = party_name(book, party);
     if rows(book) <= own {
@@ -384,7 +386,18 @@ fn party_breaks(book: &[u32], party: u32, before: usize) -> bool
     if row_kind(book, own) != Kind::ATOM {
         return true;
     }
-    if name_repeats(book, party) {
+    name_repeats(book, party)
+}
+
+// The party breaks its rule.
+fn party_breaks(book: &[u32], party: u32, before: usize) -> bool
+    requires { ⌜ Headed (now book) × (party < partiesOf (now book)) × (before ≡ partiesBefore (now book) party) ⌝ }
+    ensures { λ r. ⌜ r ≡ partyBreaks (now (book .entry)) party ⌝ }
+{
+    if name_breaks(book, party) {
+        return true;
+    }
+    if Mark::MAKES < party_mark(book, party) {
         return true;
     }
     let first = party_first(book, party);

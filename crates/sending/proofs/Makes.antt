@@ -25,23 +25,23 @@ use Rattle.sending.specs.Sending.{Making, making, allMaking, againstIn, 
 use Rattle.sending.specs.Sending.Laws.{nothing, both, making-held, making-atom, making-parts, one-set, making-none, making-more, first-append, news-append, sent-words}
 
 -- ---- one row, of which the code reads the entry at w
-makes-as : {b l : List ℕ} {s : ℕ} {g h : Making} {m : Made} {e o p : List ℕ} {r : Made} → Makes b l s g m e o p r → h ≡ g
-    → Makes b l s h m e o p r
+makes-as : {b l : List ℕ} {k s : ℕ} {g h : Making} {m : Made} {e o p : List ℕ} {r : Made} → Makes b l k s g m e o p r → h ≡ g
+    → Makes b l k s h m e o p r
 makes-as x e = rw e x
 
 -- what is held is not made
-makes-nothing : {b l : List ℕ} {s : ℕ} {m : Made} {e o : List ℕ} → length e ≡ 1024 → Makes b l s (nothing (view b e)) m e o o m
+makes-nothing : {b l : List ℕ} {k s : ℕ} {m : Made} {e o : List ℕ} → length e ≡ 1024 → Makes b l k s (nothing (view b e)) m e o o m
 unfolding programWords firstIn
 makes-nothing j = record { holds = refl; wrote = wrote-none; stops = refl; size = j }
 
-module _ {b l : List ℕ} (e : List ℕ) {s r : ℕ} (v : Valid b) (h : r < rows b) {m : Made} (j : length e ≡ 1024) where
+module _ {b l : List ℕ} (e : List ℕ) {k s r : ℕ} (v : Valid b) (h : r < rows b) {m : Made} (j : length e ≡ 1024) where
   pub held-makes : {w : ℕ} {o : List ℕ} → w ≡ r → (getD e w 0 ≡ 0 → ⊥)
-      → Makes b l s (making (build (term (table b) r) (view b e))) m e o o m
+      → Makes b l k s (making (build (term (table b) r) (view b e))) m e o o m
   held-makes d n = makes-as (makes-nothing j) (making-held b e v r h (λ z. n (ap (λ i. getD e i 0) d ∙ z)))
 
-  pub atom-makes : {w u k : ℕ} {o p : List ℕ} {i : ℕ} {y : Stop} → w ≡ r → getD e w 0 ≡ 0 → k ≡ kind b r → k ≡ 0 → u ≡ r
-      → Wrote (1 ∷ r ∷ []) o (m .at) p i → y ≡ orStop (m .stop) (againstIn l s r) s r
-      → Makes b l s (making (build (term (table b) r) (view b e))) m (set e u 1) o p (record { at = i; stop = y })
+  pub atom-makes : {w u g : ℕ} {o p : List ℕ} {i : ℕ} {y : Stop} → w ≡ r → getD e w 0 ≡ 0 → g ≡ kind b r → g ≡ 0 → u ≡ r
+      → Wrote (1 ∷ r ∷ []) o (m .at) p i → y ≡ orStop (m .stop) (againstIn l k s r) s r
+      → Makes b l k s (making (build (term (table b) r) (view b e))) m (set e u 1) o p (record { at = i; stop = y })
   unfolding programWords eventWords firstIn
   atom-makes {u = u} d z f q c x t =
       let n = few-rows b v in
@@ -54,36 +54,36 @@ module _ {b l : List ℕ} (e : List ℕ) {s r : ℕ} (v : Valid b) (h : r < rows
       })
       (making-atom b e v r h (ap (λ a. getD e a 0) (sym d) ∙ z) (sym f ∙ q))
 
-  pub parts-makes : {w k f n : ℕ} {after o p : List ℕ} {y : Made} → w ≡ r → getD e w 0 ≡ 0 → k ≡ kind b r → (k ≡ 0 → ⊥)
+  pub parts-makes : {w g f n : ℕ} {after o p : List ℕ} {y : Made} → w ≡ r → getD e w 0 ≡ 0 → g ≡ kind b r → (g ≡ 0 → ⊥)
       → f ≡ rowFirst b r → n ≡ rowCount b r
-      → Makes b l s (allMaking (buildAll (terms (table b) (listAt b f n)) (view b e))) m after o p y
-      → Makes b l s (making (build (term (table b) r) (view b e))) m after o p y
+      → Makes b l k s (allMaking (buildAll (terms (table b) (listAt b f n)) (view b e))) m after o p y
+      → Makes b l k s (making (build (term (table b) r) (view b e))) m after o p y
   parts-makes d z c q t u x =
       makes-as (rw (t, u) at x) (making-parts b e v r h (ap (λ a. getD e a 0) (sym d) ∙ z) (λ y. q (c ∙ y)))
 
 -- ---- a list of rows
-pub none-makes : {b l : List ℕ} {s : ℕ} (f : ℕ) {n : ℕ} {m : Made} {e o : List ℕ} → length e ≡ 1024 → n ≡ 0
-    → Makes b l s (allMaking (buildAll (terms (table b) (listAt b f n)) (view b e))) m e o o m
+pub none-makes : {b l : List ℕ} {k s : ℕ} (f : ℕ) {n : ℕ} {m : Made} {e o : List ℕ} → length e ≡ 1024 → n ≡ 0
+    → Makes b l k s (allMaking (buildAll (terms (table b) (listAt b f n)) (view b e))) m e o o m
 none-makes {b} f {n} {e = e} j z = makes-as (makes-nothing j) (making-none b f n (view b e) z)
 
-makes-then : (b l : List ℕ) (s : ℕ) (g : Making) (f : Dictionary → Making) {e after o p q : List ℕ} {m y z : Made} → Makes b l s g m e o p y
-    → Makes b l s (f (view b e)) y after p q z → Makes b l s (both g (f (g .dictionary))) m after o q z
-makes-then b l s g f x y =
+makes-then : (b l : List ℕ) (k s : ℕ) (g : Making) (f : Dictionary → Making) {e after o p q : List ℕ} {m y z : Made} → Makes b l k s g m e o p y
+    → Makes b l k s (f (view b e)) y after p q z → Makes b l k s (both g (f (g .dictionary))) m after o q z
+makes-then b l k s g f x y =
     let w = makes-as y (ap f (sym (x .holds))) in
     record {
       holds = w .holds;
       wrote = wrote-as (wrote-then (x .wrote) (w .wrote)) (news-append (rowOf b) (g .made) (f (g .dictionary) .made));
-      stops = w .stops ∙ rw (x .stops) (sym (first-append (againstIn l s) s _ (g .made) (f (g .dictionary) .made)));
+      stops = w .stops ∙ rw (x .stops) (sym (first-append (againstIn l k s) s _ (g .made) (f (g .dictionary) .made)));
       size = w .size;
     }
 
-pub more-makes : (b l e : List ℕ) (s f n x : ℕ) → (n ≡ 0 → ⊥) → x ≡ entry b f → {mid after o p q : List ℕ} {m y z : Made}
-    → Makes b l s (making (build (term (table b) x) (view b e))) m mid o p y
-    → Makes b l s (allMaking (buildAll (terms (table b) (listAt b (f + 1) (n - 1))) (view b mid))) y after p q z
-    → Makes b l s (allMaking (buildAll (terms (table b) (listAt b f n)) (view b e))) m after o q z
-more-makes b l e s f n x h d u w =
+pub more-makes : (b l e : List ℕ) (k s f n x : ℕ) → (n ≡ 0 → ⊥) → x ≡ entry b f → {mid after o p q : List ℕ} {m y z : Made}
+    → Makes b l k s (making (build (term (table b) x) (view b e))) m mid o p y
+    → Makes b l k s (allMaking (buildAll (terms (table b) (listAt b (f + 1) (n - 1))) (view b mid))) y after p q z
+    → Makes b l k s (allMaking (buildAll (terms (table b) (listAt b f n)) (view b e))) m after o q z
+more-makes b l e k s f n x h d u w =
     makes-as
-    (makes-then b l s (making (build (term (table b) (entry b f)) (view b e)))
+    (makes-then b l k s (making (build (term (table b) (entry b f)) (view b e)))
     (λ δ. allMaking (buildAll (terms (table b) (listAt b (f + 1) (n - 1))) δ)) (rw d at u) w)
     (making-more b f n (view b e) (omega arith))
 
@@ -97,8 +97,8 @@ pub record News (b e : List ℕ) (f n a : ℕ) (m : Made) : Type 0 where
   pub words : m .at ≡ a + 2 * length (buildAll (terms (table b) (listAt b f n)) (view b e) .made)
   pub few : length (buildAll (terms (table b) (listAt b f n)) (view b e) .made) ≤ stepSize
 
-pub news : {b l e : List ℕ} {s f n a : ℕ} {after o p : List ℕ} {m : Made} → SendReady b f n e a
-    → Makes b l s (allMaking (buildAll (terms (table b) (listAt b f n)) (view b e))) (record { at = a; stop = nowhere s }) after o p m
+pub news : {b l e : List ℕ} {k s f n a : ℕ} {after o p : List ℕ} {m : Made} → SendReady b f n e a
+    → Makes b l k s (allMaking (buildAll (terms (table b) (listAt b f n)) (view b e))) (record { at = a; stop = nowhere s }) after o p m
     → News b e f n a m
 news {b} {e = e} {f = f} {n = n} ready x =
     let few = ready .few in
@@ -108,10 +108,10 @@ news {b} {e = e} {f = f} {n = n} ready x =
     record { words = omega arith; few = few }
 
 -- the SEND stands at w, which is the place behind the NEWs
-pub sends : {b l e : List ℕ} {s f n c a w k : ℕ} {after o p q t : List ℕ} {m : Made} {i z : ℕ} → SendReady b f n e a → c ≡ n
-    → Makes b l s (allMaking (buildAll (terms (table b) (listAt b f n)) (view b e))) (record { at = a; stop = nowhere s }) after o p m
-    → Wrote (2 ∷ s ∷ c ∷ []) p w q i → w ≡ m .at → Wrote (imagesAt b after f n) q i t z → k ≡ (m .at - a) / 2
-    → Sends b l s (buildAll (terms (table b) (listAt b f n)) (view b e)) a after o t (record { at = z; made = k; stop = m .stop })
+pub sends : {b l e : List ℕ} {k s f n c a w j : ℕ} {after o p q t : List ℕ} {m : Made} {i z : ℕ} → SendReady b f n e a → c ≡ n
+    → Makes b l k s (allMaking (buildAll (terms (table b) (listAt b f n)) (view b e))) (record { at = a; stop = nowhere s }) after o p m
+    → Wrote (2 ∷ s ∷ c ∷ []) p w q i → w ≡ m .at → Wrote (imagesAt b after f n) q i t z → j ≡ (m .at - a) / 2
+    → Sends b l k s (buildAll (terms (table b) (listAt b f n)) (view b e)) a after o t (record { at = z; made = j; stop = m .stop })
 sends {b} {e = e} {s = s} {f = f} {n = n} {after = after} ready d x y g z dk =
     record {
       holds = x .holds;

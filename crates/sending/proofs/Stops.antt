@@ -22,14 +22,19 @@ pub from-step : (l : List ℕ) (s r w : ℕ) → w ≡ r → (getD l w 0 ≡ 0 �
 unfolding takenIn
 from-step l s r w d n = let z = ap (λ i. getD l i 0) d in ap (λ x. leb (x - 1) s) z ∙ sym (pick-false _ _ _ (ne-eqb (getD l r 0) 0 (λ y. n (z ∙ y))))
 
--- ---- what stands against making it: y is what the table says of row r
-pub taken : (l : List ℕ) (s r : ℕ) (y : Bool) → y ≡ takenIn l s r → y ≡ true → 10 ≡ againstIn l s r
-unfolding againstIn
-taken l s r y d e = sym (pick-true _ _ _ (sym d ∙ e))
+-- ---- what stands against making it: y is what the table says of row r, and k the sender's mark
+module _ (l : List ℕ) (k s r : ℕ) (y : Bool) (d : y ≡ takenIn l s r) where
+  pub taken : y ≡ true → 10 ≡ againstIn l k s r
+  unfolding againstIn
+  taken e = sym (pick-true _ _ _ (sym d ∙ e))
 
-pub untaken : (l : List ℕ) (s r : ℕ) (y : Bool) → y ≡ takenIn l s r → y ≡ false → 0 ≡ againstIn l s r
-unfolding againstIn
-untaken l s r y d e = sym (pick-false _ _ _ (sym d ∙ e))
+  pub makeable : y ≡ false → k ≡ 1 → 0 ≡ againstIn l k s r
+  unfolding againstIn
+  makeable e m = sym (pick-false _ _ _ (sym d ∙ e) ∙ pick-true _ _ _ (eq-eqb k 1 m))
+
+  pub barred : y ≡ false → (k ≡ 1 → ⊥) → 13 ≡ againstIn l k s r
+  unfolding againstIn
+  barred e m = sym (pick-false _ _ _ (sym d ∙ e) ∙ pick-false _ _ _ (ne-eqb k 1 m))
 
 -- ---- the first atom that can't be made: x is where it stopped before, and n what stands against row r
 pub stays : (x : Stop) (n s r : ℕ) → (x .number ≡ 0 → ⊥) → x ≡ orStop x n s r

@@ -1,8 +1,10 @@
 // Figure 3's S: what a party does to send a step's messages. `send` writes a NEW for each atom that has to be made, in building
-// order, then the SEND with its images, and tells how many atoms were made and where making them stops: at the first that is taken.
+// order, then the SEND with its images, and tells how many atoms were made and where making them stops: at the first that can't
+// be made.
 use book::ByRow;
 use book::Code;
 use book::Kind;
+use book::Mark;
 use book::Stop;
 use book::entry;
 use book::row_count;
@@ -51,26 +53,29 @@ fn is_taken(since: &ByRow, row: u32, step: u32) -> bool
     from - 1 <= step
 }
 
-// What stands against making the atom of that row at the step: the number of the refusal, or 0.
-fn against(since: &ByRow, row: u32, step: u32) -> u32
+// What stands against making the atom of that row at the step, by a sender with that mark: the number of the refusal, or 0.
+fn against(since: &ByRow, mark: u32, row: u32, step: u32) -> u32
     requires { ⌜ row < 1024 ⌝ }
-    ensures { λ r. ⌜ r ≡ againstIn (now (since .entry)) step row ⌝ }
+    ensures { λ r. ⌜ r ≡ againstIn (now (since .entry)) mark step row ⌝ }
 {
     if is_taken(since, row, step) {
         return Stop::TAKEN;
     }
-    0
+    if mark == Mark::MAKES {
+        return 0;
+    }
+    Stop::MAKER
 }
 
 // Where making stopped before, or else here if something stands against the row's atom.
-fn first_stop(since: &ByRow, row: u32, step: u32, before: Stop) -> Stop
+fn first_stop(since: &ByRow, mark: u32, row: u32, step: u32, before: Stop) -> Stop
     requires { ⌜ row < 1024 ⌝ }
-    ensures { λ r. ⌜ r ≡ orStop before (againstIn (now (since .entry)) step row) step row ⌝ }
+    ensures { λ r. ⌜ r ≡ orStop before (againstIn (now (since .entry)) mark step row) step row ⌝ }
 {
     if before.number != 0 {
         return before;
     }
-    let number = against(since, row, step);
+    let number = against(since, mark, row, step);
     if number == 0 {
         return before;
     }
@@ -82,13 +87,14 @@ fn make(
     book: &[u32],
     since: &ByRow,
     entries: &mut ByRow,
+    mark: u32,
     step: u32,
     row: u32,
     m: Made,
     out: &mut [u32],
 ) -> Made
     requires { ⌜ Valid (now book) × (row < rowsOf (now book)) × (length (now entries) ≡ 1024) ⌝ }
-    ensures { λ r. ⌜ Makes (now (book .entry)) (now (since .entry)) step (making (build (term (table (now (book .entry))) row) (view (now (book .entry)) (now (entries .entry))))) m (now (entries .exit)) (now (out .entry)) (now (out .exit)) r ⌝ }
+    ensures { λ r. ⌜ Makes (now (book .entry)) (now (since .entry)) mark step (making (build (term (table (now (book .entry))) row) (view (now (book .entry)) (now (entries .entry))))) m (now (entries .exit)) (now (out .entry)) (now (out .exit)) r ⌝ }
 {
     if entries[wide(row)] != 0 {
         return m;
@@ -97,13 +103,14 @@ fn make(
         entries[wide(row)] = 1;
         let at = put2(out, m.at, Code::NEW, row);
         let before = m.stop;
-        let stop = first_stop(since, row, step, before);
+        let stop = first_stop(since, mark, row, step, before);
         return Made { at, stop };
     }
     make_list(
         book,
         since,
         entries,
+        mark,
         step,
         row,
         row_first(book, row),
@@ -118,6 +125,7 @@ fn make_list(
     book: &[u32],
     since: &ByRow,
     entries: &mut ByRow,
+    mark: u32,
     step: u32,
     bound: u32,
     first: usize,
@@ -126,7 +134,7 @@ fn make_list(
     out: &mut [u32],
 ) -> Made
     requires { ⌜ Valid (now book) × (bound ≤ rowsOf (now book)) × Span (now book) bound first left × (length (now entries) ≡ 1024) ⌝ }
-    ensures { λ r. ⌜ Makes (now (book .entry)) (now (since .entry)) step (allMaking (buildAll (terms (table (now (book .entry))) (listAt (now (book .entry)) first left)) (view (now (book .entry)) (now (entries .entry))))) m (now (entries .exit)) (now (out .entry)) (now (out .exit)) r ⌝ }
+    ensures { λ r. ⌜ Makes (now (book .entry)) (now (since .entry)) mark step (allMaking (buildAll (terms (table (now (book .entry))) (listAt (now (book .entry)) first left)) (view (now (book .entry)) (now (entries .entry))))) m (now (entries .exit)) (now (out .entry)) (now (out .exit)) r ⌝ }
 {
     if left == 0 {
         return m;
@@ -135,6 +143,7 @@ fn make_list(
         book,
         since,
         entries,
+        mark,
         step,
         entry(book, first, left, bound),
         m,
@@ -144,6 +153,7 @@ fn make_list(
         book,
         since,
         entries,
+        mark,
         step,
         bound,
         first + 1,
@@ -158,6 +168,7 @@ pub fn send(
     book: &[u32],
     since: &ByRow,
     entries: &mut ByRow,
+    mark: u32,
     step: u32,
     first: usize,
     n: usize,
@@ -165,7 +176,7 @@ pub fn send(
     at: usize,
 ) -> Sent
     requires { ⌜ SendReady (now book) first n (now entries) at ⌝ }
-    ensures { λ r. ⌜ Sends (now (book .entry)) (now (since .entry)) step (buildAll (terms (table (now (book .entry))) (listAt (now (book .entry)) first n)) (view (now (book .entry)) (now (entries .entry)))) at (now (entries .exit)) (now (out .entry)) (now (out .exit)) r ⌝ }
+    ensures { λ r. ⌜ Sends (now (book .entry)) (now (since .entry)) mark step (buildAll (terms (table (now (book .entry))) (listAt (now (book .entry)) first n)) (view (now (book .entry)) (now (entries .entry)))) at (now (entries .exit)) (now (out .entry)) (now (out .exit)) r ⌝ }
 {
     let bound = rows(book);
     let nowhere = Stop {
@@ -177,6 +188,7 @@ pub fn send(
         book,
         since,
         entries,
+        mark,
         step,
         bound,
         first,

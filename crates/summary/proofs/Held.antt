@@ -109,7 +109,7 @@ told-end {b} {q = q} e l h =
     let z : q ≡ parties b = omega arith in
     rw z at (h .wrote)
 
--- this party is asked about all steps, and nobody makes a taken atom
+-- this party is asked about all steps, and no step is refused for anybody
 pub party-ready : {b since ps : List ℕ} {p : ℕ} → Writable b since ps → p < parties b → PartyReady b since ps p
 party-ready {p = p} w h =
     record {

@@ -18,7 +18,7 @@ use Rattle.book.specs.Refusals.{Line, line, firstOf, readingTable}
 use Rattle.translation.specs.Dictionary.{isHeld}
 use Rattle.translation.specs.Narration.{narration}
 use Rattle.translation.specs.Taken.{joined, holdsBefore}
-use Rattle.translation.specs.Outcome.{Outcome, takenLine, roomLine, laid}
+use Rattle.translation.specs.Outcome.{Outcome, stopLine, roomLine, laid}
 pub mod Question
 pub mod Laws
 pub mod Written
@@ -52,7 +52,7 @@ summary b = parties b ∷ rows b ∷ steps b ∷ heldTo b (parties b)
 -- the book's refusal, and 12 is the last
 unfoldable pub summarySays : List ℕ → List ℕ → Said
 summarySays b out =
-    firstOf (readingTable b ++ takenLine b ∷ roomLine (length out) (summaryWords b) ∷ []) (said 0 (summaryWords b ∷ []))
+    firstOf (readingTable b ++ stopLine b ∷ roomLine (length out) (summaryWords b) ∷ []) (said 0 (summaryWords b ∷ []))
 
 -- of the words b and the lent words out
 unfoldable pub summarized : List ℕ → List ℕ → Outcome

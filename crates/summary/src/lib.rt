@@ -1,4 +1,4 @@
-// Who knew what, when. `write_summary` answers, for any words and any lent words, the first refusal of 1 to 10 and 12 that applies, or
+// Who knew what, when. `write_summary` answers, for any words and any lent words, the first refusal of 1 to 10, 13 and 12 that applies, or
 // leaves the summary; no other lent word changes. `ask` answers from the words of a summary alone, whatever words they are: did the party
 // hold the row after the step? `find` says where the answer stands, by the summary's length and its first three words, wherever these lie;
 // `decide` is what the word there answers.

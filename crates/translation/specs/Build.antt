@@ -1,6 +1,6 @@
 -- Sending, figure 3's S. Document 01: "Messages left to right. A row in the dictionary gives its entry. Else parts first, a cipher's
--- key before its contents. An atom not in the dictionary is made, and is from then on known as itself." Which atoms must not be
--- made is refusal 10's business (Taken).
+-- key before its contents. An atom not in the dictionary is made, and is from then on known as itself." Which atoms can't be
+-- made is refusals 10 and 13's business (Taken).
 use Prim.Native.Nat.{ℕ}
 use mathlib.Core.List.{List, [], _∷_, _++_}
 use Rattle.terms.specs.Term.{Term, Terms}

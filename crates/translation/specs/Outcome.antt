@@ -13,28 +13,35 @@ use Rattle.book.specs.Said.{Said, accepted, refusalSays}
 use Rattle.book.specs.Said
 use Rattle.book.specs.Valid.{Valid}
 use Rattle.book.specs.Refusals.{Line, line, firstOf, readingTable}
-use Rattle.translation.specs.Narration.{narration}
-use Rattle.translation.specs.Taken.{unplayable, firstTaken, Playable, NoDerivation, FirstTaken}
+use Rattle.translation.specs.Narration.{Narration, narration}
+use Rattle.translation.specs.Taken.{unplayable, stopRow, stopNumber, Playable, NoDerivation, FirstStop}
 use Rattle.translation.specs.Listing.{listing}
 use Rattle.translation.specs.declared.Answer.{Answer}
 use Rattle.translation.specs.declared.Answer.the-variants.{Written, Refused}
 pub mod Laws
 pub mod Returned
 
--- a taken atom would have to be made: smallest step, and the first such row in building order
-unfoldable pub takenLine : List ℕ → Line
-takenLine b = line 10 (steps b) (unplayable (narration b)) (λ s. s ∷ firstTaken (narration b) s ∷ [])
+-- an atom would have to be made that can't: smallest step, and the first such row in building order. "10 and 13 share one line of the
+-- order"
+unfoldable pub stopLine : List ℕ → Line
+stopLine b =
+    record {
+      number = stopNumber (narration b);
+      among = steps b;
+      breaks = unplayable (narration b);
+      place = λ s. s ∷ stopRow (narration b) s ∷ [];
+    }
 
 -- the output buffer is shorter than the output: length needed
 unfoldable pub roomLine : ℕ → ℕ → Line
 roomLine room need = line 12 1 (λ i. ltb room need) (λ i. need ∷ [])
 
--- refusals 1 to 10, with no buffer
+-- refusals 1 to 10 and 13, with no buffer
 unfoldable pub acceptance : List ℕ → Said
-acceptance b = firstOf (readingTable b ++ takenLine b ∷ []) accepted
+acceptance b = firstOf (readingTable b ++ stopLine b ∷ []) accepted
 
 unfoldable pub translationSays : List ℕ → List ℕ → Said
-translationSays b out = firstOf (readingTable b ++ takenLine b ∷ roomLine (length out) (length (listing b)) ∷ []) (Said.said 0 (length (listing b) ∷ []))
+translationSays b out = firstOf (readingTable b ++ stopLine b ∷ roomLine (length out) (length (listing b)) ∷ []) (Said.said 0 (length (listing b) ∷ []))
 
 pub record Outcome : Type 0 where
   pub says : Said
@@ -58,20 +65,20 @@ abbrev pub came : Answer → List ℕ → Outcome
 came r new = record { says = answerSays r; lent = new }
 
 -- ---- what is said of it
--- a book that refusals 1 to 10 let pass: valid, and each step can be played
+-- a book that refusals 1 to 10 and 13 let pass: valid, and each step can be played
 pub record Plays (b : List ℕ) : Type 0 where
   pub valid : Valid b
   pub playable : (s : ℕ) → s < steps b → Playable (narration b) s
 
--- refusal 10: the smallest step with a message that has no derivation from what its sender holds by then and atoms that are nobody's yet,
--- and the first taken atom that it would make, in building order
-pub record Unplayable (b vs : List ℕ) : Type 0 where
+-- refusals 10 and 13: the smallest step with a message that has no derivation from what its sender holds by then and atoms that are nobody's
+-- yet, which it may make; and the first atom in building order that it can't make, with the reason why: `Taken` or `Barred`
+pub record Unplayable (why : Narration → ℕ → ℕ → Type 0) (b vs : List ℕ) : Type 0 where
   pub step : ℕ
   pub within : step < steps b
   pub none : NoDerivation (narration b) step
   pub smallest : (k : ℕ) → k < step → Playable (narration b) k
-  pub atom : FirstTaken (narration b) step
-  pub says : vs ≡ step ∷ firstTaken (narration b) step ∷ []
+  pub atom : FirstStop (narration b) step (why (narration b) step)
+  pub says : vs ≡ step ∷ stopRow (narration b) step ∷ []
 
 -- some step has a message that has no derivation, whatever the others have
 pub record SomeUnderived (b : List ℕ) : Type 0 where

@@ -13,17 +13,17 @@ use Rattle.terms.specs.Term.{same, count, listed, gathered, partner, size, occu
 use Rattle.terms.specs.Image.{words, countImages}
 use Rattle.terms.specs.Table.{level, unfold-by, form, term, terms, total, rowSize, number}
 use Rattle.book.specs.Layout.{offset, table}
-use Rattle.book.specs.Rules.{oneOf, outside, differs, countBreaks, stated, offsetBreaks, listBreaks, rowBreaks, sizeBreaks, alike, repeats, partyBreaks, stepBreaks, totalBreaks}
+use Rattle.book.specs.Rules.{oneOf, outside, differs, countBreaks, stated, offsetBreaks, listBreaks, rowBreaks, sizeBreaks, alike, repeats, nameBreaks, partyBreaks, stepBreaks, totalBreaks}
 use Rattle.book.specs.Said.{said}
 use Rattle.book.specs.Refusals.{applies, gives, firstOf, readingTable}
 use Rattle.translation.specs.Dictionary.{enter, start, buildable, imageOr, image}
 use Rattle.translation.specs.Build.{builtOr, build}
 use Rattle.translation.specs.Receive.{canOpen, rule, byRule, receive}
 use Rattle.translation.specs.Program.{actsOf, act, walk, walked, program}
-use Rattle.translation.specs.Narration.{stepAt, narration, knownTo, programOf}
-use Rattle.translation.specs.Taken.{joined, allMessages, claimed, occursInOne, taken, stepOf, holdsBefore, madeAt, takenAt, unplayable, firstTaken}
+use Rattle.translation.specs.Narration.{stepAt, narration, knownTo, mayMake, programOf}
+use Rattle.translation.specs.Taken.{joined, allMessages, claimed, occursInOne, taken, stepOf, holdsBefore, madeAt, senderMakes, unmakeable, stopsAt, unplayable, stopRow, stopNumber}
 use Rattle.translation.specs.Listing.{pairWords, eventWords, programWords, heads, bodies, framed, partWords, listing}
-use Rattle.translation.specs.Outcome.{Outcome, takenLine, roomLine, translationSays, outcome}
+use Rattle.translation.specs.Outcome.{Outcome, stopLine, roomLine, translationSays, outcome}
 
 pub record Trial : Type 0 where
   pub book : List ℕ
@@ -36,65 +36,65 @@ trial b old n vs new = record { book = b; lent = old; wanted = record { says = s
 unfoldable pub trials : List Trial
 trials =
     -- the smallest book
-    trial (1 ∷ 8 ∷ 1 ∷ 12 ∷ 0 ∷ 15 ∷ 0 ∷ 15 ∷ 0 ∷ 0 ∷ 0 ∷ 0 ∷ 0 ∷ 0 ∷ 0 ∷ [])
+    trial (1 ∷ 8 ∷ 1 ∷ 12 ∷ 0 ∷ 16 ∷ 0 ∷ 16 ∷ 0 ∷ 0 ∷ 0 ∷ 0 ∷ 0 ∷ 0 ∷ 0 ∷ 1 ∷ [])
     (replicate 6 9) 0 (5 ∷ [])
     (1 ∷ 3 ∷ 2 ∷ 6 ∷ 0 ∷ replicate 1 9)
     ∷  -- a buffer of 4 words keeps its old words
-    trial (1 ∷ 8 ∷ 1 ∷ 12 ∷ 0 ∷ 15 ∷ 0 ∷ 15 ∷ 0 ∷ 0 ∷ 0 ∷ 0 ∷ 0 ∷ 0 ∷ 0 ∷ [])
+    trial (1 ∷ 8 ∷ 1 ∷ 12 ∷ 0 ∷ 16 ∷ 0 ∷ 16 ∷ 0 ∷ 0 ∷ 0 ∷ 0 ∷ 0 ∷ 0 ∷ 0 ∷ 1 ∷ [])
     (replicate 4 9) 12 (5 ∷ [])
     (replicate 4 9)
     ∷  -- example 1 of source 000, whole
-    trial (5 ∷ 8 ∷ 2 ∷ 28 ∷ 2 ∷ 34 ∷ 11 ∷ 42 ∷ 0 ∷ 0 ∷ 0 ∷ 0 ∷ 0 ∷ 0 ∷ 0 ∷ 0 ∷ 0 ∷ 0 ∷ 0 ∷ 0 ∷ 0 ∷ 0 ∷ 0
-    ∷ 0 ∷ 2 ∷ 0 ∷ 0 ∷ 3 ∷ 0 ∷ 3 ∷ 3 ∷ 1 ∷ 6 ∷ 3 ∷ 1 ∷ 0 ∷ 9 ∷ 1 ∷ 0 ∷ 1 ∷ 10 ∷ 1 ∷ 2 ∷ 3 ∷ 1 ∷ 0 ∷ 1
-    ∷ 2 ∷ 0 ∷ 1 ∷ 2 ∷ 3 ∷ 4 ∷ [])
+    trial (5 ∷ 8 ∷ 2 ∷ 28 ∷ 2 ∷ 36 ∷ 11 ∷ 44 ∷ 0 ∷ 0 ∷ 0 ∷ 0 ∷ 0 ∷ 0 ∷ 0 ∷ 0 ∷ 0 ∷ 0 ∷ 0 ∷ 0 ∷ 0 ∷ 0 ∷ 0
+    ∷ 0 ∷ 2 ∷ 0 ∷ 0 ∷ 3 ∷ 0 ∷ 3 ∷ 3 ∷ 1 ∷ 1 ∷ 6 ∷ 3 ∷ 1 ∷ 1 ∷ 0 ∷ 9 ∷ 1 ∷ 0 ∷ 1 ∷ 10 ∷ 1 ∷ 2 ∷ 3 ∷ 1 ∷ 0
+    ∷ 1 ∷ 2 ∷ 0 ∷ 1 ∷ 2 ∷ 3 ∷ 4 ∷ [])
     (replicate 54 9) 0 (51 ∷ [])
     (2 ∷ 5 ∷ 19 ∷ 24 ∷ 27 ∷ 3 ∷ 0 ∷ 0 ∷ 1 ∷ 2 ∷ 1 ∷ 1 ∷ 3 ∷ 2 ∷ 0 ∷ 2 ∷ 1 ∷ 0 ∷ 0 ∷ 1 ∷ 6 ∷ 1 ∷ 3 ∷ 0
     ∷ 1 ∷ 3 ∷ 2 ∷ 0 ∷ 1 ∷ 0 ∷ 3 ∷ 3 ∷ 1 ∷ 0 ∷ 1 ∷ 5 ∷ 0 ∷ 1 ∷ 2 ∷ 0 ∷ 2 ∷ 4 ∷ 1 ∷ 0 ∷ 3 ∷ 4 ∷ 2
     ∷ 0 ∷ 1 ∷ 6 ∷ 0 ∷ replicate 3 9)
     ∷  -- A sends B a cipher of a fresh N under a key B lacks, then B sends N
-    trial (5 ∷ 8 ∷ 2 ∷ 28 ∷ 2 ∷ 34 ∷ 9 ∷ 42 ∷ 0 ∷ 0 ∷ 0 ∷ 0 ∷ 0 ∷ 0 ∷ 0 ∷ 0 ∷ 0 ∷ 0 ∷ 0 ∷ 0 ∷ 0 ∷ 0 ∷ 0
-    ∷ 0 ∷ 2 ∷ 0 ∷ 0 ∷ 2 ∷ 0 ∷ 2 ∷ 3 ∷ 1 ∷ 5 ∷ 2 ∷ 0 ∷ 1 ∷ 7 ∷ 1 ∷ 1 ∷ 0 ∷ 8 ∷ 1 ∷ 2 ∷ 3 ∷ 0 ∷ 1 ∷ 2
-    ∷ 0 ∷ 1 ∷ 4 ∷ 3 ∷ [])
+    trial (5 ∷ 8 ∷ 2 ∷ 28 ∷ 2 ∷ 36 ∷ 9 ∷ 44 ∷ 0 ∷ 0 ∷ 0 ∷ 0 ∷ 0 ∷ 0 ∷ 0 ∷ 0 ∷ 0 ∷ 0 ∷ 0 ∷ 0 ∷ 0 ∷ 0 ∷ 0
+    ∷ 0 ∷ 2 ∷ 0 ∷ 0 ∷ 2 ∷ 0 ∷ 2 ∷ 3 ∷ 1 ∷ 1 ∷ 5 ∷ 2 ∷ 1 ∷ 0 ∷ 1 ∷ 7 ∷ 1 ∷ 1 ∷ 0 ∷ 8 ∷ 1 ∷ 2 ∷ 3 ∷ 0 ∷ 1
+    ∷ 2 ∷ 0 ∷ 1 ∷ 4 ∷ 3 ∷ [])
     (replicate 3 9) 10 (1 ∷ 3 ∷ [])
     (replicate 3 9)
     ∷  -- A sends the public half of a free K
-    trial (4 ∷ 8 ∷ 2 ∷ 24 ∷ 1 ∷ 30 ∷ 6 ∷ 34 ∷ 0 ∷ 0 ∷ 0 ∷ 0 ∷ 0 ∷ 0 ∷ 0 ∷ 0 ∷ 0 ∷ 0 ∷ 0 ∷ 0 ∷ 3 ∷ 0 ∷ 0
-    ∷ 1 ∷ 0 ∷ 1 ∷ 2 ∷ 1 ∷ 3 ∷ 2 ∷ 0 ∷ 1 ∷ 5 ∷ 1 ∷ 2 ∷ 0 ∷ 1 ∷ 0 ∷ 1 ∷ 3 ∷ [])
+    trial (4 ∷ 8 ∷ 2 ∷ 24 ∷ 1 ∷ 32 ∷ 6 ∷ 36 ∷ 0 ∷ 0 ∷ 0 ∷ 0 ∷ 0 ∷ 0 ∷ 0 ∷ 0 ∷ 0 ∷ 0 ∷ 0 ∷ 0 ∷ 3 ∷ 0 ∷ 0
+    ∷ 1 ∷ 0 ∷ 1 ∷ 2 ∷ 1 ∷ 1 ∷ 3 ∷ 2 ∷ 1 ∷ 0 ∷ 1 ∷ 5 ∷ 1 ∷ 2 ∷ 0 ∷ 1 ∷ 0 ∷ 1 ∷ 3 ∷ [])
     (replicate 24 9) 0 (23 ∷ [])
     (2 ∷ 5 ∷ 10 ∷ 15 ∷ 8 ∷ 1 ∷ 2 ∷ 2 ∷ 0 ∷ 1 ∷ 4 ∷ 0 ∷ 2 ∷ 6 ∷ 0 ∷ 3 ∷ 0 ∷ 0 ∷ 1 ∷ 6 ∷ 1 ∷ 3 ∷ 0 ∷ replicate 1 9)
     ∷  -- A holds K, and receives a cipher of an unknown N under K+, with no row for K-
-    trial (6 ∷ 8 ∷ 2 ∷ 32 ∷ 1 ∷ 38 ∷ 10 ∷ 42 ∷ 0 ∷ 0 ∷ 0 ∷ 0 ∷ 0 ∷ 0 ∷ 0 ∷ 0 ∷ 0 ∷ 0 ∷ 0 ∷ 0 ∷ 0 ∷ 0 ∷ 0
-    ∷ 0 ∷ 3 ∷ 0 ∷ 0 ∷ 1 ∷ 2 ∷ 0 ∷ 1 ∷ 2 ∷ 0 ∷ 3 ∷ 3 ∷ 1 ∷ 6 ∷ 3 ∷ 1 ∷ 0 ∷ 9 ∷ 1 ∷ 2 ∷ 4 ∷ 3 ∷ 0 ∷ 1
-    ∷ 2 ∷ 0 ∷ 1 ∷ 4 ∷ 5 ∷ [])
+    trial (6 ∷ 8 ∷ 2 ∷ 32 ∷ 1 ∷ 40 ∷ 10 ∷ 44 ∷ 0 ∷ 0 ∷ 0 ∷ 0 ∷ 0 ∷ 0 ∷ 0 ∷ 0 ∷ 0 ∷ 0 ∷ 0 ∷ 0 ∷ 0 ∷ 0 ∷ 0
+    ∷ 0 ∷ 3 ∷ 0 ∷ 0 ∷ 1 ∷ 2 ∷ 0 ∷ 1 ∷ 2 ∷ 0 ∷ 3 ∷ 3 ∷ 1 ∷ 1 ∷ 6 ∷ 3 ∷ 1 ∷ 1 ∷ 0 ∷ 9 ∷ 1 ∷ 2 ∷ 4 ∷ 3 ∷ 0
+    ∷ 1 ∷ 2 ∷ 0 ∷ 1 ∷ 4 ∷ 5 ∷ [])
     (replicate 33 9) 0 (33 ∷ [])
     (2 ∷ 5 ∷ 15 ∷ 20 ∷ 13 ∷ 3 ∷ 0 ∷ 0 ∷ 1 ∷ 5 ∷ 0 ∷ 1 ∷ 1 ∷ 5 ∷ 0 ∷ 2 ∷ 6 ∷ 1 ∷ 3 ∷ 1 ∷ 1 ∷ 3 ∷ 2 ∷ 0
     ∷ 1 ∷ 3 ∷ 1 ∷ 0 ∷ 4 ∷ 0 ∷ 3 ∷ 6 ∷ 0 ∷ replicate 0 9)
     ∷  -- the operation over an unknown N arrives and is sent on
-    trial (4 ∷ 8 ∷ 2 ∷ 24 ∷ 2 ∷ 30 ∷ 7 ∷ 38 ∷ 0 ∷ 0 ∷ 0 ∷ 0 ∷ 0 ∷ 0 ∷ 0 ∷ 0 ∷ 0 ∷ 0 ∷ 0 ∷ 0 ∷ 1 ∷ 7 ∷ 0
-    ∷ 1 ∷ 0 ∷ 1 ∷ 2 ∷ 1 ∷ 3 ∷ 2 ∷ 0 ∷ 1 ∷ 5 ∷ 1 ∷ 1 ∷ 0 ∷ 6 ∷ 1 ∷ 2 ∷ 0 ∷ 1 ∷ 0 ∷ 1 ∷ 3 ∷ 3 ∷ [])
+    trial (4 ∷ 8 ∷ 2 ∷ 24 ∷ 2 ∷ 32 ∷ 7 ∷ 40 ∷ 0 ∷ 0 ∷ 0 ∷ 0 ∷ 0 ∷ 0 ∷ 0 ∷ 0 ∷ 0 ∷ 0 ∷ 0 ∷ 0 ∷ 1 ∷ 7 ∷ 0
+    ∷ 1 ∷ 0 ∷ 1 ∷ 2 ∷ 1 ∷ 1 ∷ 3 ∷ 2 ∷ 1 ∷ 0 ∷ 1 ∷ 5 ∷ 1 ∷ 1 ∷ 0 ∷ 6 ∷ 1 ∷ 2 ∷ 0 ∷ 1 ∷ 0 ∷ 1 ∷ 3 ∷ 3 ∷ [])
     (replicate 41 9) 0 (41 ∷ [])
     (2 ∷ 5 ∷ 23 ∷ 28 ∷ 13 ∷ 1 ∷ 2 ∷ 2 ∷ 0 ∷ 1 ∷ 2 ∷ 7 ∷ 1 ∷ 0 ∷ 2 ∷ 3 ∷ 1 ∷ 0 ∷ 1 ∷ 4 ∷ 0 ∷ 2 ∷ 7 ∷ 1
     ∷ 0 ∷ 2 ∷ 6 ∷ 0 ∷ 3 ∷ 0 ∷ 0 ∷ 1 ∷ 2 ∷ 1 ∷ 1 ∷ 1 ∷ 0 ∷ 6 ∷ 1 ∷ 3 ∷ 0 ∷ replicate 0 9)
     ∷  -- sending N itself
-    trial (4 ∷ 8 ∷ 2 ∷ 24 ∷ 2 ∷ 30 ∷ 7 ∷ 38 ∷ 0 ∷ 0 ∷ 0 ∷ 0 ∷ 0 ∷ 0 ∷ 0 ∷ 0 ∷ 0 ∷ 0 ∷ 0 ∷ 0 ∷ 1 ∷ 7 ∷ 0
-    ∷ 1 ∷ 0 ∷ 1 ∷ 2 ∷ 1 ∷ 3 ∷ 2 ∷ 0 ∷ 1 ∷ 5 ∷ 1 ∷ 1 ∷ 0 ∷ 6 ∷ 1 ∷ 2 ∷ 0 ∷ 1 ∷ 0 ∷ 1 ∷ 3 ∷ 2 ∷ [])
+    trial (4 ∷ 8 ∷ 2 ∷ 24 ∷ 2 ∷ 32 ∷ 7 ∷ 40 ∷ 0 ∷ 0 ∷ 0 ∷ 0 ∷ 0 ∷ 0 ∷ 0 ∷ 0 ∷ 0 ∷ 0 ∷ 0 ∷ 0 ∷ 1 ∷ 7 ∷ 0
+    ∷ 1 ∷ 0 ∷ 1 ∷ 2 ∷ 1 ∷ 1 ∷ 3 ∷ 2 ∷ 1 ∷ 0 ∷ 1 ∷ 5 ∷ 1 ∷ 1 ∷ 0 ∷ 6 ∷ 1 ∷ 2 ∷ 0 ∷ 1 ∷ 0 ∷ 1 ∷ 3 ∷ 2 ∷ [])
     (replicate 41 9) 10 (1 ∷ 2 ∷ [])
     (replicate 41 9)
     ∷  -- a step with no messages
-    trial (2 ∷ 8 ∷ 2 ∷ 16 ∷ 1 ∷ 22 ∷ 0 ∷ 26 ∷ 0 ∷ 0 ∷ 0 ∷ 0 ∷ 0 ∷ 0 ∷ 0 ∷ 0 ∷ 0 ∷ 0 ∷ 0 ∷ 1 ∷ 0 ∷ 0 ∷ 0
-    ∷ 1 ∷ 0 ∷ 0 ∷ [])
+    trial (2 ∷ 8 ∷ 2 ∷ 16 ∷ 1 ∷ 24 ∷ 0 ∷ 28 ∷ 0 ∷ 0 ∷ 0 ∷ 0 ∷ 0 ∷ 0 ∷ 0 ∷ 0 ∷ 0 ∷ 0 ∷ 0 ∷ 1 ∷ 1 ∷ 0 ∷ 0
+    ∷ 1 ∷ 0 ∷ 1 ∷ 0 ∷ 0 ∷ [])
     (replicate 20 9) 0 (16 ∷ [])
     (2 ∷ 5 ∷ 5 ∷ 10 ∷ 6 ∷ 2 ∷ 0 ∷ 0 ∷ 6 ∷ 0 ∷ 3 ∷ 0 ∷ 0 ∷ 0 ∷ 6 ∷ 0 ∷ replicate 4 9)
     ∷  -- sender equal to receiver
-    trial (2 ∷ 8 ∷ 2 ∷ 16 ∷ 1 ∷ 22 ∷ 0 ∷ 26 ∷ 0 ∷ 0 ∷ 0 ∷ 0 ∷ 0 ∷ 0 ∷ 0 ∷ 0 ∷ 0 ∷ 0 ∷ 0 ∷ 1 ∷ 0 ∷ 0 ∷ 0
-    ∷ 0 ∷ 0 ∷ 0 ∷ [])
+    trial (2 ∷ 8 ∷ 2 ∷ 16 ∷ 1 ∷ 24 ∷ 0 ∷ 28 ∷ 0 ∷ 0 ∷ 0 ∷ 0 ∷ 0 ∷ 0 ∷ 0 ∷ 0 ∷ 0 ∷ 0 ∷ 0 ∷ 1 ∷ 1 ∷ 0 ∷ 0
+    ∷ 1 ∷ 0 ∷ 0 ∷ 0 ∷ 0 ∷ [])
     (replicate 20 9) 8 (0 ∷ [])
     (replicate 20 9)
     ∷ []
 
 -- what the definitions say of each
 unfoldable pub computed : List Trial → List Outcome
-unfolding ℕ-discrete pick choose first firstFrom any run values sameWords sum same count listed gathered partner size occurs words countImages level unfold-by form term terms total rowSize number offset table oneOf outside differs countBreaks stated offsetBreaks listBreaks rowBreaks sizeBreaks alike repeats partyBreaks stepBreaks totalBreaks applies gives firstOf readingTable enter start buildable imageOr image builtOr build canOpen rule byRule receive actsOf act walk walked program stepAt narration knownTo programOf joined allMessages claimed occursInOne taken stepOf holdsBefore madeAt takenAt unplayable firstTaken pairWords eventWords programWords heads bodies framed partWords listing takenLine roomLine translationSays outcome
+unfolding ℕ-discrete pick choose first firstFrom any run values sameWords sum same count listed gathered partner size occurs words countImages level unfold-by form term terms total rowSize number offset table oneOf outside differs countBreaks stated offsetBreaks listBreaks rowBreaks sizeBreaks alike repeats nameBreaks partyBreaks stepBreaks totalBreaks applies gives firstOf readingTable enter start buildable imageOr image builtOr build canOpen rule byRule receive actsOf act walk walked program stepAt narration knownTo mayMake programOf joined allMessages claimed occursInOne taken stepOf holdsBefore madeAt senderMakes unmakeable stopsAt unplayable stopRow stopNumber pairWords eventWords programWords heads bodies framed partWords listing stopLine roomLine translationSays outcome
 computed [] = []
 computed (t ∷ ts) = outcome (t .book) (t .lent) ∷ computed ts
 
@@ -110,9 +110,9 @@ trials-hold = refl
 -- second message at placeholder 1
 unfoldable pub storing : List Trial
 storing =
-    trial (6 ∷ 8 ∷ 2 ∷ 32 ∷ 1 ∷ 38 ∷ 12 ∷ 42 ∷ 0 ∷ 0 ∷ 0 ∷ 0 ∷ 0 ∷ 0 ∷ 0 ∷ 0 ∷ 0 ∷ 0 ∷ 0 ∷ 0 ∷ 0 ∷ 0 ∷ 0
-    ∷ 0 ∷ 0 ∷ 0 ∷ 0 ∷ 0 ∷ 2 ∷ 0 ∷ 0 ∷ 2 ∷ 0 ∷ 2 ∷ 3 ∷ 1 ∷ 5 ∷ 5 ∷ 1 ∷ 0 ∷ 10 ∷ 2 ∷ 2 ∷ 3 ∷ 0 ∷ 1 ∷ 2
-    ∷ 0 ∷ 1 ∷ 2 ∷ 3 ∷ 4 ∷ 5 ∷ 4 ∷ [])
+    trial (6 ∷ 8 ∷ 2 ∷ 32 ∷ 1 ∷ 40 ∷ 12 ∷ 44 ∷ 0 ∷ 0 ∷ 0 ∷ 0 ∷ 0 ∷ 0 ∷ 0 ∷ 0 ∷ 0 ∷ 0 ∷ 0 ∷ 0 ∷ 0 ∷ 0 ∷ 0
+    ∷ 0 ∷ 0 ∷ 0 ∷ 0 ∷ 0 ∷ 2 ∷ 0 ∷ 0 ∷ 2 ∷ 0 ∷ 2 ∷ 3 ∷ 1 ∷ 1 ∷ 5 ∷ 5 ∷ 1 ∷ 1 ∷ 0 ∷ 10 ∷ 2 ∷ 2 ∷ 3 ∷ 0 ∷ 1
+    ∷ 2 ∷ 0 ∷ 1 ∷ 2 ∷ 3 ∷ 4 ∷ 5 ∷ 4 ∷ [])
     (replicate 34 9) 0 (34 ∷ [])
     (2 ∷ 5 ∷ 16 ∷ 21 ∷ 13 ∷ 3 ∷ 0 ∷ 0 ∷ 2 ∷ 5 ∷ 0 ∷ 2 ∷ 1 ∷ 0 ∷ 2 ∷ 6 ∷ 2 ∷ 3 ∷ 2 ∷ 4 ∷ 1 ∷ 2 ∷ 0 ∷ 2
     ∷ 3 ∷ 1 ∷ 0 ∷ 2 ∷ 0 ∷ 3 ∷ 0 ∷ 4 ∷ 6 ∷ 0 ∷ [])
@@ -127,8 +127,8 @@ storing-holds = refl
 unfoldable pub sides : List Trial
 sides =
     -- A sends B the cipher of N under K, then K, then the cipher again: stored the first time, it is opened the second, and B can send N
-    trial (5 ∷ 8 ∷ 2 ∷ 28 ∷ 4 ∷ 34 ∷ 11 ∷ 50 ∷ 0 ∷ 0 ∷ 0 ∷ 0 ∷ 0 ∷ 0 ∷ 0 ∷ 0 ∷ 0 ∷ 0 ∷ 0 ∷ 0 ∷ 0 ∷ 0 ∷ 0
-    ∷ 0 ∷ 2 ∷ 0 ∷ 0 ∷ 2 ∷ 0 ∷ 2 ∷ 3 ∷ 1 ∷ 5 ∷ 2 ∷ 0 ∷ 1 ∷ 7 ∷ 1 ∷ 0 ∷ 1 ∷ 8 ∷ 1 ∷ 0 ∷ 1 ∷ 9 ∷ 1
+    trial (5 ∷ 8 ∷ 2 ∷ 28 ∷ 4 ∷ 36 ∷ 11 ∷ 52 ∷ 0 ∷ 0 ∷ 0 ∷ 0 ∷ 0 ∷ 0 ∷ 0 ∷ 0 ∷ 0 ∷ 0 ∷ 0 ∷ 0 ∷ 0 ∷ 0 ∷ 0
+    ∷ 0 ∷ 2 ∷ 0 ∷ 0 ∷ 2 ∷ 0 ∷ 2 ∷ 3 ∷ 1 ∷ 1 ∷ 5 ∷ 2 ∷ 1 ∷ 0 ∷ 1 ∷ 7 ∷ 1 ∷ 0 ∷ 1 ∷ 8 ∷ 1 ∷ 0 ∷ 1 ∷ 9 ∷ 1
     ∷ 1 ∷ 0 ∷ 10 ∷ 1 ∷ 2 ∷ 3 ∷ 0 ∷ 1 ∷ 2 ∷ 0 ∷ 1 ∷ 4 ∷ 2 ∷ 4 ∷ 3 ∷ [])
     (replicate 72 9) 0 (71 ∷ [])
     (2 ∷ 5 ∷ 35 ∷ 40 ∷ 31 ∷ 1 ∷ 3 ∷ 2 ∷ 0 ∷ 1 ∷ 3 ∷ 1 ∷ 0 ∷ 2 ∷ 0 ∷ 3 ∷ 2 ∷ 1 ∷ 1 ∷ 0 ∷ 2 ∷ 2 ∷ 2
@@ -137,10 +137,10 @@ sides =
     ∷ 3 ∷ 3 ∷ replicate 1 9)
     ∷  -- A receives the cipher of K- under L, then L, then the cipher again, and has K- of it; so the cipher of N under K+ is opened and
     -- not stored, and to send it A would have to make K
-    trial (9 ∷ 8 ∷ 2 ∷ 44 ∷ 5 ∷ 50 ∷ 13 ∷ 70 ∷ 0 ∷ 0 ∷ 0 ∷ 0 ∷ 0 ∷ 0 ∷ 0 ∷ 0 ∷ 0 ∷ 0 ∷ 0 ∷ 0 ∷ 0 ∷ 0 ∷ 0
-    ∷ 0 ∷ 0 ∷ 0 ∷ 0 ∷ 0 ∷ 4 ∷ 0 ∷ 0 ∷ 1 ∷ 2 ∷ 0 ∷ 1 ∷ 2 ∷ 3 ∷ 0 ∷ 3 ∷ 1 ∷ 2 ∷ 0 ∷ 4 ∷ 2 ∷ 0 ∷ 6
-    ∷ 1 ∷ 1 ∷ 7 ∷ 1 ∷ 1 ∷ 0 ∷ 8 ∷ 1 ∷ 1 ∷ 0 ∷ 9 ∷ 1 ∷ 1 ∷ 0 ∷ 10 ∷ 1 ∷ 1 ∷ 0 ∷ 11 ∷ 1 ∷ 0 ∷ 1 ∷ 12
-    ∷ 1 ∷ 2 ∷ 3 ∷ 5 ∷ 2 ∷ 7 ∷ 4 ∷ 0 ∷ 1 ∷ 6 ∷ 3 ∷ 6 ∷ 8 ∷ 8 ∷ [])
+    trial (9 ∷ 8 ∷ 2 ∷ 44 ∷ 5 ∷ 52 ∷ 13 ∷ 72 ∷ 0 ∷ 0 ∷ 0 ∷ 0 ∷ 0 ∷ 0 ∷ 0 ∷ 0 ∷ 0 ∷ 0 ∷ 0 ∷ 0 ∷ 0 ∷ 0 ∷ 0
+    ∷ 0 ∷ 0 ∷ 0 ∷ 0 ∷ 0 ∷ 4 ∷ 0 ∷ 0 ∷ 1 ∷ 2 ∷ 0 ∷ 1 ∷ 2 ∷ 3 ∷ 0 ∷ 3 ∷ 1 ∷ 2 ∷ 0 ∷ 4 ∷ 2 ∷ 0 ∷ 6 ∷ 1 ∷ 1
+    ∷ 1 ∷ 7 ∷ 1 ∷ 1 ∷ 1 ∷ 0 ∷ 8 ∷ 1 ∷ 1 ∷ 0 ∷ 9 ∷ 1 ∷ 1 ∷ 0 ∷ 10 ∷ 1 ∷ 1 ∷ 0 ∷ 11 ∷ 1 ∷ 0 ∷ 1 ∷ 12 ∷ 1
+    ∷ 2 ∷ 3 ∷ 5 ∷ 2 ∷ 7 ∷ 4 ∷ 0 ∷ 1 ∷ 6 ∷ 3 ∷ 6 ∷ 8 ∷ 8 ∷ [])
     (replicate 3 9) 10 (4 ∷ 2 ∷ [])
     (replicate 3 9)
     ∷ []
@@ -153,14 +153,14 @@ sides-hold = refl
 unfoldable pub openedFirst : List Trial
 openedFirst =
     -- a cipher with no contents, which B could build, is opened
-    trial (4 ∷ 8 ∷ 2 ∷ 24 ∷ 1 ∷ 30 ∷ 4 ∷ 34 ∷ 0 ∷ 0 ∷ 0 ∷ 0 ∷ 0 ∷ 0 ∷ 0 ∷ 0 ∷ 0 ∷ 0 ∷ 0 ∷ 0 ∷ 2 ∷ 0 ∷ 0
-    ∷ 1 ∷ 0 ∷ 1 ∷ 1 ∷ 1 ∷ 2 ∷ 1 ∷ 0 ∷ 1 ∷ 3 ∷ 1 ∷ 2 ∷ 2 ∷ 2 ∷ 3 ∷ [])
+    trial (4 ∷ 8 ∷ 2 ∷ 24 ∷ 1 ∷ 32 ∷ 4 ∷ 36 ∷ 0 ∷ 0 ∷ 0 ∷ 0 ∷ 0 ∷ 0 ∷ 0 ∷ 0 ∷ 0 ∷ 0 ∷ 0 ∷ 0 ∷ 2 ∷ 0 ∷ 0
+    ∷ 1 ∷ 0 ∷ 1 ∷ 1 ∷ 1 ∷ 1 ∷ 2 ∷ 1 ∷ 1 ∷ 0 ∷ 1 ∷ 3 ∷ 1 ∷ 2 ∷ 2 ∷ 2 ∷ 3 ∷ [])
     (replicate 27 9) 0 (26 ∷ [])
     (2 ∷ 5 ∷ 9 ∷ 14 ∷ 12 ∷ 2 ∷ 0 ∷ 1 ∷ 3 ∷ 0 ∷ 0 ∷ 2 ∷ 6 ∷ 0 ∷ 3 ∷ 0 ∷ 0 ∷ 1 ∷ 5 ∷ 0 ∷ 1 ∷ 0 ∷ 0
     ∷ 2 ∷ 6 ∷ 0 ∷ replicate 1 9)
     ∷  -- B holds N and K+, and neither K- nor K: the cipher of N under K+ can be built and not opened, and is compared
-    trial (6 ∷ 8 ∷ 2 ∷ 32 ∷ 1 ∷ 38 ∷ 8 ∷ 42 ∷ 0 ∷ 0 ∷ 0 ∷ 0 ∷ 0 ∷ 0 ∷ 0 ∷ 0 ∷ 0 ∷ 0 ∷ 0 ∷ 0 ∷ 0 ∷ 0 ∷ 0
-    ∷ 0 ∷ 3 ∷ 0 ∷ 0 ∷ 1 ∷ 2 ∷ 0 ∷ 1 ∷ 2 ∷ 0 ∷ 3 ∷ 2 ∷ 1 ∷ 5 ∷ 2 ∷ 0 ∷ 1 ∷ 7 ∷ 1 ∷ 2 ∷ 4 ∷ 3 ∷ 3
+    trial (6 ∷ 8 ∷ 2 ∷ 32 ∷ 1 ∷ 40 ∷ 8 ∷ 44 ∷ 0 ∷ 0 ∷ 0 ∷ 0 ∷ 0 ∷ 0 ∷ 0 ∷ 0 ∷ 0 ∷ 0 ∷ 0 ∷ 0 ∷ 0 ∷ 0 ∷ 0
+    ∷ 0 ∷ 3 ∷ 0 ∷ 0 ∷ 1 ∷ 2 ∷ 0 ∷ 1 ∷ 2 ∷ 0 ∷ 3 ∷ 2 ∷ 1 ∷ 1 ∷ 5 ∷ 2 ∷ 1 ∷ 0 ∷ 1 ∷ 7 ∷ 1 ∷ 2 ∷ 4 ∷ 3 ∷ 3
     ∷ 4 ∷ 3 ∷ 4 ∷ 5 ∷ [])
     (replicate 31 9) 0 (30 ∷ [])
     (2 ∷ 5 ∷ 11 ∷ 16 ∷ 14 ∷ 2 ∷ 0 ∷ 1 ∷ 3 ∷ 1 ∷ 0 ∷ 4 ∷ 0 ∷ 3 ∷ 6 ∷ 0 ∷ 3 ∷ 0 ∷ 0 ∷ 1 ∷ 4 ∷ 0 ∷ 3
@@ -170,3 +170,56 @@ openedFirst =
 pub openedFirst-holds : computed openedFirst ≡ expected openedFirst
 unfolding computed expected openedFirst
 openedFirst-holds = refl
+
+-- ---- document 02, [5]: parties that may make atoms, and parties that may not
+unfoldable pub marks : List Trial
+marks =
+    -- a party marked 0 would have to make N
+    trial (3 ∷ 8 ∷ 2 ∷ 20 ∷ 1 ∷ 28 ∷ 5 ∷ 32 ∷ 0 ∷ 0 ∷ 0 ∷ 0 ∷ 0 ∷ 0 ∷ 0 ∷ 0 ∷ 0 ∷ 0 ∷ 0 ∷ 0 ∷ 0 ∷ 0 ∷ 2
+    ∷ 0 ∷ 1 ∷ 2 ∷ 2 ∷ 1 ∷ 0 ∷ 1 ∷ 4 ∷ 1 ∷ 0 ∷ 1 ∷ 0 ∷ 1 ∷ 2 ∷ [])
+    (replicate 23 9) 13 (0 ∷ 2 ∷ [])
+    (replicate 23 9)
+    ∷  -- the same party marked 1 makes it
+    trial (3 ∷ 8 ∷ 2 ∷ 20 ∷ 1 ∷ 28 ∷ 5 ∷ 32 ∷ 0 ∷ 0 ∷ 0 ∷ 0 ∷ 0 ∷ 0 ∷ 0 ∷ 0 ∷ 0 ∷ 0 ∷ 0 ∷ 0 ∷ 0 ∷ 0 ∷ 2
+    ∷ 1 ∷ 1 ∷ 2 ∷ 2 ∷ 1 ∷ 0 ∷ 1 ∷ 4 ∷ 1 ∷ 0 ∷ 1 ∷ 0 ∷ 1 ∷ 2 ∷ [])
+    (replicate 23 9) 0 (22 ∷ [])
+    (2 ∷ 5 ∷ 9 ∷ 14 ∷ 8 ∷ 1 ∷ 2 ∷ 2 ∷ 0 ∷ 1 ∷ 0 ∷ 2 ∷ 6 ∷ 0 ∷ 3 ∷ 0 ∷ 0 ∷ 1 ∷ 6 ∷ 1 ∷ 2 ∷ 0 ∷ replicate 1 9)
+    ∷  -- marked 0 it may send what it holds, and receive
+    trial (3 ∷ 8 ∷ 2 ∷ 20 ∷ 1 ∷ 28 ∷ 6 ∷ 32 ∷ 0 ∷ 0 ∷ 0 ∷ 0 ∷ 0 ∷ 0 ∷ 0 ∷ 0 ∷ 0 ∷ 0 ∷ 0 ∷ 0 ∷ 0 ∷ 0 ∷ 3
+    ∷ 0 ∷ 1 ∷ 3 ∷ 2 ∷ 0 ∷ 0 ∷ 1 ∷ 5 ∷ 1 ∷ 0 ∷ 1 ∷ 2 ∷ 0 ∷ 1 ∷ 2 ∷ [])
+    (replicate 21 9) 0 (20 ∷ [])
+    (2 ∷ 5 ∷ 7 ∷ 12 ∷ 8 ∷ 2 ∷ 0 ∷ 1 ∷ 0 ∷ 2 ∷ 6 ∷ 0 ∷ 3 ∷ 0 ∷ 0 ∷ 1 ∷ 6 ∷ 1 ∷ 2 ∷ 0 ∷ replicate 1 9)
+    ∷  -- it would make N, which is nobody's, and then M, which B knows: the first decides
+    trial (4 ∷ 8 ∷ 2 ∷ 24 ∷ 1 ∷ 32 ∷ 7 ∷ 36 ∷ 0 ∷ 0 ∷ 0 ∷ 0 ∷ 0 ∷ 0 ∷ 0 ∷ 0 ∷ 0 ∷ 0 ∷ 0 ∷ 0 ∷ 0 ∷ 0 ∷ 0
+    ∷ 0 ∷ 0 ∷ 0 ∷ 2 ∷ 0 ∷ 1 ∷ 2 ∷ 3 ∷ 1 ∷ 0 ∷ 1 ∷ 5 ∷ 2 ∷ 0 ∷ 1 ∷ 0 ∷ 1 ∷ 3 ∷ 2 ∷ 3 ∷ [])
+    (replicate 3 9) 13 (0 ∷ 2 ∷ [])
+    (replicate 3 9)
+    ∷  -- M first, and then N
+    trial (4 ∷ 8 ∷ 2 ∷ 24 ∷ 1 ∷ 32 ∷ 7 ∷ 36 ∷ 0 ∷ 0 ∷ 0 ∷ 0 ∷ 0 ∷ 0 ∷ 0 ∷ 0 ∷ 0 ∷ 0 ∷ 0 ∷ 0 ∷ 0 ∷ 0 ∷ 0
+    ∷ 0 ∷ 0 ∷ 0 ∷ 2 ∷ 0 ∷ 1 ∷ 2 ∷ 3 ∷ 1 ∷ 0 ∷ 1 ∷ 5 ∷ 2 ∷ 0 ∷ 1 ∷ 0 ∷ 1 ∷ 3 ∷ 3 ∷ 2 ∷ [])
+    (replicate 3 9) 10 (0 ∷ 3 ∷ [])
+    (replicate 3 9)
+    ∷  -- at step 0 a party marked 0 would make N, at step 1 the other one M, which is taken
+    trial (4 ∷ 8 ∷ 2 ∷ 24 ∷ 2 ∷ 32 ∷ 7 ∷ 40 ∷ 0 ∷ 0 ∷ 0 ∷ 0 ∷ 0 ∷ 0 ∷ 0 ∷ 0 ∷ 0 ∷ 0 ∷ 0 ∷ 0 ∷ 0 ∷ 0 ∷ 0
+    ∷ 0 ∷ 0 ∷ 0 ∷ 3 ∷ 0 ∷ 1 ∷ 3 ∷ 2 ∷ 1 ∷ 0 ∷ 1 ∷ 5 ∷ 1 ∷ 1 ∷ 0 ∷ 6 ∷ 1 ∷ 0 ∷ 1 ∷ 3 ∷ 0 ∷ 1 ∷ 2 ∷ 3 ∷ [])
+    (replicate 3 9) 13 (0 ∷ 2 ∷ [])
+    (replicate 3 9)
+    ∷  -- marks that are neither 0 nor 1
+    trial (3 ∷ 8 ∷ 2 ∷ 20 ∷ 1 ∷ 28 ∷ 5 ∷ 32 ∷ 0 ∷ 0 ∷ 0 ∷ 0 ∷ 0 ∷ 0 ∷ 0 ∷ 0 ∷ 0 ∷ 0 ∷ 0 ∷ 0 ∷ 0 ∷ 0 ∷ 2
+    ∷ 2 ∷ 1 ∷ 2 ∷ 2 ∷ 1 ∷ 0 ∷ 1 ∷ 4 ∷ 1 ∷ 0 ∷ 1 ∷ 0 ∷ 1 ∷ 2 ∷ [])
+    (replicate 3 9) 7 (0 ∷ [])
+    (replicate 3 9)
+    ∷
+    trial (3 ∷ 8 ∷ 2 ∷ 20 ∷ 1 ∷ 28 ∷ 5 ∷ 32 ∷ 0 ∷ 0 ∷ 0 ∷ 0 ∷ 0 ∷ 0 ∷ 0 ∷ 0 ∷ 0 ∷ 0 ∷ 0 ∷ 0 ∷ 0 ∷ 0 ∷ 2
+    ∷ 0 ∷ 1 ∷ 2 ∷ 2 ∷ 4294967295 ∷ 0 ∷ 1 ∷ 4 ∷ 1 ∷ 0 ∷ 1 ∷ 0 ∷ 1 ∷ 2 ∷ [])
+    (replicate 3 9) 7 (1 ∷ [])
+    (replicate 3 9)
+    ∷  -- a book whose parties have three words
+    trial (1 ∷ 8 ∷ 1 ∷ 12 ∷ 0 ∷ 15 ∷ 0 ∷ 15 ∷ 0 ∷ 0 ∷ 0 ∷ 0 ∷ 0 ∷ 0 ∷ 0 ∷ [])
+    (replicate 3 9) 3 (5 ∷ [])
+    (replicate 3 9)
+    ∷ []
+
+pub marks-hold : computed marks ≡ expected marks
+unfolding computed expected marks
+marks-hold = refl

@@ -1,5 +1,5 @@
--- What translating says, and what comes of it: refusals 1 to 9 are the reader's; of a valid book refusal 10 comes next, then refusal
--- 12, and then the output. Assumes nothing.
+-- What translating says, and what comes of it: refusals 1 to 9 are the reader's; of a valid book refusal 10 or 13 comes next, then
+-- refusal 12, and then the output. Assumes nothing.
 use Prim.Native.Nat.{ℕ}
 use mathlib.Core.List.{List, [], _∷_, _++_}
 use mathlib.Core.Path.{_≡_, refl, sym, ap, _∙_}
@@ -14,20 +14,21 @@ use Rattle.book.specs.declared.Reading.the-variants as reading
 use Rattle.book.specs.Said.{Said, said, accepted, refusalSays, readingSays}
 use Rattle.book.specs.Said.Laws.{refusal-number}
 use Rattle.book.specs.Refusals.{Line, firstOf, readingTable, verdict}
-use Rattle.book.specs.Refusals.Laws.{firstOf-none, firstOf-stop, scan-here, scan-on, all-keep}
+use Rattle.book.specs.Refusals.Laws.{firstOf-none, firstOf-stop, line-here, line-on, all-keep}
 use Rattle.book.specs.Stop.{stopSays}
 use Rattle.book.specs.Stop.Laws.{stop-accepts, stop-refuses}
 use Rattle.book.specs.declared.Stop.{Stop}
 use Rattle.book.specs.Valid.{Valid}
 use Rattle.book.specs.Valid.Laws.{nine, reading-lines, valid-keep, accepted-valid}
 use Rattle.translation.specs.Narration.{narration}
-use Rattle.translation.specs.Taken.{unplayable, firstTaken}
+use Rattle.translation.specs.Taken.{unplayable}
 use Rattle.translation.specs.Listing.{listing}
-use Rattle.translation.specs.Outcome.{takenLine, acceptance, translationSays, outcome, answerSays, came}
+use Rattle.translation.specs.Outcome.{stopLine, acceptance, translationSays, outcome, answerSays, came}
 use Rattle.translation.specs.Outcome.Laws.{came-refused, came-written}
 use Rattle.translation.specs.declared.Answer.{Answer}
 use Rattle.translation.specs.declared.Answer.the-variants.{Written, Refused}
 use Rattle.walking.specs.Stops.{stopOf}
+use Rattle.walking.specs.Stops.Laws.{stops-some}
 use Rattle.translator.specs.Among.{StopsAmong}
 use Rattle.translator.specs.Among.Laws.{nobody-playable, refused-first}
 use Rattle.translator.specs.Surveyed.{Surveyed, fitted}
@@ -44,35 +45,30 @@ module _ (b : List ℕ) (r : Reading) (f : Refusal) (d : readingSays r ≡ verdi
   refused : verdict b .number ≡ 0 → ⊥
   refused z = refusal-number f (ap (λ (x : Said). x .number) says-why ∙ z)
 
-  -- and refusal 10 is not asked
+  -- and refusals 10 and 13 are not asked
   pub refused-accept : readingSays (reading.Refused f) ≡ acceptance b
   unfolding acceptance verdict
-  refused-accept = says-why ∙ sym (firstOf-stop (readingTable b) (takenLine b ∷ []) accepted accepted refl refused)
+  refused-accept = says-why ∙ sym (firstOf-stop (readingTable b) (stopLine b ∷ []) accepted accepted refl refused)
 
 pub accepted-book : (b : List ℕ) (r : Reading) → readingSays r ≡ verdict b → r ≡ reading.Accepted → Valid b
 accepted-book b r d k = accepted-valid b .0 (sym d ∙ ap readingSays k)
 
--- ---- refusal 10 of a valid book: where the first of the walks stops
+-- ---- refusals 10 and 13 of a valid book: where the first of the walks stops
 module _ {b : List ℕ} (v : Valid b) where
   -- the reader's lines pass it
   passes : (ls : List Line) (rest : Said) → firstOf (readingTable b ++ ls) rest ≡ firstOf ls rest
   passes ls rest = ap (λ ms. firstOf (ms ++ ls) rest) (reading-lines b) ∙ all-keep (nine b) ls rest (valid-keep b v)
 
-  -- what refusal 10 tells of step k
-  abbrev place : ℕ → List ℕ
-  place k = k ∷ firstTaken (narration b) k ∷ []
-
   pub stop-accept : {x : Stop} → StopsAmong b (parties b) x → stopSays x ≡ acceptance b
-  unfolding acceptance takenLine
+  unfolding acceptance stopLine
   stop-accept (StopsAmong.none n) =
       let nowhere = first-end (unplayable (narration b)) (steps b) (steps b) refl (nobody-playable v n) in
-      let on = scan-on 10 (steps b) (unplayable (narration b)) place [] accepted (steps b) nowhere (omega arith) in
+      let on = line-on (stopLine b) [] accepted (steps b) nowhere (omega arith) in
       stop-accepts _ refl ∙ sym (passes _ accepted ∙ on ∙ firstOf-none accepted)
   stop-accept (StopsAmong.one {s = s} {p = p} l m r n) =
       let u = refused-first v p m r n in
       let here = first-at (unplayable (narration b)) (steps b) s m (u .before) (u .here) in
-      stop-refuses (stopOf b s) (λ z. absurd (omega arith))
-      ∙ sym (passes _ accepted ∙ scan-here 10 (steps b) (unplayable (narration b)) place [] accepted s here m)
+      stop-refuses (stopOf b s) (stops-some b s) ∙ sym (passes _ accepted ∙ line-here (stopLine b) [] accepted s here m)
 
 -- ---- the survey's findings are carried out: what a translation says came of the call
 module _ {b : List ℕ} {r : Findings} (s : Surveyed b r) (out : List ℕ) {n : ℕ} {a : Answer} (d : n ≡ length out)

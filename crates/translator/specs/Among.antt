@@ -1,4 +1,5 @@
--- Where the first of the parties' walks stops. Document 01, refusal 10: "smallest step, and the first such row in building order".
+-- Where the first of the parties' walks stops: the place of refusals 10 and 13. Document 01: "smallest step, and the first such row in
+-- building order".
 use Prim.Native.Nat.{ℕ, _<_}
 use mathlib.Core.Bool.{true, false}
 use mathlib.Core.List.{List}
@@ -30,4 +31,4 @@ pub record FirstUnplayable (b : List ℕ) (s : ℕ) : Type 0 where
 
 -- a stop that says acceptance or one of the book's refusals
 abbrev pub Refusable : Stop → Type 0
-Refusable x = (x .number ≡ 0) ⊎ (x .number ≡ 10)
+Refusable x = (x .number ≡ 0) ⊎ (x .number ≡ 10) ⊎ (x .number ≡ 13)

@@ -13,7 +13,7 @@ pub record Ready (b since ps : List ℕ) : Type 0 where
   pub claims : Claims b since
   pub partners : Partners b ps
 
--- and nobody would make a taken atom, so that there is an output to write
+-- and no step is refused for anybody, so that there is an output to write
 pub record Writable (b since ps : List ℕ) : Type 0 where
   pub valid : Valid b
   pub claims : Claims b since

@@ -1,4 +1,5 @@
--- What is known of any words before an output is written: refusals 1 to 10 and, where there is none, all that the parties' walks leave.
+-- What is known of any words before an output is written: refusals 1 to 10 and 13 and, where there is none, all that the parties'
+-- walks leave.
 use Prim.Native.Nat.{ℕ}
 use mathlib.Core.List.{List, [], _∷_}
 use mathlib.Core.Path.{_≡_}

@@ -1,7 +1,7 @@
-// The translator. `survey` tells of any words refusals 1 to 10 and, where there is none, all that one walk through each party's steps
+// The translator. `survey` tells of any words refusals 1 to 10 and 13 and, where there is none, all that one walk through each party's steps
 // leaves: the tables, the listing's heads and length, and where the programs' events stand. `translate` answers, for any words and any
-// lent words, the first refusal of 1 to 10 and 12 that applies, or leaves the listing; no other lent word changes. `fit` is what a
-// translation answers for so much room; `accept` answers refusals 1 to 10, with no buffer.
+// lent words, the first refusal of 1 to 10, 13 and 12 that applies, or leaves the listing; no other lent word changes. `fit` is what a
+// translation answers for so much room; `accept` answers refusals 1 to 10 and 13, with no buffer.
 use book::ByRow;
 use book::Reading;
 use book::Refusal;
@@ -40,7 +40,7 @@ struct Heads {
     stop: Stop,
 }
 
-// What is known of any words before anything is written: refusals 1 to 10 or, where there is none, the tables of claims and of partners,
+// What is known of any words before anything is written: refusals 1 to 10 and 13 or, where there is none, the tables of claims and of partners,
 // the heads, where the last program ends, and the places of each step's SEND and RECEIVE and of each party's END.
 pub struct Findings {
     pub reading: Reading,
@@ -137,10 +137,13 @@ fn reading_of(stop: Stop) -> Reading
     if stop.number == Stop::TAKEN {
         return Reading::Refused(Refusal::Taken(stop.step, stop.row));
     }
+    if stop.number == Stop::MAKER {
+        return Reading::Refused(Refusal::Maker(stop.step, stop.row));
+    }
     Reading::Accepted
 }
 
-// Refusal 10 or, where there is none, all that is known before anything is written.
+// Refusal 10 or 13 or, where there is none, all that is known before anything is written.
 fn survey_valid(book: &[u32]) -> Findings
     requires { ⌜ Valid (now book) ⌝ }
     ensures { λ r. ⌜ Surveyed (now (book .entry)) r ⌝ }
@@ -229,7 +232,7 @@ pub fn translate(book: &[u32], out: &mut [u32]) -> Answer
     }
 }
 
-// Refusals 1 to 10 of any words, with no buffer.
+// Refusals 1 to 10 and 13 of any words, with no buffer.
 pub fn accept(book: &[u32]) -> Reading
     ensures { λ r. ⌜ readingSays r ≡ acceptance (now (book .entry)) ⌝ }
 {

@@ -1,6 +1,6 @@
 -- Laws of `Acting`: a party's part in one step, by who it is in the step. Of the step, code has read f and n, where its messages
 -- stand and how many they are, z, its sender, and y, its receiver. Assumes nothing.
-use Prim.Native.Nat.{ℕ, _+_, _-_, _*_, _/_, _≤_}
+use Prim.Native.Nat.{ℕ, _+_, _-_, _*_, _/_, _≤_, _<_}
 use native.Mathlib.Nat.{add-zero}
 use native.Mathlib.Omega.{arith}
 use mathlib.Core.List.{List, [], _∷_, _++_, map}
@@ -15,7 +15,7 @@ use Rattle.words.specs.Overlay.Laws.{wrote-none, wrote-as}
 use Rattle.terms.specs.Term.{count, gathered, listed}
 use Rattle.terms.specs.Term.Laws.{count-gathered, count-listed}
 use Rattle.terms.specs.Table.{term, terms}
-use Rattle.book.specs.Layout.{table, rows, sender, receiver, stepFirst, stepCount, messages, listAt}
+use Rattle.book.specs.Layout.{table, rows, parties, mark, sender, receiver, stepFirst, stepCount, messages, listAt}
 use Rattle.book.specs.Span.Laws.{span-step, messages-at}
 use Rattle.translation.specs.Build.{buildAll}
 use Rattle.translation.specs.Build.Laws.{buildAll-made}
@@ -38,6 +38,10 @@ use Rattle.walking.specs.Stops.{stopsIn}
 use Rattle.walking.specs.Walking.{actDid, ActReady, Acting}
 
 -- ---- the party sends the step
+-- its mark can be asked for, as a sender is a party
+pub sender-party : {b ps : List ℕ} {p s z : ℕ} {x : Received} → ActReady b ps p s x → z ≡ sender b s → z ≡ p → p < parties b
+sender-party {s = s} ready dz e = let few = ready .valid .stepsKeep s (ready .step) .sends in omega arith
+
 module _ {b ps : List ℕ} {p s : ℕ} {x : Received} {f n : ℕ} (ready : ActReady b ps p s x) (df : f ≡ stepFirst b s) (dn : n ≡ stepCount b s) where
   -- a step makes few atoms
   pub send-ready : SendReady b f n (x .dictionary .entries) (x .at)
@@ -55,15 +59,15 @@ module _ {b ps : List ℕ} {p s : ℕ} {x : Received} {f n : ℕ} (ready : ActRe
         low = omega arith;
       }
 
-  pub few-made : {l : List ℕ} {e out outAfter : List ℕ} {m : Sent}
-      → Sends b l s (buildAll (terms (table b) (listAt b f n)) (view b (x .dictionary .entries))) (x .at) e out outAfter m → m .made ≤ stepSize
+  pub few-made : {l : List ℕ} {k : ℕ} {e out outAfter : List ℕ} {m : Sent}
+      → Sends b l k s (buildAll (terms (table b) (listAt b f n)) (view b (x .dictionary .entries))) (x .at) e out outAfter m → m .made ≤ stepSize
   few-made w = let made = w .made in let few = send-ready .few in omega arith
 
-  pub acts-send : {l : List ℕ} {z : ℕ} {e out outAfter log : List ℕ} {m : Sent} → z ≡ sender b s → z ≡ p
-      → Sends b l s (buildAll (terms (table b) (listAt b f n)) (view b (x .dictionary .entries))) (x .at) e out outAfter m
+  pub acts-send : {l : List ℕ} {k z : ℕ} {e out outAfter log : List ℕ} {m : Sent} → z ≡ sender b s → z ≡ p → k ≡ mark b p
+      → Sends b l k s (buildAll (terms (table b) (listAt b f n)) (view b (x .dictionary .entries))) (x .at) e out outAfter m
       → Acting b l p s x log log out outAfter (standing e (x .dictionary .next) (x .dictionary .kept) (m .at)) (m .made) (m .made + 1) (m .stop)
   unfolding pairWords stopsIn
-  acts-send {m = m} dz e w =
+  acts-send {m = m} dz e dk w =
       let same = messages-at b s _ _ df dn in
       let δ = view b (x .dictionary .entries) in
       let is : sender b s ≡ p = sym dz ∙ e in
@@ -83,7 +87,7 @@ module _ {b ps : List ℕ} {p s : ℕ} {x : Received} {f n : ℕ} (ready : ActRe
         ahead = omega arith;
         sends = λ q. refl;
         receives = λ q. absurd (ready .valid .stepsKeep s (ready .step) .two (is ∙ sym q));
-        stops = w .stops ∙ sym (pick-true _ _ _ (eq-eqb (sender b s) p is) ∙ rw (← same));
+        stops = w .stops ∙ sym (pick-true _ _ _ (eq-eqb (sender b s) p is) ∙ rw (← same, ← dk));
         size = w .size;
       }
 

@@ -137,7 +137,7 @@ module _ {b l ps : List ℕ} {p upto i a e : ℕ} {log₀ log out₀ out sends�
         receive-place b (ready .valid) i in-book ∙ ap (λ o. length (before b o i .events)) q in
         omega arith
 
-    -- where the step stops is where refusal 10 says
+    -- where the step stops is where refusals 10 and 13 say
     exact : t ≡ pick (refusedFor b p i) (stopOf b i) (nowhere i)
     exact = w .stops ∙ stops-exact b i in-book l p _ (ready .claims) (ready .party) (g .along .holds)
 

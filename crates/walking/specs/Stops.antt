@@ -1,5 +1,5 @@
--- Where a party's walk stops: at the first step at which a taken atom would have to be made. Document 01, refusal 10: "smallest step, and
--- the first such row in building order".
+-- Where a party's walk stops: at the first step at which an atom would have to be made that can't. Document 02, [5]: "the walk stops at the
+-- first atom that can't be made, with 10 if it is taken and else 13".
 use Prim.Native.Nat.{ℕ, _<_}
 use mathlib.Core.Bool.{true}
 use mathlib.Core.List.{List}
@@ -7,13 +7,13 @@ use mathlib.Core.Path.{_≡_}
 use lib.Dec.{eqb}
 use Rattle.words.specs.Choice.{pick}
 use Rattle.terms.specs.Table.{terms}
-use Rattle.book.specs.Layout.{table, sender, messages}
+use Rattle.book.specs.Layout.{table, mark, sender, messages}
 use Rattle.book.specs.Stop.{stop, nowhere}
 use Rattle.book.specs.declared.Stop.{Stop}
 use Rattle.translation.specs.Dictionary.{Dictionary}
 use Rattle.translation.specs.Build.{buildAll}
 use Rattle.translation.specs.Narration.{narration}
-use Rattle.translation.specs.Taken.{firstTaken}
+use Rattle.translation.specs.Taken.{stopRow, stopNumber}
 use Rattle.sending.specs.Sending.{againstIn, firstIn}
 use Rattle.walking.specs.Walk.{refusedFor, Unrefused}
 pub mod Laws
@@ -21,11 +21,11 @@ pub mod Laws
 -- by the table l: where party p's part in step s stops, if it holds δ
 unfoldable pub stopsIn : List ℕ → List ℕ → ℕ → ℕ → Dictionary → Stop
 stopsIn b l p s δ =
-    pick (eqb (sender b s) p) (firstIn (againstIn l s) s (nowhere s) (buildAll (terms (table b) (messages b s)) δ .made)) (nowhere s)
+    pick (eqb (sender b s) p) (firstIn (againstIn l (mark b p) s) s (nowhere s) (buildAll (terms (table b) (messages b s)) δ .made)) (nowhere s)
 
 -- the stop at a step that is refused
 abbrev pub stopOf : List ℕ → ℕ → Stop
-stopOf b s = stop 10 s (firstTaken (narration b) s)
+stopOf b s = stop (stopNumber (narration b) s) s (stopRow (narration b) s)
 
 -- of the first i steps, party p's walk stops at the first that is refused for it; where there is none, it has not stopped before step i
 pub data StopsBefore (b : List ℕ) (p i : ℕ) : Stop → Type 0 where

@@ -10,7 +10,7 @@ use Rattle.translation.specs.Narration.{narration}
 use Rattle.translation.specs.Taken.{unplayable}
 pub mod Laws
 
--- step s is party p's to send, and a taken atom would have to be made for it
+-- step s is party p's to send, and an atom would have to be made for it that can't
 unfoldable pub refusedFor : List ℕ → ℕ → ℕ → Bool
 refusedFor b p s = pick (eqb (sender b s) p) (unplayable (narration b) s) false
 

@@ -5,6 +5,7 @@
 use book::ByRow;
 use book::Code;
 use book::Stop;
+use book::party_mark;
 use book::rows;
 use book::step_count;
 use book::step_first;
@@ -73,7 +74,8 @@ pub fn act(
     let first = step_first(book, step);
     let n = step_count(book, step);
     if step_sender(book, step) == party {
-        let sent = send(book, since, entries, step, first, n, out, at);
+        let mark = party_mark(book, party);
+        let sent = send(book, since, entries, mark, step, first, n, out, at);
         let stop = sent.stop;
         return Acted {
             next,
@@ -192,7 +194,7 @@ fn mark(entries: &ByRow, word: u32, marks: &mut [u32])
 
 // The steps before `upto`, for one party: its events' words go to `out`, what it stores to `log`, the places of its SENDs and RECEIVEs to
 // `sends` and `receives`, by step, and since when it holds each row to `marks`, which has one more than all steps everywhere before. The
-// walk stops with the first step at which the party would make a taken atom, for such a book is refused.
+// walk stops with the first step at which the party would have to make an atom that it can't, for such a book is refused.
 pub fn walk(
     book: &[u32],
     since: &ByRow,

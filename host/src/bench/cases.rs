@@ -143,6 +143,7 @@ pub fn parties(count: u32, known: &[u32]) -> Vec<Party> {
     let party = |name: u32| Party {
         name,
         known: known.to_vec(),
+        makes: true,
     };
     (0..count).map(party).collect()
 }

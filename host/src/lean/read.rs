@@ -9,7 +9,7 @@ use crate::book::{
 pub struct Book<'w> {
     /// Kind, tag, first, count.
     pub rows: &'w [[u32; ROW]],
-    /// Name, first, count.
+    /// Name, first, count, mark.
     pub parties: &'w [[u32; PARTY]],
     /// Sender, receiver, first, count.
     pub steps: &'w [[u32; STEP]],
@@ -170,10 +170,10 @@ impl<const N: usize> Facts<N> {
 
     /// Refusal 7, and what is taken from the start.
     fn parties(&mut self, book: &Book, mut read: usize) -> Result<usize, Refusal> {
-        for (number, &[name, first, count]) in book.parties.iter().enumerate() {
+        for (number, &[name, first, count, mark]) in book.parties.iter().enumerate() {
             let atom = book.rows.get(name as usize).is_some_and(|row| row[0] == ATOM);
             let new = book.parties[..number].iter().all(|other| other[0] != name);
-            let fits = first as usize == read && count <= MOST_KNOWN;
+            let fits = first as usize == read && count <= MOST_KNOWN && mark <= 1;
             let end = read + count as usize;
             let (true, Some(known)) = (atom && new && fits, book.pool.get(read..end)) else {
                 return Err(refused(7, number));

@@ -2,7 +2,7 @@
 //! of its events, or only how many there are.
 
 use super::read::{Book, Facts};
-use crate::book::{Stop, Unmade, ATOM, CIPHER, MOST_STEPS, OPERATION, PUBLIC};
+use crate::book::{Stop, Unmade, ATOM, CIPHER, MARK, MOST_STEPS, OPERATION, PUBLIC};
 
 /// Bits of a row's state that say how the row is held; the others are the party's stamp.
 const HOW: u32 = 1 << 20;
@@ -22,6 +22,8 @@ pub struct Walk<'w, const N: usize> {
     /// once it can be built it always can, with the same image.
     states: [u32; N],
     stamp: u32,
+    /// The party's mark: whether it may make atoms.
+    makes: bool,
     /// Images of the party, and by a row that is built from its parts where its own begins. What is behind the last one
     /// that was finished is of no use.
     images: Vec<u32>,
@@ -54,6 +56,7 @@ impl<'w, const N: usize> Walk<'w, N> {
             facts,
             states: [0; N],
             stamp: 0,
+            makes: true,
             images: Vec::with_capacity(4 * some),
             begins: [0; N],
             finished: 0,
@@ -76,7 +79,7 @@ impl<'w, const N: usize> Walk<'w, N> {
     /// A party goes through those of its steps that have a bit, from its start to its end; or it comes to an atom that
     /// it would have to make and can't.
     pub fn party(&mut self, party: usize, mut steps: u64) -> Result<(), Stop> {
-        self.start();
+        self.start(party);
         if steps != 0 {
             self.know(party);
         }
@@ -105,8 +108,9 @@ impl<'w, const N: usize> Walk<'w, N> {
         self.counted == 0 && self.room.is_some_and(|room| self.words.len() <= room)
     }
 
-    fn start(&mut self) {
+    fn start(&mut self, party: usize) {
         self.stamp += HOW;
+        self.makes = self.book.parties[party][MARK] != 0;
         self.images.clear();
         self.finished = 0;
         self.next = 0;
@@ -115,7 +119,7 @@ impl<'w, const N: usize> Walk<'w, N> {
     }
 
     fn know(&mut self, party: usize) {
-        let [_, first, count] = self.book.parties[party];
+        let [_, first, count, _] = self.book.parties[party];
         for &row in self.book.list(first, count) {
             self.states[row as usize % N] = self.stamp | ITSELF;
         }
@@ -270,8 +274,9 @@ impl<'w, const N: usize> Walk<'w, N> {
         }
         let [kind, tag, first, count] = self.book.rows[row as usize];
         if kind == ATOM {
-            if u32::from(self.facts.since[row as usize % N]) <= step {
-                let why = Unmade::Taken;
+            let taken = u32::from(self.facts.since[row as usize % N]) <= step;
+            if taken || !self.makes {
+                let why = if taken { Unmade::Taken } else { Unmade::Maker };
                 return Err(Stop { why, step, row });
             }
             return Ok(self.make::<WRITE>(row));

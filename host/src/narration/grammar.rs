@@ -19,6 +19,7 @@ pub struct Lines<'a> {
 pub struct PartyLine<'a> {
     pub name: &'a str,
     pub spot: Spot,
+    pub makes: bool,
     pub known: Vec<usize>,
 }
 
@@ -82,15 +83,34 @@ fn read_party<'a>(tokens: &mut Tokens<'a>, lines: &mut Lines<'a>) -> Result<(), 
     }
     tokens.skip();
     let (name, spot) = name(tokens, "the party's name")?;
+    let makes = !makes_nothing(tokens)?;
     let known = if tokens.peek() == Token::End {
         Vec::new()
     } else if tokens.take(Token::Name("knows")) {
         list(tokens, &mut lines.terms, limits::KNOWN, "known terms")?
+    } else if makes {
+        return Err(unexpected(tokens, "`makes nothing`, `knows` or the end of the line"));
     } else {
         return Err(unexpected(tokens, "`knows` or the end of the line"));
     };
-    lines.parties.push(PartyLine { name, spot, known });
+    lines.parties.push(PartyLine {
+        name,
+        spot,
+        makes,
+        known,
+    });
     Ok(())
+}
+
+/// Whether `makes nothing` stands there: what a party makes follows from the steps, so nothing else can be said of it.
+fn makes_nothing(tokens: &mut Tokens<'_>) -> Result<bool, Mistake> {
+    if !tokens.take(Token::Name("makes")) {
+        return Ok(false);
+    }
+    if !tokens.take(Token::Name("nothing")) {
+        return Err(unexpected(tokens, "`nothing` (what a party makes is not listed)"));
+    }
+    Ok(true)
 }
 
 fn read_step<'a>(tokens: &mut Tokens<'a>, lines: &mut Lines<'a>) -> Result<(), Mistake> {

@@ -3,8 +3,8 @@
 
 use super::{shape, Random};
 use crate::book::{
-    Book, Layout, Row, ATOM, BOUNDS, CIPHER, COUNTS, HEADER, LONGEST, MOST_KNOWN, MOST_MESSAGES, MOST_PARTS, MOST_ROWS,
-    MOST_TAG, OFFSETS, OPERATION, PARTY, PUBLIC,
+    Book, Layout, Row, ATOM, BOUNDS, CIPHER, COUNTS, HEADER, LONGEST, MARK, MOST_KNOWN, MOST_MESSAGES, MOST_PARTS,
+    MOST_ROWS, MOST_TAG, OFFSETS, OPERATION, PARTY, PUBLIC,
 };
 use crate::words;
 
@@ -67,9 +67,9 @@ fn count(random: &mut Random, words: &mut [u32]) {
     };
 }
 
-/// Refusal 3: an offset that is off, a count that doesn't fit the offsets, or another length.
+/// Refusal 3: an offset that is off, a count that doesn't fit the offsets, another length, or parties of three words.
 fn offset(random: &mut Random, words: &mut Vec<u32>) {
-    match random.below(6) {
+    match random.below(7) {
         0 => {
             let at = *random.pick(&COUNTS);
             words[at] = words[at].max(1) - 1;
@@ -83,10 +83,23 @@ fn offset(random: &mut Random, words: &mut Vec<u32>) {
         }
         // Longer than any book, so longer than what is read.
         3 => words.resize(random.between(LONGEST, LONGEST + 10), 7),
+        4 => without_marks(words),
         _ => {
             let at = *random.pick(&OFFSETS);
             words[at] = odd(random, words[at]);
         }
+    }
+}
+
+/// The book as it was when a party had no mark, its offsets and all.
+fn without_marks(words: &mut Vec<u32>) {
+    let layout = Layout::counted(words);
+    let parties = words[COUNTS[1]];
+    for party in (0..parties as usize).rev() {
+        words.remove(layout.party(party) + MARK);
+    }
+    for offset in &OFFSETS[2..] {
+        words[*offset] -= parties;
     }
 }
 
@@ -200,17 +213,18 @@ impl Damage {
         }
     }
 
-    /// Refusal 7: a name, count, first or known row that breaks the party's rule.
+    /// Refusal 7: a name, count, first, mark or known row that breaks the party's rule.
     fn party(&self, random: &mut Random, words: &mut [u32]) {
         let party = random.below(self.parties);
         let at = self.at.party(party);
         let (first, count) = (words[at + 1] as usize, words[at + 2] as usize);
-        match random.below(6) {
+        match random.below(7) {
             0 => words[at] = *random.pick(&[self.rows as u32, u32::MAX]),
             1 => words[at] = random.below(self.rows) as u32,
             2 if party > 0 => words[at] = words[at - PARTY],
             3 => words[at + 1] = odd(random, words[at + 1]),
             4 => words[at + 2] = *random.pick(&[MOST_KNOWN + 1, count as u32 + 1, u32::MAX]),
+            5 => words[at + MARK] = *random.pick(&[2, 256, 1 << 16, 1 << 31, u32::MAX]),
             _ if count > 1 => {
                 let known = self.at.pool + first + random.below(count - 1);
                 match random.percent(50) {

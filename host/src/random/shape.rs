@@ -3,7 +3,7 @@
 
 use super::Random;
 use crate::book::{
-    own_size, Book, Party, Row, Step, ATOM, CIPHER, MOST_ARGUMENTS, MOST_KNOWN, MOST_MESSAGES, MOST_PARTIES,
+    own_size, Book, Party, Row, Step, Unmade, ATOM, CIPHER, MOST_ARGUMENTS, MOST_KNOWN, MOST_MESSAGES, MOST_PARTIES,
     MOST_PARTS, MOST_POOL, MOST_ROWS, MOST_SIZE, MOST_STEPS, MOST_TAG, OPERATION, PRIVATE, PUBLIC,
 };
 use crate::term::Shared;
@@ -40,7 +40,7 @@ pub fn book_of(random: &mut Random, size: usize) -> Book {
     narrate(random, book, steps, most, playable)
 }
 
-/// A book with so many rows and steps, of up to eight messages each, none of which makes a taken atom.
+/// A book with so many rows and steps, of up to eight messages each, none of which makes what can't be made.
 pub fn playable_of(random: &mut Random, rows: usize, parties: usize, steps: usize) -> Book {
     let size = if rows < 64 { 1 } else { 2 };
     let book = without_steps(random, rows, parties, size);
@@ -117,6 +117,7 @@ fn long_listing(random: &mut Random) -> Book {
     let known = |name: usize| Party {
         name: name as u32,
         known: (0..atoms as u32).collect(),
+        makes: name == 0,
     };
     let mut book = Book {
         parties: (0..2).map(known).collect(),
@@ -140,6 +141,9 @@ fn long_listing(random: &mut Random) -> Book {
     }
     book
 }
+
+/// So many parties in a hundred make nothing; in most books none.
+const IN_A_HUNDRED: [usize; 5] = [0, 0, 0, 30, 60];
 
 /// Rows in the making, with their sizes.
 #[derive(Default)]
@@ -246,6 +250,7 @@ impl Table {
         // Halves are often known to those who don't know what they are halves of.
         let halves = *random.pick(&[0, 10, 40]);
         let most = *random.pick(&[20, 120, MOST_KNOWN as usize]);
+        let nothing = *random.pick(&IN_A_HUNDRED);
         // Room is left for the messages of all steps.
         let mut room = (MOST_POOL as usize - self.pool).saturating_sub((MOST_STEPS * MOST_MESSAGES) as usize);
         let mut all = Vec::new();
@@ -263,7 +268,8 @@ impl Table {
             let mut known: Vec<u32> = (0..self.rows.len() as u32).filter(&mut knows).collect();
             known.truncate(most.min(room));
             room -= known.len();
-            all.push(Party { name, known });
+            let makes = !random.percent(nothing);
+            all.push(Party { name, known, makes });
         }
         all
     }
@@ -272,6 +278,7 @@ impl Table {
     fn finish(self, random: &mut Random, steps: usize) -> Book {
         let rows = self.rows.len();
         let parties = (self.rows.iter().zip(0..)).filter(|(row, _)| row.kind == ATOM).take(3);
+        let nothing = *random.pick(&IN_A_HUNDRED);
         let parties: Vec<Party> = parties
             .map(|(_, name)| {
                 let mut known: Vec<u32> = (0..random.below(4)).map(|_| random.below(rows) as u32).collect();
@@ -280,7 +287,8 @@ impl Table {
                 }
                 known.sort_unstable();
                 known.dedup();
-                Party { name, known }
+                let makes = !random.percent(nothing);
+                Party { name, known, makes }
             })
             .collect();
         let book = Book {
@@ -293,19 +301,26 @@ impl Table {
     }
 }
 
-/// Adds steps to a book without any. In a playable book no message makes a taken atom; in another
-/// that is left to chance from some step on.
+/// Adds steps to a book without any. In a playable book no message makes what can't be made; in another
+/// that is left to chance from some step on, or even looked for.
 fn narrate(random: &mut Random, mut book: Book, steps: usize, most: usize, playable: bool) -> Book {
     let parties = book.parties.len();
     if parties < 2 {
         return book;
     }
-    let careful = if playable { steps } else { random.below(steps + 1) };
+    let careful = match playable {
+        true => steps,
+        false => random.below(steps + 1).min(random.below(steps + 1)),
+    };
     let lists = (book.rows.iter().map(|row| row.parts.len())).chain(book.parties.iter().map(|party| party.known.len()));
     let mut room = (MOST_POOL as usize).saturating_sub(lists.sum());
     let mut translation = Some(Translation::start(&book));
     for number in 0..steps {
-        let sender = random.below(parties);
+        let mut sender = random.below(parties);
+        // Where care is no longer taken, those who make nothing get to speak more often.
+        if number >= careful && book.parties[sender].makes {
+            sender = random.below(parties);
+        }
         let receiver = (sender + random.between(1, parties - 1)) % parties;
         let mut messages = Vec::new();
         let empty = random.percent(4);
@@ -317,6 +332,7 @@ fn narrate(random: &mut Random, mut book: Book, steps: usize, most: usize, playa
         for _ in 0..count.min(room).min(MOST_MESSAGES as usize) {
             let row = match &translation {
                 Some(translation) if number < careful => sendable(random, translation, sender as u32, receiver as u32),
+                Some(translation) if random.percent(80) => beyond_its_maker(random, translation, sender as u32),
                 _ => Some(random.below(book.rows.len()) as u32),
             };
             messages.extend(row);
@@ -336,7 +352,7 @@ fn narrate(random: &mut Random, mut book: Book, steps: usize, most: usize, playa
     book
 }
 
-/// A row the sender can send without making a taken atom, if some tries find one; often, if there
+/// A row the sender can send without making what can't be made, if some tries find one; often, if there
 /// is one, such that the receiver opens it and finds something in it that it can't build.
 fn sendable(random: &mut Random, translation: &Translation, sender: u32, receiver: u32) -> Option<u32> {
     let receiver = translation.dictionary(receiver);
@@ -345,8 +361,7 @@ fn sendable(random: &mut Random, translation: &Translation, sender: u32, receive
     for _ in 0..24 {
         let row = random.below(translation.terms.len());
         let term = &translation.terms[row];
-        let taken = |atom: &Shared| translation.taken.has(atom);
-        if translation.dictionary(sender).makes(term, &taken) {
+        if translation.stops(sender, term).is_some() {
             continue;
         }
         found = Some(row as u32);
@@ -357,4 +372,16 @@ fn sendable(random: &mut Random, translation: &Translation, sender: u32, receive
         }
     }
     found
+}
+
+/// A row that the sender can't send because it makes nothing, if some tries find one; else any.
+fn beyond_its_maker(random: &mut Random, translation: &Translation, sender: u32) -> Option<u32> {
+    let mut row = random.below(translation.terms.len());
+    for _ in 0..24 {
+        if translation.stops(sender, &translation.terms[row]) == Some(Unmade::Maker) {
+            break;
+        }
+        row = random.below(translation.terms.len());
+    }
+    Some(row as u32)
 }

@@ -309,6 +309,7 @@ fn long() -> Trial {
     let party = |name| Party {
         name,
         known: vec![0, 1, 2],
+        makes: true,
     };
     let step = |number: u32| Step {
         sender: number % 2,

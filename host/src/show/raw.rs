@@ -2,7 +2,7 @@
 //! the refusal stands right under the header word, row, party or step it names.
 
 use super::why;
-use crate::book::{Refusal, Sections, HEADER, MOST_KNOWN, MOST_MESSAGES, MOST_PARTS, PARTY, ROW, STEP};
+use crate::book::{Refusal, Sections, HEADER, MARK, MOST_KNOWN, MOST_MESSAGES, MOST_PARTS, PARTY, ROW, STEP};
 use crate::words;
 use std::ops::RangeInclusive;
 
@@ -81,8 +81,8 @@ impl Page {
         for (number, party) in sections.parties.chunks_exact(PARTY).enumerate() {
             let known = list(sections, party[1], party[2], MOST_KNOWN);
             self.line(&format!(
-                "party {number}: name {}, first {}, count {}; known: {known}",
-                party[0], party[1], party[2]
+                "party {number}: name {}, first {}, count {}, mark {}; known: {known}",
+                party[0], party[1], party[2], party[MARK]
             ));
             self.mark(7..=7, number, &format!("party {number}"));
         }

@@ -1,7 +1,7 @@
 //! Why a book is refused by 1 to 9, in words: the first broken rule of the row, party or step at fault.
 //! The reader has found the refusal; here only its reason is looked for.
 
-use crate::book::{self, Layout, Sections, BOUNDS, COUNTS, HEADER, OFFSETS, PARTY, ROW, STEP};
+use crate::book::{self, Layout, Sections, BOUNDS, COUNTS, HEADER, MARK, OFFSETS, PARTY, ROW, STEP};
 
 /// `number` and `place` are what the reader gave for these words.
 pub fn why(words: &[u32], number: u32, place: u32) -> String {
@@ -150,11 +150,14 @@ fn party(words: &[u32], at: usize) -> Option<String> {
         if let Some(row) = known.iter().find(|row| **row >= words[COUNTS[0]]) {
             return Some(format!("known {row} is no row"));
         }
-        let pair = known.windows(2).find(|pair| pair[0] >= pair[1])?;
-        Some(format!(
-            "known {} after {}, where the order is increasing",
-            pair[1], pair[0]
-        ))
+        if let Some(pair) = known.windows(2).find(|pair| pair[0] >= pair[1]) {
+            return Some(format!(
+                "known {} after {}, where the order is increasing",
+                pair[1], pair[0]
+            ));
+        }
+        let mark = own[MARK];
+        (mark > 1).then(|| format!("mark {mark} is neither 1, may make, nor 0, may not"))
     })
 }
 

@@ -9,11 +9,11 @@ use std::path::{Path, PathBuf};
 use std::process::{Command, Output, Stdio};
 
 /// Example 1 of source 000: "B -> A: N" and "A -> B: {N, B}K".
-pub const EXAMPLE_1: [u32; 53] = [
-    5, 8, 2, 28, 2, 34, 11, 42, //
+pub const EXAMPLE_1: [u32; 55] = [
+    5, 8, 2, 28, 2, 36, 11, 44, //
     0, 0, 0, 0, 0, 0, 0, 0, 0, 0, 0, 0, 0, 0, 0, 0, //
     2, 0, 0, 3, //
-    0, 3, 3, 1, 6, 3, //
+    0, 3, 3, 1, 1, 6, 3, 1, //
     1, 0, 9, 1, 0, 1, 10, 1, //
     2, 3, 1, 0, 1, 2, 0, 1, 2, 3, 4,
 ];
@@ -27,7 +27,7 @@ pub const LISTING_1: [u32; 51] = [
 ];
 
 /// One row, one party, no step.
-pub const SMALLEST: [u32; 15] = [1, 8, 1, 12, 0, 15, 0, 15, 0, 0, 0, 0, 0, 0, 0];
+pub const SMALLEST: [u32; 16] = [1, 8, 1, 12, 0, 16, 0, 16, 0, 0, 0, 0, 0, 0, 0, 1];
 
 pub fn atom() -> Row {
     row(0, 0, &[])
@@ -45,16 +45,26 @@ pub fn row(kind: u32, tag: u32, parts: &[u32]) -> Row {
     }
 }
 
+/// A party that may make.
 pub fn party(name: u32, known: &[u32]) -> Party {
     Party {
         name,
         known: known.to_vec(),
+        makes: true,
     }
 }
 
-/// Parties with the names 0, 1 and on, who know these rows.
+/// Parties with the names 0, 1 and on, who know these rows and may make.
 pub fn parties(known: &[&[u32]]) -> Vec<Party> {
     (0..).zip(known).map(|(name, known)| party(name, known)).collect()
+}
+
+/// The book with these parties marked 0.
+pub fn making_nothing(mut book: Book, parties: &[usize]) -> Book {
+    for party in parties {
+        book.parties[*party].makes = false;
+    }
+    book
 }
 
 pub fn step(sender: u32, receiver: u32, messages: &[u32]) -> Step {

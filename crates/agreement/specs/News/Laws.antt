@@ -23,7 +23,7 @@ use Rattle.translation.specs.Receive.Laws.{Quiet, receiveAll-quiet}
 use Rattle.translation.specs.Program.{Step, Act, actsOf, act, walk, walked, program}
 use Rattle.translation.specs.Program.Laws.{acts-append, walk-append}
 use Rattle.translation.specs.Narration.{Narration, knownTo, programOf}
-use Rattle.translation.specs.Taken.{Taken, Nobodys, stepOf, holdsBefore, madeAt, Playable}
+use Rattle.translation.specs.Taken.{Taken, Nobodys, stepOf, holdsBefore, madeAt, Makeable, Playable}
 use Rattle.agreement.specs.Acts.Laws.{step-seam, split-on, length-on}
 use Rattle.agreement.specs.News.{news, MadeFrom}
 
@@ -84,7 +84,7 @@ module _ (N : Narration) (p : ℕ) where
     sends : stepOf N (length before) .sender ≡ p → MadeHere before (madeAt N (length before))
     idles : MadeHere before []
 
-  -- what the party holds before its step is what refusal 10 looks at
+  -- what the party holds before its step is what refusals 10 and 13 look at
   holds-before : (before later : List Step) → N .says ≡ before ++ later → holdsBefore N p (length before) ≡ doneBefore before .dictionary
   unfolding holdsBefore
   holds-before before later e = ap (λ l. doneBefore l .dictionary) (ap (take (length before)) e ∙ take-append-seam before later)
@@ -192,7 +192,7 @@ module _ (N : Narration) where
   module _ (plays : (s : ℕ) → s < length (N .says) → Playable N s) where
     made-free : (s r : ℕ) → s < length (N .says) → List·Memᴰ r (madeAt N s) → Nobodys N s r
     unfolding madeAt
-    made-free s r l m = derivesAll-free (Nobodys N s) (stepOf N s .messages) _ (plays s l) r m
+    made-free s r l m = derivesAll-free (Makeable N s) (stepOf N s .messages) _ (plays s l) r m .nobodys
 
     made-occurs : (s r : ℕ) → List·Memᴰ r (madeAt N s) → OccursIn r (stepOf N s .messages)
     unfolding madeAt

@@ -62,14 +62,23 @@ firstOf-stop (l ∷ ls) ms rest last z n = go (applies l) refl (firstOf-stop ls 
         firstOf-on l (ls ++ ms) last e ∙ h (λ y. n (ap (λ (s : Said). s .number) (firstOf-on l ls rest e) ∙ y)) ∙ sym (firstOf-on l ls rest e)
 
 -- what a scan of a line's places finds: r is the smallest place that breaks the rule, or their number
+module _ (l : Line) (ls : List Line) (rest : Said) (r : ℕ) (e : r ≡ first (l .breaks) (l .among)) where
+  pub line-here : r < l .among → firstOf (l ∷ ls) rest ≡ said (l .number r) (l .place r)
+  unfolding applies gives
+  line-here h =
+      firstOf-here l ls rest (any-yes (l .breaks) (l .among) r e h) ∙ ap (λ k. said (l .number k) (l .place k)) (sym e)
+
+  pub line-on : l .among ≤ r → firstOf (l ∷ ls) rest ≡ firstOf ls rest
+  unfolding applies
+  line-on h = firstOf-on l ls rest (any-no (l .breaks) (l .among) r e h)
+
+-- of a line with one number
 module _ (n m : ℕ) (t : ℕ → Bool) (f : ℕ → List ℕ) (ls : List Line) (rest : Said) (r : ℕ) (e : r ≡ first t m) where
   pub scan-here : r < m → firstOf (line n m t f ∷ ls) rest ≡ said n (f r)
-  unfolding applies gives
-  scan-here h = firstOf-here (line n m t f) ls rest (any-yes t m r e h) ∙ ap (λ k. said n (f k)) (sym e)
+  scan-here h = line-here (line n m t f) ls rest r e h
 
   pub scan-on : m ≤ r → firstOf (line n m t f ∷ ls) rest ≡ firstOf ls rest
-  unfolding applies
-  scan-on h = firstOf-on (line n m t f) ls rest (any-no t m r e h)
+  scan-on h = line-on (line n m t f) ls rest r e h
 
 -- ---- applies
 pub keeps-not : (x : Ruled) → Keeps x → applies (x .line) ≡ false
@@ -181,7 +190,8 @@ lines-split [] d i h = absurd (omega arith)
 lines-split (x ∷ xs) d zero h = refl
 lines-split (x ∷ xs) d (suc i) h = ap (λ (ls : List Line). x .line ∷ ls) (lines-split xs d i (omega arith))
 
-numbered-at : (n : ℕ) (xs : List Ruled) (d : Ruled) → Numbered n xs → (i : ℕ) → i < length xs → (k : ℕ) → lineAt i xs d .line .number k ≡ n + i
+numbered-at : (n : ℕ) (xs : List Ruled) (d : Ruled) → Numbered n xs → (i : ℕ) → i < length xs → (k : ℕ)
+    → lineAt i xs d .line .number k ≡ n + i
 numbered-at n [] d a i h k = absurd (omega arith)
 numbered-at n (x ∷ xs) d a zero h k = let e = a .0 k in omega arith
 numbered-at n (x ∷ xs) d a (suc i) h k = let e = numbered-at (suc n) xs d (a .1) i (omega arith) k in omega arith

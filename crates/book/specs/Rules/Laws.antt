@@ -12,7 +12,7 @@ use Rattle.words.specs.Run.Laws.{same-exact}
 use Rattle.words.specs.First.{any}
 use Rattle.words.specs.First.Laws.{any-none, none-any}
 use Rattle.book.specs.Layout.{kind}
-use Rattle.book.specs.Rules.{oneOf, outside, differs, CountRule, countBreaks, OffsetRule, offsetBreaks, ListRule, listBreaks, RowRule, rowBreaks, SizeRule, sizeBreaks, Alike, alike, SingleRule, repeats, PartyRule, partyBreaks, StepRule, stepBreaks, TotalRule, totalBreaks}
+use Rattle.book.specs.Rules.{oneOf, outside, differs, CountRule, countBreaks, OffsetRule, offsetBreaks, ListRule, listBreaks, RowRule, rowBreaks, SizeRule, sizeBreaks, Alike, alike, SingleRule, repeats, PartyRule, nameBreaks, partyBreaks, StepRule, stepBreaks, TotalRule, totalBreaks}
 
 -- ---- the small tests
 -- none of the tests holds
@@ -131,25 +131,24 @@ single-exact b r = (λ e. to e, λ h. from (eqb (kind b r) 0) refl h)
 
 -- ---- a party
 pub party-exact : (b : List ℕ) (p : ℕ) → (partyBreaks b p ≡ false) ↔ PartyRule b p
-unfolding partyBreaks
+unfolding partyBreaks nameBreaks
 party-exact b p = (
   λ e.
       let t = none-of _ e in
+      let n = none-of _ (t .0) in
       record {
-        named = leb-false _ _ (t .0);
-        atomic = differs-false _ _ (t .1 .0);
-        alone = λ k h. eqb-false _ _ (none-any _ _ (t .1 .1 .0) k h);
-        listed = list-exact b _ _ _ _ _ _ .0 (t .1 .1 .1 .0);
-        rising = λ j h. leb-false _ _ (none-any _ _ (t .1 .1 .1 .1 .0) j h);
+        named = leb-false _ _ (n .0);
+        atomic = differs-false _ _ (n .1 .0);
+        alone = λ k h. eqb-false _ _ (none-any _ _ (n .1 .1 .0) k h);
+        marked = ltb-false _ _ (t .1 .0);
+        listed = list-exact b _ _ _ _ _ _ .0 (t .1 .1 .0);
+        rising = λ j h. leb-false _ _ (none-any _ _ (t .1 .1 .1 .0) j h);
       },
   λ o. of-none _ (
-    lt-leb _ _ (o .named),
+    of-none _ (lt-leb _ _ (o .named), (differs-same _ _ (o .atomic), (any-none _ _ (λ k h. ne-eqb _ _ (o .alone k h)), tt))),
     (
-      differs-same _ _ (o .atomic),
-      (
-        any-none _ _ (λ k h. ne-eqb _ _ (o .alone k h)),
-        (list-exact b _ _ _ _ _ _ .1 (o .listed), (any-none _ _ (λ j h. lt-leb _ _ (o .rising j h)), tt)),
-      ),
+      le-ltb _ _ (o .marked),
+      (list-exact b _ _ _ _ _ _ .1 (o .listed), (any-none _ _ (λ j h. lt-leb _ _ (o .rising j h)), tt)),
     ),
   ),
 )

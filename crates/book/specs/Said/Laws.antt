@@ -6,7 +6,7 @@ use mathlib.Core.Path.{_≡_, refl, sym, ap, _∙_}
 use lib.ListN.{getD}
 use native.Mathlib.Omega.{arith}
 use Rattle.book.specs.declared.Refusal.{Refusal}
-use Rattle.book.specs.declared.Refusal.the-variants.{Short, Count, Offset, Row, Size, Repeat, Party, Step, Sum, Taken, Move, Room, Summary, Question}
+use Rattle.book.specs.declared.Refusal.the-variants.{Short, Count, Offset, Row, Size, Repeat, Party, Step, Sum, Taken, Move, Room, Summary, Question, Maker}
 use Rattle.book.specs.declared.Reading.{Reading}
 use Rattle.book.specs.declared.Reading.the-variants.{Accepted, Refused}
 use Rattle.book.specs.Said.{Said, refusalSays, readingSays}
@@ -26,19 +26,21 @@ refusal-number (Move m) e = omega arith
 refusal-number (Room n) e = omega arith
 refusal-number (Summary n) e = omega arith
 refusal-number (Question n) e = omega arith
+refusal-number (Maker s r) e = omega arith
 
 -- ---- an answer is read back from what it says, so no two say the same
 -- value i
 abbrev pub valueAt : Said → ℕ → ℕ
 valueAt s i = getD (s .values) i 0
 
--- by number: 0 is no refusal's, nor are 13 to 19
+-- by number: 0 is no refusal's, nor are 14 to 19
 abbrev pub refusalOf : Said → Refusal
 refusalOf s =
     getD
     (Short ∷ Short ∷ Count (valueAt s 0) ∷ Offset (valueAt s 0) ∷ Row (valueAt s 0) ∷ Size (valueAt s 0) ∷ Repeat (valueAt s 0)
     ∷ Party (valueAt s 0) ∷ Step (valueAt s 0) ∷ Sum ∷ Taken (valueAt s 0) (valueAt s 1) ∷ Move (valueAt s 0) ∷ Room (valueAt s 0)
-    ∷ Short ∷ Short ∷ Short ∷ Short ∷ Short ∷ Short ∷ Short ∷ Summary (valueAt s 0) ∷ Question (valueAt s 0) ∷ [])
+    ∷ Maker (valueAt s 0) (valueAt s 1) ∷ Short ∷ Short ∷ Short ∷ Short ∷ Short ∷ Short
+    ∷ Summary (valueAt s 0) ∷ Question (valueAt s 0) ∷ [])
     (s .number) Short
 
 pub refusal-back : (f : Refusal) → refusalOf (refusalSays f) ≡ f
@@ -56,6 +58,7 @@ refusal-back (Move m) = refl
 refusal-back (Room n) = refl
 refusal-back (Summary n) = refl
 refusal-back (Question n) = refl
+refusal-back (Maker s r) = refl
 
 pub refusal-injective : (f g : Refusal) → refusalSays f ≡ refusalSays g → f ≡ g
 refusal-injective f g e = sym (refusal-back f) ∙ ap refusalOf e ∙ refusal-back g

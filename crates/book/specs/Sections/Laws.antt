@@ -15,5 +15,6 @@ pub section-named : (i n : ℕ) {r : Section} → OfSection n r → i ≡ n → 
 section-named i n o e = rw e o
 
 -- of any other than the first three
-pub section-last : (i : ℕ) {r : Section} → OfSection 3 r → i < sections → (i ≡ 0 → ⊥) → (i ≡ 1 → ⊥) → (i ≡ 2 → ⊥) → OfSection i r
+pub section-last : (i : ℕ) {r : Section} → OfSection 3 r → i < sections → (i ≡ 0 → ⊥) → (i ≡ 1 → ⊥) → (i ≡ 2 → ⊥)
+    → OfSection i r
 section-last i o h a b c = section-named i 3 o (omega arith)

@@ -159,7 +159,8 @@ module _ (b : List ℕ) (long : loaded < length b) where
               some = omega arith;
               few = omega arith;
               one = scan-on 1 1 _ _ _ accepted 1 (not-short (take loaded b) (omega arith)) (omega arith)
-                  ∙ scan-on 2 sections _ _ _ accepted sections passes (omega arith) ∙ scan-here 3 (sections + 1) _ _ _ accepted (r .place) (r .one) (r .within);
+                  ∙ scan-on 2 sections _ _ _ accepted sections passes (omega arith)
+                  ∙ scan-here 3 (sections + 1) _ _ _ accepted (r .place) (r .one) (r .within);
               other = scan-on 1 1 _ _ _ accepted 1 (not-short b (omega arith)) (omega arith) ∙ scan-on 2 sections _ _ _ accepted sections all (omega arith)
                   ∙ scan-here 3 (sections + 1) _ _ _ accepted (r .place) (r .other) (r .within);
             }
@@ -332,7 +333,7 @@ of-odd-schedule bs ms out e n = pick-true _ _ _ (rw (e, n))
 
 -- ---- every answer fits one number, and is read back from it
 odd-small : Small (said 1 (0 ∷ []))
-odd-small = Small.one {n = 1} {v = 0} (omega arith) (omega arith) (omega arith)
+odd-small = Small.one {n = 1} {v = 0} (omega arith) (omega arith) (omega arith) (omega arith)
 
 pub translation-bytes-small : (bs out : List ℕ) → Small (translationBytes bs out .says)
 translation-bytes-small bs out = go (uneven bs) refl

@@ -3,59 +3,79 @@
 use Prim.Native.Nat.{ℕ, zero, suc, _+_, _*_, _/_, _%_, _≤_, _<_, min}
 use mathlib.Core.Bool.{Bool, true, false}
 use mathlib.Core.List.{List, [], _∷_, _++_, map, append-nil}
+use mathlib.Core.Logic.{⊎-elim}
 use mathlib.Core.Path.{_≡_, refl, sym, ap, ap₂, _∙_}
 use native.Mathlib.Omega.{arith}
 use native.Mathlib.Decide.{ℕ-discrete, decLt}
 use lib.ListN.{length, getD}
+use lib.Dec.{eqb}
 use borrow.Author.Tests.{eq-eqb, ne-eqb, ltb-false}
-use Rattle.words.specs.Choice.Laws.{pick-true, pick-false, pick-ind}
+use Rattle.words.specs.Choice.Laws.{pick-true, pick-false, pick-ind, or-left, or-right}
 use Rattle.words.specs.First.{first}
 use Rattle.words.specs.First.Laws.{first-holds, first-fails}
 use Rattle.book.specs.Layout.{header, sections, most, rows, parties, steps}
 use Rattle.book.specs.Rules.Laws.{count-exact}
 use Rattle.book.specs.Said.{Said, said, accepted}
 use Rattle.book.specs.Refusals.{Line, line, firstOf, readingTable, verdict}
-use Rattle.book.specs.Refusals.Laws.{scan-here, scan-on, firstOf-none, firstOf-stop, all-keep, none-given}
+use Rattle.book.specs.Refusals.Laws.{line-here, line-on, firstOf-none, firstOf-stop, all-keep, none-given}
 use Rattle.book.specs.Valid.{Valid}
 use Rattle.book.specs.Valid.Laws.{nine, reading-lines, keep-valid, valid-keep}
 use Rattle.book.specs.Headed.Laws.{valid-headed}
 use Rattle.translation.specs.Listing.{listing}
 use Rattle.translation.specs.Long.Laws.{listing-short}
-use Rattle.translation.specs.Low.Laws.{taken-low}
-use Rattle.translation.specs.Outcome.{takenLine, roomLine, acceptance, translationSays, Plays}
-use Rattle.translation.specs.Outcome.Laws.{ten, ten-lines, book-first, keep-plays, plays-keep}
+use Rattle.translation.specs.Low.Laws.{stop-low}
+use Rattle.translation.specs.Narration.{narration}
+use Rattle.translation.specs.Taken.Laws.{stop-cases}
+use Rattle.translation.specs.Outcome.{stopLine, roomLine, acceptance, translationSays, Plays}
+use Rattle.translation.specs.Outcome.Laws.{ten, ten-apart, ten-lines, book-first, keep-plays, plays-keep}
 use Rattle.playing.specs.Rehearsal.{longLine, moveLine, rehearsalSays}
 use Rattle.summary.specs.Summary.{summaryWords, summarySays, lengthLine, questionLine, answered, asked}
 use Rattle.summary.specs.Summary.Laws.{summary-most}
-use Rattle.editor.specs.Packed.{pack, unpack, capped, Small}
+use Rattle.editor.specs.Packed.{pack, twoValues, unpack, capped, Small}
 
 -- ---- read back
 pub unpack-pack : (s : Said) → Small s → unpack (pack s) ≡ s
 unfolding pack unpack
-unpack-pack _ (Small.one {n} {v} ln other lv) =
+unpack-pack _ (Small.one {n} {v} ln other another lv) =
     let p = n + 256 * v + 1099511627776 * 0 in
     let number : p % 256 ≡ n = omega arith in
     let rest : p / 256 ≡ v = omega arith in
     let low : v % 4294967296 ≡ v = omega arith in
     let value : p / 256 % 4294967296 ≡ v = ap (λ x. x % 4294967296) rest ∙ low in
-    ap₂ said number (ap₂ _∷_ value (pick-false _ _ _ (ne-eqb (p % 256) 10 (λ z. other (omega arith)))))
-unpack-pack _ (Small.two {v} {w} lv lw) =
-    let p = 10 + 256 * v + 1099511627776 * w in
-    let number : p % 256 ≡ 10 = omega arith in
+    let single : twoValues (p % 256) ≡ false =
+    rw (ne-eqb (p % 256) 10 (λ z. other (omega arith)), ne-eqb (p % 256) 13 (λ z. another (omega arith))) in
+    ap₂ said number (ap₂ _∷_ value (pick-false _ _ _ single))
+unpack-pack _ (Small.two {n} {v} {w} stops lv lw) =
+    let p = n + 256 * v + 1099511627776 * w in
+    let low-number : n < 256 = ⊎-elim (λ e. omega arith) (λ e. omega arith) stops in
+    let number : p % 256 ≡ n = omega arith in
     let rest : p / 256 ≡ v + 4294967296 * w = omega arith in
     let low : (v + 4294967296 * w) % 4294967296 ≡ v = omega arith in
     let value : p / 256 % 4294967296 ≡ v = ap (λ x. x % 4294967296) rest ∙ low in
     let second : p / 1099511627776 ≡ w = omega arith in
-    ap₂ said number (ap₂ _∷_ value (pick-true _ _ _ (eq-eqb (p % 256) 10 number) ∙ ap (λ x. x ∷ []) second))
+    let two : twoValues (p % 256) ≡ true =
+    ⊎-elim (λ e. or-left (eqb (p % 256) 10) _ (eq-eqb (p % 256) 10 (number ∙ e)))
+    (λ e. or-right (eqb (p % 256) 10) _ (eq-eqb (p % 256) 13 (number ∙ e)))
+    stops in
+    ap₂ said number (ap₂ _∷_ value (pick-true _ _ _ two ∙ ap (λ x. x ∷ []) second))
 
 -- ---- an answer of a table, line by line
+any-line-says : (P : Said → Type 0) (l : Line) (ls : List Line) (rest : Said)
+    → ((i : ℕ) → i < l .among → l .breaks i ≡ true → P (said (l .number i) (l .place i)))
+    → (((i : ℕ) → i < l .among → l .breaks i ≡ false) → P (firstOf ls rest)) → P (firstOf (l ∷ ls) rest)
+any-line-says P l ls rest here on =
+    let t = l .breaks in
+    let m = l .among in
+    elim (decLt (first t m) m) [
+      | yes h ↦ rw (line-here l ls rest (first t m) refl h) (here (first t m) h (first-holds t m h))
+      | no h ↦ rw (line-on l ls rest (first t m) refl (omega arith)) (on (λ i k. first-fails t m i (omega arith)))
+    ]
+
+-- of a line with one number
 line-says : (P : Said → Type 0) (n m : ℕ) (t : ℕ → Bool) (f : ℕ → List ℕ) (ls : List Line) (rest : Said)
     → ((i : ℕ) → i < m → t i ≡ true → P (said n (f i))) → (((i : ℕ) → i < m → t i ≡ false) → P (firstOf ls rest))
     → P (firstOf (line n m t f ∷ ls) rest)
-line-says P n m t f ls rest here on = elim (decLt (first t m) m) [
-  | yes h ↦ rw (scan-here n m t f ls rest (first t m) refl h) (here (first t m) h (first-holds t m h))
-  | no h ↦ rw (scan-on n m t f ls rest (first t m) refl (omega arith)) (on (λ i l. first-fails t m i (omega arith)))
-]
+line-says P n m t f = any-line-says P (line n m t f)
 
 last-says : (P : Said → Type 0) (rest : Said) → P rest → P (firstOf [] rest)
 last-says P rest p = rw (firstOf-none rest) p
@@ -65,7 +85,7 @@ abbrev Refuses : Said → Type 0
 Refuses s = (s .number ≡ 0 → ⊥) → Small s
 
 one-small : (n v : ℕ) → n < 10 → v < 4294967296 → Refuses (said n (v ∷ []))
-one-small n v l h z = Small.one {n = n} {v = v} (omega arith) (omega arith) h
+one-small n v l h z = Small.one {n = n} {v = v} (omega arith) (omega arith) (omega arith) h
 
 module _ (b : List ℕ) where
   -- ---- refusals 1 to 9
@@ -86,33 +106,34 @@ module _ (b : List ℕ) where
       line-says Refuses 9 1 _ _ [] accepted (λ i h t. one-small 9 0 (omega arith) (omega arith)) (λ total.
       last-says Refuses accepted (λ z. absurd (z refl)))))))))))
 
-  -- ---- refusals 1 to 10
+  -- ---- refusals 1 to 10 and 13
   valid-from : verdict b .number ≡ 0 → Valid b
   unfolding verdict
   valid-from z = keep-valid b (none-given (nine b) accepted (omega arith) (ap (λ (ls : List Line). firstOf ls accepted .number) (sym (reading-lines b)) ∙ z))
 
   acceptance-small : Refuses (acceptance b)
-  unfolding acceptance verdict takenLine
+  unfolding acceptance verdict stopLine
   acceptance-small = elim (ℕ-discrete (verdict b .number) 0) [
-    | no n ↦ rw (firstOf-stop (readingTable b) (takenLine b ∷ []) accepted accepted refl n) verdict-small
+    | no n ↦ rw (firstOf-stop (readingTable b) (stopLine b ∷ []) accepted accepted refl n) verdict-small
     | yes z ↦
         let v = valid-from z in
         let few = valid-headed b v .fewRows in
         let short = valid-headed b v .fewSteps in
-        rw (reading-lines b, all-keep (nine b) (takenLine b ∷ []) accepted (valid-keep b v))
-        (line-says Refuses 10 (steps b) _ _ [] accepted
-        (λ s h t n. Small.two (omega arith) (let r = taken-low b v s h t in omega arith)) (λ plays. last-says Refuses accepted (λ n. absurd (n refl))))
+        rw (reading-lines b, all-keep (nine b) (stopLine b ∷ []) accepted (valid-keep b v))
+        (any-line-says Refuses (stopLine b) [] accepted
+        (λ s h t n. Small.two (stop-cases (narration b) s) (omega arith) (let r = stop-low b v s h t in omega arith))
+        (λ plays. last-says Refuses accepted (λ n. absurd (n refl))))
   ]
 
   pub plays-from : acceptance b .number ≡ 0 → Plays b
   unfolding acceptance
   plays-from z =
-      keep-plays b (none-given (ten b) accepted (omega arith)
+      keep-plays b (none-given (ten b) accepted (ten-apart b 0 (omega arith) (omega arith) (omega arith))
       (ap (λ (ls : List Line). firstOf ls accepted .number) (sym (ten-lines b [] ∙ append-nil _)) ∙ z))
 
   -- ---- and 12, or acceptance: of an output whose length fits
   room-small : (out : List ℕ) (need : ℕ) → (Plays b → need < 4294967296)
-      → Small (firstOf (readingTable b ++ takenLine b ∷ roomLine (length out) need ∷ []) (said 0 (need ∷ [])))
+      → Small (firstOf (readingTable b ++ stopLine b ∷ roomLine (length out) need ∷ []) (said 0 (need ∷ [])))
   unfolding roomLine
   room-small out need low = elim (ℕ-discrete (acceptance b .number) 0) [
     | no n ↦ rw (book-first b (roomLine (length out) need ∷ []) (said 0 (need ∷ [])) n) (acceptance-small n)
@@ -122,8 +143,8 @@ module _ (b : List ℕ) where
         let rest = said 0 (need ∷ []) in
         let line12 = roomLine (length out) need in
         rw (ten-lines b (line12 ∷ []), all-keep (ten b) (line12 ∷ []) rest (plays-keep b p))
-        (line-says Small 12 1 _ _ [] rest (λ i h t. Small.one {n = 12} (omega arith) (omega arith) (omega arith))
-        (λ room. last-says Small rest (Small.one {n = 0} (omega arith) (omega arith) (omega arith))))
+        (line-says Small 12 1 _ _ [] rest (λ i h t. Small.one {n = 12} (omega arith) (omega arith) (omega arith) (omega arith))
+        (λ room. last-says Small rest (Small.one {n = 0} (omega arith) (omega arith) (omega arith) (omega arith))))
   ]
 
   pub translation-small : (out : List ℕ) → Small (translationSays b out)
@@ -147,11 +168,12 @@ module _ (b : List ℕ) where
           ten-lines b (longLine ms ∷ moveLine (parties b) ms ∷ roomLine (length out) (parties b) ∷ []),
           all-keep (ten b) (longLine ms ∷ moveLine (parties b) ms ∷ roomLine (length out) (parties b) ∷ []) rest (plays-keep b p),
         )
-        (line-says Small 11 1 _ _ _ rest (λ i h t. Small.one {n = 11} (omega arith) (omega arith) (omega arith)) (λ short.
+        (line-says Small 11 1 _ _ _ rest (λ i h t. Small.one {n = 11} (omega arith) (omega arith) (omega arith) (omega arith)) (λ short.
         line-says Small 11 (length ms) _ _ _ rest
-        (λ i h t. Small.one {n = 11} (omega arith) (omega arith) (let l = ltb-false 4096 (length ms) (short 0 (omega arith)) in omega arith)) (λ named.
-        line-says Small 12 1 _ _ [] rest (λ i h t. Small.one {n = 12} (omega arith) (omega arith) (omega arith))
-        (λ room. last-says Small rest (Small.one {n = 0} (omega arith) (omega arith) (omega arith))))))
+        (λ i h t. Small.one {n = 11} (omega arith) (omega arith) (omega arith)
+        (let l = ltb-false 4096 (length ms) (short 0 (omega arith)) in omega arith)) (λ named.
+        line-says Small 12 1 _ _ [] rest (λ i h t. Small.one {n = 12} (omega arith) (omega arith) (omega arith) (omega arith))
+        (λ room. last-says Small rest (Small.one {n = 0} (omega arith) (omega arith) (omega arith) (omega arith))))))
   ]
 
 -- ---- a question: one value each, and 32 bits hold what is told of it
@@ -159,9 +181,9 @@ pub asked-small : (s : List ℕ) (p r t : ℕ) → Small (capped (asked s p r t)
 unfolding asked lengthLine questionLine
 asked-small s p r t =
     let rest = said 0 (answered s p r t ∷ []) in
-    line-says (λ x. Small (capped x)) 20 1 _ _ _ rest (λ i h m. Small.one {n = 20} (omega arith) (omega arith) (omega arith)) (λ fits.
-    line-says (λ x. Small (capped x)) 21 3 _ _ [] rest (λ i h m. Small.one {n = 21} (omega arith) (omega arith) (omega arith)) (λ inside.
-    last-says (λ x. Small (capped x)) rest (Small.one {n = 0} (omega arith) (omega arith) (omega arith))))
+    line-says (λ x. Small (capped x)) 20 1 _ _ _ rest (λ i h m. Small.one {n = 20} (omega arith) (omega arith) (omega arith) (omega arith)) (λ fits.
+    line-says (λ x. Small (capped x)) 21 3 _ _ [] rest (λ i h m. Small.one {n = 21} (omega arith) (omega arith) (omega arith) (omega arith)) (λ inside.
+    last-says (λ x. Small (capped x)) rest (Small.one {n = 0} (omega arith) (omega arith) (omega arith) (omega arith))))
 
 pub asked-never-1 : (s : List ℕ) (p r t : ℕ) → asked s p r t .number ≡ 1 → ⊥
 unfolding asked lengthLine questionLine

@@ -1,5 +1,5 @@
--- What came of a rehearsal: refusals 1 to 10 are the book's; of a playable book refusal 11 comes next, then refusal 12, and then the
--- events done. Assumes nothing.
+-- What came of a rehearsal: refusals 1 to 10 and 13 are the book's; of a playable book refusal 11 comes next, then refusal 12, and then
+-- the events done. Assumes nothing.
 use Prim.Native.Nat.{ℕ, _≤_, _<_}
 use mathlib.Core.List.{List, [], _∷_}
 use mathlib.Core.Path.{_≡_, refl}

@@ -1,9 +1,9 @@
--- Laws of the rehearsal's outcome: refusals 1 to 10 are the book's; 10, 11 and 12 are given exactly when document 01 says so, and else
--- the schedule is played; a refusal changes no lent word; the events done are laid over the first words lent, and those past them
+-- Laws of the rehearsal's outcome: refusals 1 to 10 and 13 are the book's; 10 to 13 are given exactly when documents 01 and 02 say so, and
+-- else the schedule is played; a refusal changes no lent word; the events done are laid over the first words lent, and those past them
 -- stay; no two outcomes keep one promise. Assumes nothing.
 use Prim.Native.Nat.{ℕ, _≤_, _<_}
 use mathlib.Core.List.{List, [], _∷_, _++_}
-use mathlib.Core.Logic.{_↔_}
+use mathlib.Core.Logic.{_↔_, _⊎_}
 use mathlib.Core.Path.{_≡_, refl, sym, ap, _∙_}
 use native.Mathlib.Omega.{arith}
 use native.Mathlib.Decide.{decLt}
@@ -15,11 +15,13 @@ use Rattle.words.specs.Run.Laws.{values-length, all-getD, getD-all}
 use Rattle.book.specs.Layout.{parties}
 use Rattle.book.specs.Said.{Said, said}
 use Rattle.book.specs.Refusals.{line, here, firstOf, verdict}
-use Rattle.book.specs.Ruled.{Ruled, AllKeep, lines, Cause}
-use Rattle.book.specs.Refusals.Laws.{append-keep, keep-append, given, passed, caused, all-keep}
+use Rattle.book.specs.Ruled.{Ruled, AllKeep, lines, Cause, Apart}
+use Rattle.book.specs.Refusals.Laws.{append-keep, keep-append, apart-append, given, passed, caused, all-keep}
 use Rattle.book.specs.Valid.{Valid}
-use Rattle.translation.specs.Outcome.{takenLine, roomLine, acceptance, Outcome, Unplayable, SomeUnderived, Plays}
-use Rattle.translation.specs.Outcome.Laws.{room-line, ends-in-room, room-exact, room-says, fits-exact, laid-keeps, laid-lays, laid-past, taken-line, ten, ten-lines, reading-exact, book-first, takenLine-exact, underived-exact, keep-plays, plays-keep}
+use Rattle.book.specs.Valid.Laws.{nine}
+use Rattle.translation.specs.Taken.{Taken, Barred}
+use Rattle.translation.specs.Outcome.{stopLine, roomLine, acceptance, Outcome, Unplayable, SomeUnderived, Plays}
+use Rattle.translation.specs.Outcome.Laws.{room-line, ends-in-room, room-exact, room-says, fits-exact, laid-keeps, laid-lays, laid-past, stop-line, stop-other, ten, ten-apart, ten-lines, reading-exact, book-first, stopLine-10, stopLine-13, underived-exact, keep-plays, plays-keep}
 use Rattle.playing.specs.Rehearsal.{eventsDone, mostMoves, longLine, moveLine, rehearsalSays, rehearsal, BadMoves, Named, RehearsalPromise}
 
 -- ---- refusal 11
@@ -40,7 +42,7 @@ move-line q ms =
     }
 
 module _ (b ms : List ℕ) where
-  -- ---- refusals 1 to 10 are the book's
+  -- ---- refusals 1 to 10 and 13 are the book's
   pub rehearsal-acceptance-first : (out : List ℕ) → (acceptance b .number ≡ 0 → ⊥) → rehearsalSays b ms out ≡ acceptance b
   unfolding rehearsalSays
   rehearsal-acceptance-first out n = book-first b _ _ n
@@ -61,23 +63,32 @@ module _ (b ms : List ℕ) where
       let r = keep-append (ten b) moves k in
       (keep-plays b (r .0), r .1 .0 0 (omega arith), getD-all (λ q. q < parties b) ms (r .1 .1 .0))
 
+  lines-apart : (n : ℕ) → (n ≡ 10 → ⊥) → (n ≡ 13 → ⊥) → Apart n (nine b) → Apart n moves → Apart n (ten b ++ moves)
+  lines-apart n p q a m = apart-append n (ten b) moves (ten-apart b n p q a) m
+
   -- ---- each of refusals 1 to 9 is given exactly when the reader gives it
   pub rehearsal-exactly-reading : (out : List ℕ) (n : ℕ) → 0 < n → n ≤ 9 → (vs : List ℕ)
       → (rehearsalSays b ms out ≡ said n vs) ↔ (verdict b ≡ said n vs)
-  unfolding rehearsalSays takenLine longLine moveLine roomLine
+  unfolding rehearsalSays stopLine longLine moveLine roomLine
   rehearsal-exactly-reading out n p h vs =
-      reading-exact b (taken-line b ∷ moves ++ room-line (length out) (parties b) ∷ []) (said 0 (parties b ∷ [])) n
-      (omega arith) (omega arith) p vs
+      reading-exact b (stop-line b ∷ moves ++ room-line (length out) (parties b) ∷ []) (said 0 (parties b ∷ [])) n
+      (stop-other b n (omega arith) (omega arith), omega arith) (omega arith) p vs
 
-  -- ---- refusal 10
-  pub rehearsal-exactly-10 : (out vs : List ℕ) → (rehearsalSays b ms out ≡ said 10 vs) ↔ (Valid b × Unplayable b vs)
+  -- ---- refusals 10 and 13
+  pub rehearsal-exactly-10 : (out vs : List ℕ) → (rehearsalSays b ms out ≡ said 10 vs) ↔ (Valid b × Unplayable Taken b vs)
   rehearsal-exactly-10 out vs =
-      let r = takenLine-exact b (moves ++ room-line (length out) (parties b) ∷ []) (said 0 (parties b ∷ [])) (omega arith) (omega arith) vs in
+      let r = stopLine-10 b (moves ++ room-line (length out) (parties b) ∷ []) (said 0 (parties b ∷ [])) (omega arith) (omega arith) vs in
       (λ e. r .0 (sym (says-lines out) ∙ e), λ u. says-lines out ∙ r .1 u)
 
-  -- a valid book's rehearsal is refused 10 exactly if some step has a message that has no derivation
-  pub rehearsal-exactly-underived : Valid b → (out : List ℕ) → (rehearsalSays b ms out .number ≡ 10) ↔ SomeUnderived b
-  rehearsal-exactly-underived v out = underived-exact b (rehearsalSays b ms out) (rehearsal-exactly-10 out) v
+  pub rehearsal-exactly-13 : (out vs : List ℕ) → (rehearsalSays b ms out ≡ said 13 vs) ↔ (Valid b × Unplayable Barred b vs)
+  rehearsal-exactly-13 out vs =
+      let r = stopLine-13 b (moves ++ room-line (length out) (parties b) ∷ []) (said 0 (parties b ∷ [])) (omega arith) (omega arith) vs in
+      (λ e. r .0 (sym (says-lines out) ∙ e), λ u. says-lines out ∙ r .1 u)
+
+  -- a valid book's rehearsal is refused 10 or 13 exactly if some step has a message that has no derivation
+  pub rehearsal-exactly-underived : Valid b → (out : List ℕ)
+      → ((rehearsalSays b ms out .number ≡ 10) ⊎ (rehearsalSays b ms out .number ≡ 13)) ↔ SomeUnderived b
+  rehearsal-exactly-underived v out = underived-exact b (rehearsalSays b ms out) (rehearsal-exactly-10 out) (rehearsal-exactly-13 out) v
 
   -- ---- refusal 11
   cause-long : (vs : List ℕ) → mostMoves < length ms → vs ≡ mostMoves ∷ [] → Cause (long-line ms) vs
@@ -114,7 +125,8 @@ module _ (b ms : List ℕ) where
 
     pub rehearsal-exactly-11 : (rehearsalSays b ms out ≡ said 11 vs) ↔ (Plays b × BadMoves (parties b) ms vs)
     rehearsal-exactly-11 = (
-      λ e. (let r = passed 11 (ten b) (long-line ms .line ∷ lines behind) rest vs (omega arith) (sym (says-lines out) ∙ e) in
+      λ e. (let r = passed 11 (ten b) (long-line ms .line ∷ lines behind) rest vs
+          (ten-apart b 11 (omega arith) (omega arith) (omega arith)) (sym (says-lines out) ∙ e) in
           (keep-plays b (r .0), given-bad (r .1))),
       λ u. says-lines out ∙ bad-given (plays-keep b (u .0)) (u .1),
     )
@@ -123,7 +135,7 @@ module _ (b ms : List ℕ) where
   pub rehearsal-exactly-12 : (out vs : List ℕ) → (rehearsalSays b ms out ≡ said 12 vs)
       ↔ (Plays b × (length ms ≤ mostMoves) × Named (parties b) ms × (length out < parties b) × (vs ≡ parties b ∷ []))
   rehearsal-exactly-12 out vs =
-      let r = room-exact (ten b ++ moves) (length out) (parties b) (omega arith) vs in (
+      let r = room-exact (ten b ++ moves) (length out) (parties b) (lines-apart 12 (omega arith) (omega arith) (omega arith) (omega arith)) vs in (
         λ e. (let z = r .0 (sym (says-lines out) ∙ e) in
             let k = all-kept (z .0) in
             (k .0, k .1, k .2, z .1, z .2)),
@@ -135,7 +147,7 @@ module _ (b ms : List ℕ) where
       ↔ (Plays b × (length ms ≤ mostMoves) × Named (parties b) ms × (parties b ≤ length out))
   exactly-played out =
       let n = ap (λ (s : Said). s .number) (says-lines out) in
-      let r = fits-exact (ten b ++ moves) (length out) (parties b) (omega arith) in (
+      let r = fits-exact (ten b ++ moves) (length out) (parties b) (lines-apart 0 (omega arith) (omega arith) (omega arith) (omega arith)) in (
         λ e. (let z = r .0 (sym n ∙ e) in
             let k = all-kept (z .0) in
             (k .0, k .1, k .2, z .1)),

@@ -28,10 +28,10 @@ use Rattle.sending.proofs.+make+make_list.Tie.{close}
 
 -- A row counts more than a list below it, and a list more than each of its rows: at most nine are left of it.
 abbrev μ-make : Measures 4 make-kinds.ps ℕ
-μ-make κs a = 16 * a .1 .1 .1 .1 .0 + 15
+μ-make κs a = 16 * a .1 .1 .1 .1 .1 .0 + 15
 
 abbrev μ-make-list : Measures 4 make-list-kinds.ps ℕ
-μ-make-list κs a = 16 * a .1 .1 .1 .1 .0 + a .1 .1 .1 .1 .1 .1 .0
+μ-make-list κs a = 16 * a .1 .1 .1 .1 .1 .0 + a .1 .1 .1 .1 .1 .1 .1 .0
 
 abbrev make-at : ℕ → In 4 make-kinds.ps
 make-at t = and 4 make-kinds.ps (is 4 make-kinds.ps μ-make t) make.Pre
@@ -97,8 +97,8 @@ make-returns-2 t c =
     let start : in-make make-lts.Start t = search in
     let (measured, asked) = start .pre in
     let (valid, inside, sized) = asked in
-    atom-makes {l = start .args .since .now} (start .args .entries .now) {s = start .args .step} valid
-    inside {m = start .args .m} sized (after-wide .wide .ensures .0) (else1 .if1 .left)
+    atom-makes {l = start .args .since .now} (start .args .entries .now) {k = start .args .mark}
+    {s = start .args .step} valid inside {m = start .args .m} sized (after-wide .wide .ensures .0) (else1 .if1 .left)
     (after-row-kind .row-kind .ensures) (then2 .if2 .taken) (after-wide2 .wide2 .ensures .0) (after-put2 .put2 .ensures)
     (after-first-stop .first-stop .ensures)
 

@@ -140,7 +140,8 @@ first-stays w s x [] n = refl
 first-stays w s x (r ∷ rs) n = ap (λ y. firstIn w s y rs) (or-stays x (w r) s r n) ∙ first-stays w s x rs n
 
 -- t tells against which rows something stands
-module _ (w : ℕ → ℕ) (s : ℕ) (t : ℕ → Bool) (free : (r : ℕ) → t r ≡ false → w r ≡ 0) (bars : (r : ℕ) → t r ≡ true → w r ≡ 0 → ⊥) where
+module _ (w : ℕ → ℕ) (s : ℕ) (t : ℕ → Bool)
+    (free : (r : ℕ) → t r ≡ false → w r ≡ 0) (bars : (r : ℕ) → t r ≡ true → w r ≡ 0 → ⊥) where
   -- nothing stands against the rows, or something does against one and nothing against those before it
   record NoneStops (rs : List ℕ) : Type 0 where
     none : (k : ℕ) → k < length rs → t (getD rs k 0) ≡ false

@@ -1,5 +1,5 @@
--- Laws of writing a summary: refusals 1 to 10 are the book's, then 12; a refusal changes no lent word; the summary is laid over the first
--- words lent, and those past it stay, so that what was written answers as the full walk does; no two outcomes keep one promise. Assumes
+-- Laws of writing a summary: refusals 1 to 10 and 13 are the book's, then 12; a refusal changes no lent word; the summary is laid over the
+-- first words lent, and those past it stay, so that what was written answers as the full walk does; no two outcomes keep one promise. Assumes
 -- nothing.
 use Prim.Native.Nat.{ℕ, _+_, _≤_, _<_}
 use mathlib.Core.List.{List, [], _∷_, _++_}
@@ -16,8 +16,9 @@ use Rattle.book.specs.declared.Refusal.the-variants.{Room}
 use Rattle.book.specs.declared.Reading.the-variants as reading
 use Rattle.book.specs.Refusals.{firstOf, verdict}
 use Rattle.book.specs.Valid.{Valid}
-use Rattle.translation.specs.Outcome.{takenLine, roomLine, acceptance, Outcome, came, Unplayable, Plays}
-use Rattle.translation.specs.Outcome.Laws.{room-line, ends-in-room, room-exact, room-says, fits-exact, laid-keeps, laid-lays, laid-past, taken-line, ten, ten-lines, reading-exact, book-first, book-came, came-refused, came-written, takenLine-exact, keep-plays, plays-keep}
+use Rattle.translation.specs.Taken.{Taken, Barred}
+use Rattle.translation.specs.Outcome.{stopLine, roomLine, acceptance, Outcome, came, Unplayable, Plays}
+use Rattle.translation.specs.Outcome.Laws.{room-line, ends-in-room, room-exact, room-says, fits-exact, laid-keeps, laid-lays, laid-past, stop-line, stop-other, ten, ten-apart, ten-lines, reading-exact, book-first, book-came, came-refused, came-written, stopLine-10, stopLine-13, keep-plays, plays-keep}
 use Rattle.translation.specs.Outcome.Returned.{came-injective}
 use Rattle.translation.specs.declared.Answer.{Answer}
 use Rattle.translation.specs.declared.Answer.the-variants.{Written, Refused}
@@ -32,26 +33,32 @@ module _ (b out : List ℕ) where
   unfolding summarySays roomLine
   says-lines = ap (λ ls. firstOf ls rest) (ten-lines b _)
 
-  -- ---- refusals 1 to 10 are the book's: "Writing it for a refused book gives the book's refusal"
+  -- ---- refusals 1 to 10 and 13 are the book's: "Writing it for a refused book gives the book's refusal"
   pub summary-book-first : (acceptance b .number ≡ 0 → ⊥) → summarySays b out ≡ acceptance b
   unfolding summarySays
   summary-book-first n = book-first b _ _ n
 
   pub summary-exactly-reading : (n : ℕ) → 0 < n → n ≤ 9 → (vs : List ℕ) → (summarySays b out ≡ said n vs) ↔ (verdict b ≡ said n vs)
-  unfolding summarySays takenLine roomLine
+  unfolding summarySays stopLine roomLine
   summary-exactly-reading n p h vs =
-      reading-exact b (taken-line b ∷ room-line (length out) (summaryWords b) ∷ []) rest n (omega arith) (omega arith) p vs
+      reading-exact b (stop-line b ∷ room-line (length out) (summaryWords b) ∷ []) rest n
+      (stop-other b n (omega arith) (omega arith), omega arith) (omega arith) p vs
 
-  pub summary-exactly-10 : (vs : List ℕ) → (summarySays b out ≡ said 10 vs) ↔ (Valid b × Unplayable b vs)
+  pub summary-exactly-10 : (vs : List ℕ) → (summarySays b out ≡ said 10 vs) ↔ (Valid b × Unplayable Taken b vs)
   summary-exactly-10 vs =
-      let r = takenLine-exact b (room-line (length out) (summaryWords b) ∷ []) rest (omega arith) (omega arith) vs in
+      let r = stopLine-10 b (room-line (length out) (summaryWords b) ∷ []) rest (omega arith) (omega arith) vs in
+      (λ e. r .0 (sym says-lines ∙ e), λ u. says-lines ∙ r .1 u)
+
+  pub summary-exactly-13 : (vs : List ℕ) → (summarySays b out ≡ said 13 vs) ↔ (Valid b × Unplayable Barred b vs)
+  summary-exactly-13 vs =
+      let r = stopLine-13 b (room-line (length out) (summaryWords b) ∷ []) rest (omega arith) (omega arith) vs in
       (λ e. r .0 (sym says-lines ∙ e), λ u. says-lines ∙ r .1 u)
 
   -- ---- refusal 12 is the last
   pub summary-exactly-12 : (vs : List ℕ) → (summarySays b out ≡ said 12 vs)
       ↔ (Plays b × (length out < summaryWords b) × (vs ≡ summaryWords b ∷ []))
   summary-exactly-12 vs =
-      let r = room-exact (ten b) (length out) (summaryWords b) (omega arith) vs in (
+      let r = room-exact (ten b) (length out) (summaryWords b) (ten-apart b 12 (omega arith) (omega arith) (omega arith)) vs in (
         λ e. (let z = r .0 (sym says-lines ∙ e) in (keep-plays b (z .0), z .1, z .2)),
         λ u. says-lines ∙ r .1 (plays-keep b (u .0), u .1, u .2),
       )
@@ -60,7 +67,7 @@ module _ (b out : List ℕ) where
   pub exactly-summarized : (summarySays b out .number ≡ 0) ↔ (Plays b × (summaryWords b ≤ length out))
   exactly-summarized =
       let n = ap (λ (s : Said). s .number) says-lines in
-      let r = fits-exact (ten b) (length out) (summaryWords b) (omega arith) in
+      let r = fits-exact (ten b) (length out) (summaryWords b) (ten-apart b 0 (omega arith) (omega arith) (omega arith)) in
       (λ e. (let z = r .0 (sym n ∙ e) in (keep-plays b (z .0), z .1)), λ u. n ∙ r .1 (plays-keep b (u .0), u .1))
 
   pub summarized-says : Plays b → summaryWords b ≤ length out → summarySays b out ≡ said 0 (summaryWords b ∷ [])

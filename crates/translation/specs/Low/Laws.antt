@@ -1,4 +1,4 @@
--- Laws of words of 32 bits: what building makes, and refusal 10's row, are rows of the book; and no word of a valid book's listing
+-- Laws of words of 32 bits: what building makes, and the row of refusals 10 and 13, are rows of the book; and no word of a valid book's listing
 -- leaves 32 bits. Assumes nothing.
 use Prim.Native.Nat.{ℕ, zero, suc, _+_, _*_, _≤_, _<_}
 use native.Mathlib.Decide.{ℕ-discrete}
@@ -31,8 +31,8 @@ use Rattle.translation.specs.Program.{sent, arrived}
 use Rattle.translation.specs.Narration.{narration, stepAt}
 use Rattle.translation.specs.Steps.{stepDid, before}
 use Rattle.translation.specs.Steps.Laws.{step-sends, step-receives, step-idle, before-none, before-more, before-all}
-use Rattle.translation.specs.Taken.{stepOf, holdsBefore, madeAt, unplayable, firstTaken}
-use Rattle.translation.specs.Taken.Laws.{step-is, first-taken}
+use Rattle.translation.specs.Taken.{stepOf, holdsBefore, madeAt, unplayable, stopRow}
+use Rattle.translation.specs.Taken.Laws.{step-is, stop-there}
 use Rattle.translation.specs.Listing.{pairWords, eventWords, programWords, heads, bodies, framed, partWords, listing}
 use Rattle.translation.specs.Listing.Laws.{program-append, pairs-append}
 use Rattle.translation.specs.Long.{stepSize, mostPlaceholders}
@@ -269,12 +269,12 @@ module _ (b : List ℕ) (v : Valid b) where
   step-rows : (s : ℕ) → s < steps b → AllRows (table b) (rows b) (terms (table b) (messages b s))
   step-rows s h = rows-listed (rows b) (table b) ok (messages b s) (step-listed s h)
 
-  -- ---- refusal 10's row
-  pub taken-low : (s : ℕ) → s < steps b → unplayable (narration b) s ≡ true → firstTaken (narration b) s < rows b
+  -- ---- the row of refusals 10 and 13
+  pub stop-low : (s : ℕ) → s < steps b → unplayable (narration b) s ≡ true → stopRow (narration b) s < rows b
   unfolding madeAt stepAt
-  taken-low s h u =
+  stop-low s h u =
       let N = narration b in
-      let f = first-taken N s u in
+      let f = stop-there N s u in
       let r : AllRows (table b) (rows b) (stepOf N s .messages) = rw (step-is b s h) (step-rows s h) in
       let a = made-below (table b) (rows b) ok (stepOf N s .messages) (holdsBefore N (stepOf N s .sender) s) r in
       let l = all-getD (λ q. q < rows b) (madeAt N s) a (f .place) (f .within) in

@@ -1,22 +1,22 @@
 -- Laws of outcomes: each refusal of a translation is given exactly when document 01 says so; a refusal changes no lent word; on
 -- acceptance the lent words are the listing and what was behind it; no two outcomes keep one promise. What the rehearsal has in
--- common with the translation is said once: refusals 1 to 10 first, refusal 12 as the last, and an output that is laid over the lent
--- words. Assumes nothing.
+-- common with the translation is said once: refusals 1 to 10 and 13 first, refusal 12 as the last, and an output that is laid over the
+-- lent words. Assumes nothing.
 use Prim.Native.Nat.{ℕ, _+_, _≤_, _<_}
 use mathlib.Core.Bool.{Bool, true, false}
 use mathlib.Core.List.{List, [], _∷_, _++_, append-nil}
-use mathlib.Core.Logic.{_↔_}
+use mathlib.Core.Logic.{_↔_, _⊎_, inl, inr, ⊎-elim}
 use mathlib.Core.Path.{_≡_, refl, sym, ap, ap₂, _∙_}
 use native.Mathlib.Omega.{arith}
 use native.Mathlib.Decide.{ℕ-discrete}
 use lib.ListN.{length, drop}
 use lib.Seq.{sets, sets-eq}
 use lib.Dec.{ltb}
-use borrow.Author.Tests.{ltb-false, le-ltb, ne-eqb, eq-eqb}
+use borrow.Author.Tests.{ltb-false, le-ltb, ne-eqb, eq-eqb, eqb-true, eqb-false}
 use Rattle.words.specs.Choice.Laws.{pick-true, pick-false}
 use Rattle.words.specs.First.{first}
 use Rattle.words.specs.First.Laws.{clash, first-holds, first-fails, any-at, any-first}
-use Rattle.book.specs.Layout.{steps}
+use Rattle.book.specs.Layout.{steps, mark, sender}
 use Rattle.book.specs.Said as Said
 use Rattle.book.specs.Said.{accepted, refusalSays}
 use Rattle.book.specs.Said.Laws.{refusal-number}
@@ -26,11 +26,11 @@ use Rattle.book.specs.Ruled.{Ruled, AllKeep, lines, Cause, Apart}
 use Rattle.book.specs.Refusals.Laws.{append-keep, keep-append, lines-append, apart-append, given, passed, caused, all-keep, none-given, firstOf-none, firstOf-stop}
 use Rattle.book.specs.Valid.{Valid}
 use Rattle.book.specs.Valid.Laws.{nine, reading-lines, keep-valid, valid-keep}
-use Rattle.translation.specs.Narration.{narration}
-use Rattle.translation.specs.Taken.{unplayable, firstTaken, Playable}
-use Rattle.translation.specs.Taken.Laws.{playable-exact, unplayable-exact, first-taken}
+use Rattle.translation.specs.Narration.{Narration, narration}
+use Rattle.translation.specs.Taken.{Taken, Barred, senderMakes, unplayable, stopRow, stopNumber, Playable, FirstStop}
+use Rattle.translation.specs.Taken.Laws.{sender-makes, playable-exact, unplayable-exact, stop-cases, ten-exact, thirteen-exact}
 use Rattle.translation.specs.Listing.{listing}
-use Rattle.translation.specs.Outcome.{takenLine, roomLine, acceptance, translationSays, Outcome, laid, outcome, came, Plays, Unplayable, SomeUnderived, Promise}
+use Rattle.translation.specs.Outcome.{stopLine, roomLine, acceptance, translationSays, Outcome, laid, outcome, came, Plays, Unplayable, SomeUnderived, Promise}
 use Rattle.translation.specs.declared.Answer.the-variants.{Written, Refused}
 
 -- ---- refusal 12 is the last, behind the lines xs: "No room is said only when there is none."
@@ -103,37 +103,49 @@ module _ (s : Said.Said) (out ws : List ℕ) where
 
 -- ---- the lines of a translation with their rules
 module _ (b : List ℕ) where
-  abbrev pub taken-line : Ruled
-  taken-line = record {
-    line = line 10 (steps b) (unplayable (narration b)) (λ s. s ∷ firstTaken (narration b) s ∷ []);
+  abbrev pub stop-line : Ruled
+  stop-line = record {
+    line = record {
+      number = stopNumber (narration b);
+      among = steps b;
+      breaks = unplayable (narration b);
+      place = λ s. s ∷ stopRow (narration b) s ∷ [];
+    };
     rule =
         Playable (narration b);
     exact = playable-exact (narration b);
   }
 
-  -- refusals 1 to 10
+  -- it has the numbers 10 and 13, and no other
+  pub stop-other : (n : ℕ) → (n ≡ 10 → ⊥) → (n ≡ 13 → ⊥) → (i : ℕ) → stopNumber (narration b) i ≡ n → ⊥
+  stop-other n p q i e = ⊎-elim (λ z. p (sym e ∙ z)) (λ z. q (sym e ∙ z)) (stop-cases (narration b) i)
+
+  -- refusals 1 to 10 and 13, in ten lines
   abbrev pub ten : List Ruled
-  ten = nine b ++ taken-line ∷ []
+  ten = nine b ++ stop-line ∷ []
+
+  pub ten-apart : (n : ℕ) → (n ≡ 10 → ⊥) → (n ≡ 13 → ⊥) → Apart n (nine b) → Apart n ten
+  ten-apart n p q a = apart-append n (nine b) (stop-line ∷ []) a (stop-other n p q, tt)
 
   abbrev pub written : Said.Said
   written = Said.said 0 (length (listing b) ∷ [])
 
-  pub ten-lines : (ls : List Line) → readingTable b ++ takenLine b ∷ ls ≡ lines ten ++ ls
-  unfolding takenLine
+  pub ten-lines : (ls : List Line) → readingTable b ++ stopLine b ∷ ls ≡ lines ten ++ ls
+  unfolding stopLine
   ten-lines ls = rw (reading-lines b)
 
   says-lines : (out : List ℕ) → translationSays b out ≡ ends-in-room ten (length out) (length (listing b))
-  unfolding translationSays takenLine roomLine
+  unfolding translationSays stopLine roomLine
   says-lines out = rw (reading-lines b)
 
   accept-lines : acceptance b ≡ firstOf (lines ten) accepted
-  unfolding acceptance takenLine
+  unfolding acceptance stopLine
   accept-lines = rw (reading-lines b)
 
   -- ---- refusals 1 to 9 are the reader's
   pub reading-first : (out : List ℕ) → (verdict b .number ≡ 0 → ⊥) → translationSays b out ≡ verdict b
   unfolding translationSays verdict
-  reading-first out n = firstOf-stop (readingTable b) (takenLine b ∷ roomLine (length out) (length (listing b)) ∷ []) accepted written refl n
+  reading-first out n = firstOf-stop (readingTable b) (stopLine b ∷ roomLine (length out) (length (listing b)) ∷ []) accepted written refl n
 
   -- and no other: whatever lines ys of other numbers stand behind
   pub reading-exact : (ys : List Ruled) (rest : Said.Said) (n : ℕ) → Apart n ys → (rest .number ≡ n → ⊥) → 0 < n → (vs : List ℕ)
@@ -155,108 +167,166 @@ module _ (b : List ℕ) where
   -- each of refusals 1 to 9 is given exactly when the reader gives it
   pub exactly-reading : (out : List ℕ) (n : ℕ) → 0 < n → n ≤ 9 → (vs : List ℕ)
       → (translationSays b out ≡ Said.said n vs) ↔ (verdict b ≡ Said.said n vs)
-  unfolding translationSays takenLine roomLine
+  unfolding translationSays stopLine roomLine
   exactly-reading out n p h vs =
-      reading-exact (taken-line ∷ room-line (length out) (length (listing b)) ∷ []) written n (omega arith) (omega arith) p vs
+      reading-exact (stop-line ∷ room-line (length out) (length (listing b)) ∷ []) written n
+      (stop-other n (omega arith) (omega arith), omega arith) (omega arith) p vs
 
   pub accept-reading : (n : ℕ) → 0 < n → n ≤ 9 → (vs : List ℕ) → (acceptance b ≡ Said.said n vs) ↔ (verdict b ≡ Said.said n vs)
-  unfolding acceptance takenLine
-  accept-reading n p h vs = reading-exact (taken-line ∷ []) accepted n (omega arith) (omega arith) p vs
+  unfolding acceptance stopLine
+  accept-reading n p h vs = reading-exact (stop-line ∷ []) accepted n (stop-other n (omega arith) (omega arith), tt) (omega arith) p vs
 
-  -- ---- refusals 1 to 10 are the book's, whatever lines ls stand behind
-  pub book-first : (ls : List Line) (rest : Said.Said) → (acceptance b .number ≡ 0 → ⊥) → firstOf (readingTable b ++ takenLine b ∷ ls) rest
+  -- ---- refusals 1 to 10 and 13 are the book's, whatever lines ls stand behind
+  pub book-first : (ls : List Line) (rest : Said.Said) → (acceptance b .number ≡ 0 → ⊥) → firstOf (readingTable b ++ stopLine b ∷ ls) rest
       ≡ acceptance b
   unfolding acceptance readingTable
-  book-first ls rest n = firstOf-stop (readingTable b ++ takenLine b ∷ []) ls accepted rest refl n
+  book-first ls rest n = firstOf-stop (readingTable b ++ stopLine b ∷ []) ls accepted rest refl n
 
   pub book-came : (ls : List Line) (rest : Said.Said) (out ws : List ℕ) (f : Refusal) → refusalSays f ≡ acceptance b
-      → came (Refused f) out ≡ laid (firstOf (readingTable b ++ takenLine b ∷ ls) rest) out ws
+      → came (Refused f) out ≡ laid (firstOf (readingTable b ++ stopLine b ∷ ls) rest) out ws
   book-came ls rest out ws f e =
       came-refused _ out ws f (book-first ls rest (λ z. refusal-number f (ap (λ (x : Said.Said). x .number) e ∙ z)) ∙ sym e)
 
-  -- ---- refusal 10
-  cause-unplayable : (vs : List ℕ) → Cause taken-line vs → Unplayable b vs
-  cause-unplayable vs c =
-      record {
-        step = c .place;
-        within = c .within;
-        none = unplayable-exact (narration b) (c .place) .0 (c .broken);
-        smallest = c .smallest;
-        atom = first-taken (narration b) (c .place) (go (unplayable (narration b) (c .place)) refl);
-        says = c .says;
-      }
+  -- ---- refusals 10 and 13, the one for a taken atom and the other for a sender that makes nothing
+  broken-unplayable : (k : ℕ) → (Playable (narration b) k → ⊥) → unplayable (narration b) k ≡ true
+  broken-unplayable k n = go (unplayable (narration b) k) refl
     where
-      go : (v : Bool) → unplayable (narration b) (c .place) ≡ v → unplayable (narration b) (c .place) ≡ true
+      go : (v : Bool) → unplayable (narration b) k ≡ v → unplayable (narration b) k ≡ true
       go true e = e
-      go false e = absurd (c .broken (playable-exact (narration b) (c .place) .0 e))
+      go false e = absurd (n (playable-exact (narration b) k .0 e))
 
-  unplayable-cause : (vs : List ℕ) → Unplayable b vs → Cause taken-line vs
-  unplayable-cause vs u =
-      record { place = u .step; within = u .within; broken = unplayable-exact (narration b) (u .step) .1 (u .none); smallest = u .smallest; says = u .says }
+  -- the reason why is what the number n says
+  abbrev Means : ℕ → (Narration → ℕ → ℕ → Type 0) → Type 0
+  Means n why = (k : ℕ) → unplayable (narration b) k ≡ true → (stopNumber (narration b) k ≡ n) ↔ FirstStop (narration b) k (why (narration b) k)
 
-  -- whatever lines ys stand behind
-  pub takenLine-exact : (ys : List Ruled) (rest : Said.Said) → Apart 10 ys → (rest .number ≡ 10 → ⊥) → (vs : List ℕ)
-      → (firstOf (lines (nine b) ++ (taken-line .line ∷ lines ys)) rest ≡ Said.said 10 vs) ↔ (Valid b × Unplayable b vs)
-  takenLine-exact ys rest a n vs = (
-    λ e. (let z = caused (nine b) taken-line ys rest vs (omega arith) a n e in (keep-valid b (z .0), cause-unplayable vs (z .1 .0))),
-    λ u. given (nine b) taken-line ys rest vs (valid-keep b (u .0)) (unplayable-cause vs (u .1)),
-  )
+  means-10 : Means 10 Taken
+  means-10 = ten-exact (narration b)
 
-  pub exactly-10 : (out vs : List ℕ) → (translationSays b out ≡ Said.said 10 vs) ↔ (Valid b × Unplayable b vs)
+  means-13 : Means 13 Barred
+  means-13 = thirteen-exact (narration b)
+
+  module _ {n : ℕ} {why : Narration → ℕ → ℕ → Type 0} (means : Means n why) where
+    cause-unplayable : (vs : List ℕ) (c : Cause stop-line vs) → stopNumber (narration b) (c .place) ≡ n → Unplayable why b vs
+    cause-unplayable vs c e =
+        record {
+          step = c .place;
+          within = c .within;
+          none = unplayable-exact (narration b) (c .place) .0 (c .broken);
+          smallest = c .smallest;
+          atom = means (c .place) (broken-unplayable (c .place) (c .broken)) .0 e;
+          says = c .says;
+        }
+
+    unplayable-broken : {vs : List ℕ} (u : Unplayable why b vs) → Playable (narration b) (u .step) → ⊥
+    unplayable-broken u = unplayable-exact (narration b) (u .step) .1 (u .none)
+
+    unplayable-cause : (vs : List ℕ) → Unplayable why b vs → Cause stop-line vs
+    unplayable-cause vs u =
+        record { place = u .step; within = u .within; broken = unplayable-broken u; smallest = u .smallest; says = u .says }
+
+    unplayable-number : {vs : List ℕ} (u : Unplayable why b vs) → stopNumber (narration b) (u .step) ≡ n
+    unplayable-number u = means (u .step) (broken-unplayable (u .step) (unplayable-broken u)) .1 (u .atom)
+
+    -- whatever lines ys stand behind
+    line-exact : (ys : List Ruled) (rest : Said.Said) → Apart n (nine b) → Apart n ys → (rest .number ≡ n → ⊥) → (vs : List ℕ)
+        → (firstOf (lines (nine b) ++ (stop-line .line ∷ lines ys)) rest ≡ Said.said n vs) ↔ (Valid b × Unplayable why b vs)
+    unfolding unplayable-cause
+    line-exact ys rest p a z vs = (
+      λ e. (let r = caused (nine b) stop-line ys rest vs p a z e in (keep-valid b (r .0), cause-unplayable vs (r .1 .0) (r .1 .1))),
+      λ u. given (nine b) stop-line ys rest vs (valid-keep b (u .0)) (unplayable-cause vs (u .1))
+          ∙ ap (λ k. Said.said k vs) (unplayable-number (u .1)),
+    )
+
+  -- of a valid book a sender that makes nothing is one marked 0, and a maker one marked 1
+  pub maker-mark : Valid b → (s : ℕ) → s < steps b → (senderMakes (narration b) s ≡ true) ↔ (mark b (sender b s) ≡ 1)
+  maker-mark v s h =
+      let z = sender-makes b s h (v .stepsKeep s h .sends) in
+      (λ e. eqb-true (mark b (sender b s)) 1 (sym z ∙ e), λ e. z ∙ eq-eqb (mark b (sender b s)) 1 e)
+
+  pub nothing-mark : Valid b → (s : ℕ) → s < steps b → (senderMakes (narration b) s ≡ false) ↔ (mark b (sender b s) ≡ 0)
+  nothing-mark v s h =
+      let z = sender-makes b s h (v .stepsKeep s h .sends) in
+      let low = v .partiesKeep (sender b s) (v .stepsKeep s h .sends) .marked in
+      (λ e. (let n = eqb-false (mark b (sender b s)) 1 (sym z ∙ e) in omega arith), λ e. z ∙ ne-eqb (mark b (sender b s)) 1 (omega arith))
+
+  pub stopLine-10 : (ys : List Ruled) (rest : Said.Said) → Apart 10 ys → (rest .number ≡ 10 → ⊥) → (vs : List ℕ)
+      → (firstOf (lines (nine b) ++ (stop-line .line ∷ lines ys)) rest ≡ Said.said 10 vs) ↔ (Valid b × Unplayable Taken b vs)
+  stopLine-10 ys rest a z vs = line-exact means-10 ys rest (omega arith) a z vs
+
+  pub stopLine-13 : (ys : List Ruled) (rest : Said.Said) → Apart 13 ys → (rest .number ≡ 13 → ⊥) → (vs : List ℕ)
+      → (firstOf (lines (nine b) ++ (stop-line .line ∷ lines ys)) rest ≡ Said.said 13 vs) ↔ (Valid b × Unplayable Barred b vs)
+  stopLine-13 ys rest a z vs = line-exact means-13 ys rest (omega arith) a z vs
+
+  pub exactly-10 : (out vs : List ℕ) → (translationSays b out ≡ Said.said 10 vs) ↔ (Valid b × Unplayable Taken b vs)
   exactly-10 out vs =
-      let r = takenLine-exact (room-line (length out) (length (listing b)) ∷ []) written (omega arith) (omega arith) vs in
+      let r = stopLine-10 (room-line (length out) (length (listing b)) ∷ []) written (omega arith) (omega arith) vs in
+      (λ e. r .0 (sym (says-lines out) ∙ e), λ u. says-lines out ∙ r .1 u)
+
+  pub exactly-13 : (out vs : List ℕ) → (translationSays b out ≡ Said.said 13 vs) ↔ (Valid b × Unplayable Barred b vs)
+  exactly-13 out vs =
+      let r = stopLine-13 (room-line (length out) (length (listing b)) ∷ []) written (omega arith) (omega arith) vs in
       (λ e. r .0 (sym (says-lines out) ∙ e), λ u. says-lines out ∙ r .1 u)
 
   -- the same with no buffer
-  pub accept-10 : (vs : List ℕ) → (acceptance b ≡ Said.said 10 vs) ↔ (Valid b × Unplayable b vs)
-  accept-10 vs = let r = takenLine-exact [] accepted (omega arith) (omega arith) vs in (λ e. r .0 (sym accept-lines ∙ e), λ u. accept-lines ∙ r .1 u)
+  pub accept-10 : (vs : List ℕ) → (acceptance b ≡ Said.said 10 vs) ↔ (Valid b × Unplayable Taken b vs)
+  accept-10 vs = let r = stopLine-10 [] accepted tt (omega arith) vs in (λ e. r .0 (sym accept-lines ∙ e), λ u. accept-lines ∙ r .1 u)
+
+  pub accept-13 : (vs : List ℕ) → (acceptance b ≡ Said.said 13 vs) ↔ (Valid b × Unplayable Barred b vs)
+  accept-13 vs = let r = stopLine-13 [] accepted tt (omega arith) vs in (λ e. r .0 (sym accept-lines ∙ e), λ u. accept-lines ∙ r .1 u)
 
   -- "refused exactly if": where some step has a message with no derivation, there is a smallest such step
-  underived-unplayable : SomeUnderived b → (vs : List ℕ) × Unplayable b vs
+  underived-unplayable : SomeUnderived b → (vs : List ℕ) × (Unplayable Taken b vs ⊎ Unplayable Barred b vs)
   underived-unplayable u =
       let t = unplayable (narration b) in
       let s = first t (steps b) in
-      let l = any-first t (steps b) (any-at t (steps b) (u .step) (u .within) (go (t (u .step)) refl)) in
-      let c : Cause taken-line (s ∷ firstTaken (narration b) s ∷ []) =
+      let here = broken-unplayable (u .step) (unplayable-exact (narration b) (u .step) .1 (u .none)) in
+      let l = any-first t (steps b) (any-at t (steps b) (u .step) (u .within) here) in
+      let c : Cause stop-line (s ∷ stopRow (narration b) s ∷ []) =
       record {
         place = s;
         within = l;
         broken = λ p. clash (first-holds t (steps b) l) (playable-exact (narration b) s .1 p);
         smallest = λ k h. playable-exact (narration b) k .0 (first-fails t (steps b) k h);
         says = refl;
-      } in
-      (s ∷ firstTaken (narration b) s ∷ [], cause-unplayable _ c)
-    where
-      go : (v : Bool) → unplayable (narration b) (u .step) ≡ v → unplayable (narration b) (u .step) ≡ true
-      go true e = e
-      go false e = absurd (unplayable-exact (narration b) (u .step) .1 (u .none) (playable-exact (narration b) (u .step) .0 e))
+      } in (
+        s ∷ stopRow (narration b) s ∷ [],
+        ⊎-elim (λ e. inl (cause-unplayable means-10 _ c e)) (λ e. inr (cause-unplayable means-13 _ c e)) (stop-cases (narration b) s),
+      )
 
-  -- of whatever says 10 exactly for a valid and unplayable book
-  pub underived-exact : (s : Said.Said) → ((vs : List ℕ) → (s ≡ Said.said 10 vs) ↔ (Valid b × Unplayable b vs)) → Valid b
-      → (s .number ≡ 10) ↔ SomeUnderived b
-  underived-exact s r v = (
-    λ e. (let u = r (s .values) .0 (ap (λ n. Said.said n (s .values)) e) .1 in
-        record { step = u .step; within = u .within; none = u .none }),
-    λ d. (let u = underived-unplayable d in ap (λ (x : Said.Said). x .number) (r (u .0) .1 (v, u .1))),
+  unplayable-underived : {why : Narration → ℕ → ℕ → Type 0} {vs : List ℕ} → Unplayable why b vs → SomeUnderived b
+  unplayable-underived u = record { step = u .step; within = u .within; none = u .none }
+
+  -- of whatever says 10 and 13 exactly for a valid and unplayable book
+  pub underived-exact : (s : Said.Said) → ((vs : List ℕ) → (s ≡ Said.said 10 vs) ↔ (Valid b × Unplayable Taken b vs))
+      → ((vs : List ℕ) → (s ≡ Said.said 13 vs) ↔ (Valid b × Unplayable Barred b vs)) → Valid b
+      → ((s .number ≡ 10) ⊎ (s .number ≡ 13)) ↔ SomeUnderived b
+  underived-exact s ten thirteen v = (
+    λ e. ⊎-elim (λ d. unplayable-underived (ten (s .values) .0 (ap (λ n. Said.said n (s .values)) d) .1))
+        (λ d. unplayable-underived (thirteen (s .values) .0 (ap (λ n. Said.said n (s .values)) d) .1)) e,
+    λ d. (let u = underived-unplayable d in
+        ⊎-elim (λ w. inl (ap (λ (x : Said.Said). x .number) (ten (u .0) .1 (v, w))))
+        (λ w. inr (ap (λ (x : Said.Said). x .number) (thirteen (u .0) .1 (v, w)))) (u .1)),
   )
 
-  -- a valid book is refused 10 exactly if some step has a message that has no derivation
-  pub exactly-underived : Valid b → (out : List ℕ) → (translationSays b out .number ≡ 10) ↔ SomeUnderived b
-  exactly-underived v out = underived-exact (translationSays b out) (exactly-10 out) v
+  -- a valid book is refused 10 or 13 exactly if some step has a message that has no derivation
+  pub exactly-underived : Valid b → (out : List ℕ)
+      → ((translationSays b out .number ≡ 10) ⊎ (translationSays b out .number ≡ 13)) ↔ SomeUnderived b
+  exactly-underived v out = underived-exact (translationSays b out) (exactly-10 out) (exactly-13 out) v
 
-  pub accept-underived : Valid b → (acceptance b .number ≡ 10) ↔ SomeUnderived b
-  accept-underived v = underived-exact (acceptance b) accept-10 v
+  pub accept-underived : Valid b → ((acceptance b .number ≡ 10) ⊎ (acceptance b .number ≡ 13)) ↔ SomeUnderived b
+  accept-underived v = underived-exact (acceptance b) accept-10 accept-13 v
 
   -- ---- a playable book
   pub keep-plays : AllKeep ten → Plays b
-  keep-plays k = let r = keep-append (nine b) (taken-line ∷ []) k in record { valid = keep-valid b (r .0); playable = r .1 .0 }
+  keep-plays k = let r = keep-append (nine b) (stop-line ∷ []) k in record { valid = keep-valid b (r .0); playable = r .1 .0 }
 
   pub plays-keep : Plays b → AllKeep ten
-  plays-keep p = append-keep (nine b) (taken-line ∷ []) (valid-keep b (p .valid)) (p .playable, tt)
+  plays-keep p = append-keep (nine b) (stop-line ∷ []) (valid-keep b (p .valid)) (p .playable, tt)
 
   pub accepted-plays : (acceptance b ≡ accepted) ↔ Plays b
   accepted-plays = (
-    λ e. keep-plays (none-given ten accepted (omega arith) (ap (λ (s : Said.Said). s .number) (sym accept-lines ∙ e))),
+    λ e. keep-plays (none-given ten accepted (ten-apart 0 (omega arith) (omega arith) (omega arith))
+        (ap (λ (s : Said.Said). s .number) (sym accept-lines ∙ e))),
     λ p. accept-lines ∙ all-keep ten [] accepted (plays-keep p) ∙ firstOf-none accepted,
   )
 
@@ -264,14 +334,14 @@ module _ (b : List ℕ) where
   pub exactly-12 : (out vs : List ℕ) → (translationSays b out ≡ Said.said 12 vs)
       ↔ (Plays b × (length out < length (listing b)) × (vs ≡ length (listing b) ∷ []))
   exactly-12 out vs =
-      let r = room-exact ten (length out) (length (listing b)) (omega arith) vs in
+      let r = room-exact ten (length out) (length (listing b)) (ten-apart 12 (omega arith) (omega arith) (omega arith)) vs in
       (λ e. (let z = r .0 (sym (says-lines out) ∙ e) in (keep-plays (z .0), z .1, z .2)), λ u. says-lines out ∙ r .1 (plays-keep (u .0), u .1, u .2))
 
   -- ---- acceptance
   pub exactly-written : (out : List ℕ) → (translationSays b out .number ≡ 0) ↔ (Plays b × (length (listing b) ≤ length out))
   exactly-written out =
       let n = ap (λ (s : Said.Said). s .number) (says-lines out) in
-      let r = fits-exact ten (length out) (length (listing b)) (omega arith) in
+      let r = fits-exact ten (length out) (length (listing b)) (ten-apart 0 (omega arith) (omega arith) (omega arith)) in
       (λ e. (let z = r .0 (sym n ∙ e) in (keep-plays (z .0), z .1)), λ u. n ∙ r .1 (plays-keep (u .0), u .1))
 
   pub written-says : (out : List ℕ) → Plays b → length (listing b) ≤ length out → translationSays b out ≡ written

@@ -89,7 +89,7 @@ module _ (b : List ℕ) (p : ℕ) where
     unfolding programOf program before narration
     before-all = ap (λ k. program k (actsOf p 0 (values (stepAt b) 0 (steps b)))) knows
 
-    -- what refusal 10 looks at
+    -- what refusals 10 and 13 look at
     pub before-holds : (i : ℕ) → i ≤ steps b → holdsBefore (narration b) p i ≡ before b p i .dictionary
     unfolding holdsBefore before narration
     before-holds i l = ap₂ (λ k s. walked k (actsOf p 0 s) .dictionary) knows (values-take (stepAt b) 0 (steps b) i l)

@@ -1,25 +1,27 @@
--- Laws of refusal 10: taken as computed and as said; a step is unplayable exactly if some message of it has no derivation from what
--- its sender holds by then and atoms that are nobody's yet; and its place. Assumes nothing.
+-- Laws of refusals 10 and 13: taken as computed and as said; a step is unplayable exactly if some message of it has no derivation from
+-- what its sender holds by then and atoms that are nobody's yet, which it may make; and their place. Assumes nothing.
 use Prim.Native.Nat.{ℕ, zero, suc, _+_, _<_}
-use mathlib.Core.Bool.{Bool, true, false, true≢false}
+use mathlib.Core.Bool.{Bool, true, false, not, _||_, true≢false}
 use mathlib.Core.List.{List, [], _∷_, List·Memᴰ, List·Memᴰ·head, List·Memᴰ·tail, List·Memᴰ·append-cases, List·Memᴰ·cases-cons, List·Memᴰ·not-nil, Memᴰ·append-left, Memᴰ·append-right}
-use mathlib.Core.Logic.{_↔_, ⊎-elim}
+use mathlib.Core.Logic.{_↔_, _⊎_, inl, inr, ⊎-elim}
 use mathlib.Core.Path.{_≡_, refl, sym, ap, _∙_, subst}
 use native.Mathlib.Omega.{arith}
+use lib.Dec.{eqb}
 use lib.ListN.{length, getD, take}
-use Rattle.words.specs.Choice.Laws.{or-cases, or-left, or-right}
+use Rattle.words.specs.Choice.{pick}
+use Rattle.words.specs.Choice.Laws.{pick-true, pick-false, or-cases, or-left, or-right}
 use Rattle.words.specs.Run.Laws.{values-length, values-getD}
 use Rattle.words.specs.First.{first}
 use Rattle.words.specs.First.Laws.{clash, first-holds, first-fails, any-none, none-any, any-first}
 use Rattle.terms.specs.Term.{Term, Terms, listed, occurs, Occurs}
 use Rattle.terms.specs.Term.Laws.{occurs-path, path-occurs}
-use Rattle.book.specs.Layout.{steps}
+use Rattle.book.specs.Layout.{parties, steps, mark, sender}
 use Rattle.translation.specs.Dictionary.{Dictionary, Derives, DerivesAll}
 use Rattle.translation.specs.Build.{build}
 use Rattle.translation.specs.Build.Laws.{AllFree, derives-free, free-derives, derivesAll-free, freeAll-derives}
 use Rattle.translation.specs.Program.{Step}
-use Rattle.translation.specs.Narration.{Narration, stepAt, narration}
-use Rattle.translation.specs.Taken.{joined, allMessages, claimed, occursInOne, taken, Taken, Nobodys, stepOf, holdsBefore, madeAt, takenAt, unplayable, firstTaken, Playable, NoDerivation, FirstTaken}
+use Rattle.translation.specs.Narration.{Narration, stepAt, narration, mayMake}
+use Rattle.translation.specs.Taken.{joined, allMessages, claimed, occursInOne, taken, Taken, Nobodys, stepOf, holdsBefore, madeAt, senderMakes, unmakeable, Makeable, Barred, stopsAt, unplayable, stopRow, stopNumber, Playable, NoDerivation, FirstStop}
 
 -- ---- the steps of a book
 module _ (b : List ℕ) where
@@ -30,6 +32,17 @@ module _ (b : List ℕ) where
   pub step-is : (s : ℕ) → s < steps b → stepOf (narration b) s ≡ stepAt b s
   unfolding stepOf narration
   step-is s l = let z : 0 + s ≡ s = omega arith in values-getD (stepAt b) 0 (steps b) s _ l ∙ ap (stepAt b) z
+
+  -- a party's mark, and a step's sender's
+  pub makes-is : (p : ℕ) → p < parties b → mayMake (narration b) p ≡ eqb (mark b p) 1
+  unfolding mayMake narration
+  makes-is p l =
+      let z : 0 + p ≡ p = omega arith in
+      values-getD (λ q. eqb (mark b q) 1) 0 (parties b) p _ l ∙ ap (λ q. eqb (mark b q) 1) z
+
+  pub sender-makes : (s : ℕ) → s < steps b → sender b s < parties b → senderMakes (narration b) s ≡ eqb (mark b (sender b s)) 1
+  unfolding senderMakes stepAt
+  sender-makes s l h = ap (λ a. mayMake (narration b) (a .sender)) (step-is s l) ∙ makes-is (sender b s) h
 
 -- ---- taken
 one-path : (q : ℕ) (ts : List Term) → occursInOne q ts ≡ true → (t : Term) × List·Memᴰ t ts × Occurs q t
@@ -115,35 +128,119 @@ at-member {r} (x ∷ l) m =
     let rest = at-member l in
     ⊎-elim (λ e. (0, omega arith, sym e)) (λ n. let z = rest n in let k = z .1 in (suc (z .0), omega arith, z .2)) (List·Memᴰ·cases-cons m)
 
+-- ---- what can be made
+module _ (N : Narration) (s q : ℕ) where
+  pub makeable-exact : (unmakeable N s q ≡ false) ↔ Makeable N s q
+  unfolding unmakeable
+  makeable-exact = (λ e. go (taken N s q) (senderMakes N s) refl refl e, λ m. rw (nobodys-exact N s q .1 (m .nobodys), m .maker))
+    where
+      go : (t u : Bool) → taken N s q ≡ t → senderMakes N s ≡ u → (t || not u) ≡ false → Makeable N s q
+      go true u d f e = absurd (true≢false e)
+      go false true d f e = record { nobodys = nobodys-exact N s q .0 d; maker = f }
+      go false false d f e = absurd (true≢false e)
+
+  -- what can't be made is taken, or barred
+  taken-or-barred : unmakeable N s q ≡ true → Taken N s q ⊎ Barred N s q
+  unfolding unmakeable
+  taken-or-barred e = go (taken N s q) (senderMakes N s) refl refl e
+    where
+      go : (t u : Bool) → taken N s q ≡ t → senderMakes N s ≡ u → (t || not u) ≡ true → Taken N s q ⊎ Barred N s q
+      go true u d f e = inl (to-taken N s q d)
+      go false true d f e = absurd (true≢false (sym e))
+      go false false d f e = inr (record { nobodys = nobodys-exact N s q .0 d; no-maker = f })
+
 -- ---- unplayable
 module _ (N : Narration) (s : ℕ) where
-  none-free : unplayable N s ≡ false → AllFree (Nobodys N s) (madeAt N s)
-  unfolding unplayable takenAt
+  none-free : unplayable N s ≡ false → AllFree (Makeable N s) (madeAt N s)
+  unfolding unplayable stopsAt
   none-free e r m =
       let z = at-member (madeAt N s) m in
-      nobodys-exact N s r .0 (ap (taken N s) (sym (z .2)) ∙ none-any (takenAt N s) (length (madeAt N s)) e (z .0) (z .1))
+      makeable-exact N s r .0 (ap (unmakeable N s) (sym (z .2)) ∙ none-any (stopsAt N s) (length (madeAt N s)) e (z .0) (z .1))
 
-  free-none : AllFree (Nobodys N s) (madeAt N s) → unplayable N s ≡ false
-  unfolding unplayable takenAt
-  free-none f = any-none (takenAt N s) (length (madeAt N s)) (λ j h. nobodys-exact N s _ .1 (f _ (member-at (madeAt N s) j h)))
+  free-none : AllFree (Makeable N s) (madeAt N s) → unplayable N s ≡ false
+  unfolding unplayable stopsAt
+  free-none f = any-none (stopsAt N s) (length (madeAt N s)) (λ j h. makeable-exact N s _ .1 (f _ (member-at (madeAt N s) j h)))
 
   -- a step is playable exactly if each of its messages has a derivation from what its sender holds by then and atoms that are
-  -- nobody's yet
+  -- nobody's yet, which it may make
   pub playable-exact : (unplayable N s ≡ false) ↔ Playable N s
   unfolding madeAt
-  playable-exact = (λ e. freeAll-derives (Nobodys N s) _ _ (none-free e), λ d. free-none (derivesAll-free (Nobodys N s) _ _ d))
+  playable-exact = (λ e. freeAll-derives (Makeable N s) _ _ (none-free e), λ d. free-none (derivesAll-free (Makeable N s) _ _ d))
 
-  pub first-taken : unplayable N s ≡ true → FirstTaken N s
-  unfolding unplayable firstTaken takenAt
-  first-taken e =
-      let l = any-first (takenAt N s) (length (madeAt N s)) e in
+  -- "a sender marked 0 builds from what it holds"
+  pub held-playable : senderMakes N s ≡ false
+      → Playable N s ↔ DerivesAll (λ q. ⊥) (holdsBefore N (stepOf N s .sender) s) (stepOf N s .messages)
+  held-playable e = (
+    λ d. freeAll-derives (λ q. ⊥) _ _
+        (λ r m. true≢false (sym (derivesAll-free (Makeable N s) (stepOf N s .messages) (holdsBefore N (stepOf N s .sender) s) d r m .maker) ∙ e)),
+    λ d. freeAll-derives (Makeable N s) _ _
+        (λ r m. absurd (derivesAll-free (λ q. ⊥) (stepOf N s .messages) (holdsBefore N (stepOf N s .sender) s) d r m)),
+  )
+
+  -- and one marked 1 from that and atoms that are nobody's yet
+  pub maker-playable : senderMakes N s ≡ true
+      → Playable N s ↔ DerivesAll (Nobodys N s) (holdsBefore N (stepOf N s .sender) s) (stepOf N s .messages)
+  maker-playable e = (
+    λ d. freeAll-derives (Nobodys N s) _ _
+        (λ r m. derivesAll-free (Makeable N s) (stepOf N s .messages) (holdsBefore N (stepOf N s .sender) s) d r m .nobodys),
+    λ d. freeAll-derives (Makeable N s) _ _
+        (λ r m. record {
+          nobodys = derivesAll-free (Nobodys N s) (stepOf N s .messages) (holdsBefore N (stepOf N s .sender) s) d r m;
+          maker = e;
+        }),
+  )
+
+  -- ---- where it stops
+  pub stop-cases : (stopNumber N s ≡ 10) ⊎ (stopNumber N s ≡ 13)
+  unfolding stopNumber
+  stop-cases = go (taken N s (stopRow N s)) refl
+    where
+      go : (t : Bool) → taken N s (stopRow N s) ≡ t → (stopNumber N s ≡ 10) ⊎ (stopNumber N s ≡ 13)
+      go true e = inl (pick-true _ _ _ e)
+      go false e = inr (pick-false _ _ _ e)
+
+  stop-taken : Taken N s (stopRow N s) → stopNumber N s ≡ 10
+  unfolding stopNumber
+  stop-taken t = pick-true _ _ _ (of-taken N s (stopRow N s) t)
+
+  stop-barred : Nobodys N s (stopRow N s) → stopNumber N s ≡ 13
+  unfolding stopNumber
+  stop-barred n = pick-false _ _ _ (nobodys-exact N s (stopRow N s) .1 n)
+
+  -- the first atom that can't be made, with the reason that is against it
+  first-stop : {why : ℕ → Type 0} → unplayable N s ≡ true → why (stopRow N s) → FirstStop N s why
+  unfolding unplayable stopRow stopsAt
+  first-stop e y =
       record {
-        place = first (takenAt N s) (length (madeAt N s));
-        within = l;
+        place = first (stopsAt N s) (length (madeAt N s));
+        within = any-first (stopsAt N s) (length (madeAt N s)) e;
         row = refl;
-        isTaken = taken-exact N s _ .0 (first-holds (takenAt N s) (length (madeAt N s)) l);
-        first-such = λ k h. nobodys-exact N s _ .0 (first-fails (takenAt N s) (length (madeAt N s)) k h);
+        reason = y;
+        first-such = λ k h. makeable-exact N s _ .0 (first-fails (stopsAt N s) (length (madeAt N s)) k h);
       }
+
+  -- whatever the reason
+  pub stop-there : unplayable N s ≡ true → FirstStop N s (λ q. Unit {0})
+  stop-there e = first-stop e tt
+
+  stop-against : unplayable N s ≡ true → Taken N s (stopRow N s) ⊎ Barred N s (stopRow N s)
+  unfolding unplayable stopRow stopsAt
+  stop-against e =
+      taken-or-barred N s _ (first-holds (stopsAt N s) (length (madeAt N s)) (any-first (stopsAt N s) (length (madeAt N s)) e))
+
+  -- of a step that is unplayable: 10 exactly if the first atom that can't be made is taken, 13 exactly if it is nobody's and the sender makes
+  -- nothing
+  pub ten-exact : unplayable N s ≡ true → (stopNumber N s ≡ 10) ↔ FirstStop N s (Taken N s)
+  ten-exact e = (
+    λ z. ⊎-elim (λ t. first-stop e t) (λ (w : Barred N s (stopRow N s)). let y = stop-barred (w .nobodys) in absurd (omega arith)) (stop-against e),
+    λ f. stop-taken (subst (Taken N s) (sym (f .row)) (f .reason)),
+  )
+
+  pub thirteen-exact : unplayable N s ≡ true → (stopNumber N s ≡ 13) ↔ FirstStop N s (Barred N s)
+  thirteen-exact e = (
+    λ z. ⊎-elim (λ t. let y = stop-taken t in absurd (omega arith)) (λ w. first-stop e w) (stop-against e),
+    λ f. stop-barred (subst (Nobodys N s) (sym (f .row)) (f .reason .nobodys)),
+  )
 
 -- ---- some message has no derivation
 -- a derivation can be looked for: the atoms made are few, and each is free or not
@@ -184,14 +281,14 @@ message-not {free} {δ} (Terms.cons u ts) m (DerivesAll.cons d e) =
 
 pub unplayable-exact : (N : Narration) (s : ℕ) → (Playable N s → ⊥) ↔ NoDerivation N s
 unplayable-exact N s = (
-  λ n. let z = some-message (Nobodys N s) decide (holdsBefore N (stepOf N s .sender) s) (stepOf N s .messages) n in
+  λ n. let z = some-message (Makeable N s) decide (holdsBefore N (stepOf N s .sender) s) (stepOf N s .messages) n in
       record { message = z .0; among = z .1; none = z .2 },
   λ d p. d .none (message-not (stepOf N s .messages) (d .among) p),
 )
   where
-    decide : (r : ℕ) → Dec (Nobodys N s r)
-    decide r = go (taken N s r) refl
+    decide : (r : ℕ) → Dec (Makeable N s r)
+    decide r = go (unmakeable N s r) refl
       where
-        go : (v : Bool) → taken N s r ≡ v → Dec (Nobodys N s r)
-        go true e = no (λ n. n (taken-exact N s r .0 e))
-        go false e = yes (nobodys-exact N s r .0 e)
+        go : (v : Bool) → unmakeable N s r ≡ v → Dec (Makeable N s r)
+        go true e = no (λ m. clash e (makeable-exact N s r .1 m))
+        go false e = yes (makeable-exact N s r .0 e)

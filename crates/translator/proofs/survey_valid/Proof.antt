@@ -1,5 +1,5 @@
--- `translator::survey_valid` meets its contract: what `write_heads` laid into the lists is read from them, and where the
--- walks stop decides refusal 10. Assumes nothing.
+-- `translator::survey_valid` meets its contract: what `write_heads` laid into the lists is read from them, and where
+-- the walks stop decides refusals 10 and 13. Assumes nothing.
 use mathlib.Core.Path.{_≡_, refl, sym, ap, _∙_}
 use borrow.Author.Needs.{needs}
 use Rattle.book.specs.Said.{Said}
@@ -10,7 +10,7 @@ use Rattle.translator.proofs.Listing.{heads-found}
 use Rattle.translator.proofs.survey_valid.Statement.{statement}
 use Rattle.translator.proofs.survey_valid.Tie as tie
 
--- where no walk stops nobody would make a taken atom, and the heads, the length and the places are the book's
+-- where no walk stops no step is refused, and the heads, the length and the places are the book's
 returns : tie.Need-returns
 returns c =
     let after-reading-of : tie.After-reading-of = search in

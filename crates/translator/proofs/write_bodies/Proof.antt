@@ -16,7 +16,7 @@ Inv-loop book since partners out₀ at n next₀ party₀ out next party = Laid 
 abbrev μ-loop : tie.MeasureT-loop
 μ-loop book since partners out₀ at n next₀ party₀ out next party = n - party
 
--- nobody would make a taken atom, so neither would this party
+-- no step is refused for anybody, so none for this party
 write-program-requires : tie.Need-write-program-requires Inv-loop μ-loop
 write-program-requires c κs =
     let in-loop : tie.In-loop Inv-loop μ-loop = search in

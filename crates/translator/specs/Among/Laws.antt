@@ -1,4 +1,4 @@
--- Laws of where the first of the parties' walks stops: over all parties it is the place of refusal 10. Assumes nothing.
+-- Laws of where the first of the parties' walks stops: over all parties it is the place of refusals 10 and 13. Assumes nothing.
 use Prim.Native.Nat.{ℕ, _+_, _≤_, _<_}
 use mathlib.Core.Bool.{Bool, true, false}
 use mathlib.Core.List.{List}
@@ -17,7 +17,9 @@ use Rattle.book.specs.declared.Stop.{Stop}
 use Rattle.translation.specs.Narration.{narration}
 use Rattle.translation.specs.Taken.{unplayable}
 use Rattle.walking.specs.Walk.{refusedFor, Unrefused}
+use Rattle.translation.specs.Taken.Laws.{stop-cases}
 use Rattle.walking.specs.Stops.{StopsBefore}
+use Rattle.walking.specs.Stops.Laws.{stops-some}
 use Rattle.translator.specs.Among.{NobodyRefused, StopsAmong, FirstUnplayable, Refusable}
 
 -- ---- one party more
@@ -32,12 +34,12 @@ module _ {b : List ℕ} where
   -- where no walk stops, nothing is refused
   pub among-nobody : {q : ℕ} {x : Stop} → StopsAmong b q x → x .number ≡ 0 → NobodyRefused b q
   among-nobody (StopsAmong.none n) z = n
-  among-nobody (StopsAmong.one l m r n) z = absurd (omega arith)
+  among-nobody (StopsAmong.one {s = s} l m r n) z = absurd (stops-some b s z)
 
   -- and the number of steps is named
   pub among-all : {q : ℕ} {x : Stop} → StopsAmong b q x → x .number ≡ 0 → x .step ≡ steps b
   among-all (StopsAmong.none n) z = refl
-  among-all (StopsAmong.one l m r n) z = absurd (omega arith)
+  among-all (StopsAmong.one {s = s} l m r n) z = absurd (stops-some b s z)
 
   -- the step is one of the book's, or their number
   pub among-within : {q : ℕ} {x : Stop} → StopsAmong b q x → x .step ≤ steps b
@@ -47,7 +49,7 @@ module _ {b : List ℕ} where
   -- it is acceptance or a refusal
   pub among-refusable : {q : ℕ} {x : Stop} → StopsAmong b q x → Refusable x
   among-refusable (StopsAmong.none n) = inl refl
-  among-refusable (StopsAmong.one l m r n) = inr refl
+  among-refusable (StopsAmong.one {s = s} l m r n) = inr (stop-cases (narration b) s)
 
   -- in any case nothing is refused before
   before-it : {q : ℕ} {x : Stop} → StopsAmong b q x → (p : ℕ) → p < q → Unrefused b p (x .step)
@@ -62,7 +64,7 @@ module _ {b : List ℕ} where
   -- party q was asked of the steps before it, and does not stop
   pub among-stays : {q : ℕ} {x y : Stop} → StopsAmong b q x → StopsBefore b q (x .step) y → y .number ≡ 0 → StopsAmong b (q + 1) x
   among-stays f (StopsBefore.none n) z = stays f n
-  among-stays f (StopsBefore.one l r n) z = absurd (omega arith)
+  among-stays f (StopsBefore.one {s = s} l r n) z = absurd (stops-some b s z)
 
   -- and party q's takes its place, for it comes sooner
   pub among-sooner : {q : ℕ} {x y : Stop} → StopsAmong b q x → StopsBefore b q (x .step) y → (y .number ≡ 0 → ⊥) → StopsAmong b (q + 1) y
@@ -96,5 +98,6 @@ module _ {b : List ℕ} (w : Valid b) where
   nobody-playable n = playable-all (steps b) (omega arith) n
 
   -- the first step at which one does
-  pub refused-first : {s : ℕ} (p : ℕ) → s < steps b → refusedFor b p s ≡ true → ((r : ℕ) → r < parties b → Unrefused b r s) → FirstUnplayable b s
+  pub refused-first : {s : ℕ} (p : ℕ) → s < steps b → refusedFor b p s ≡ true → ((r : ℕ) → r < parties b → Unrefused b r s)
+      → FirstUnplayable b s
   refused-first {s} p m r n = record { within = m; here = refused-unplayable p s r; before = playable-all s (omega arith) n }

@@ -6,11 +6,20 @@ use borrow.Author.Needs.{needs}
 use Rattle.book.specs.Headed.Laws.{valid-headed}
 use Rattle.translation.specs.Long.{stepSize}
 use Rattle.receiving.specs.Receiving.{standing}
-use Rattle.walking.proofs.Acting.{send-ready, few-made, step-ready, Took, took, acts-send, acts-receive, acts-idle}
+use Rattle.walking.proofs.Acting.{sender-party, send-ready, few-made, step-ready, Took, took, acts-send, acts-receive, acts-idle}
 use Rattle.walking.proofs.act.Statement.{statement}
 use Rattle.walking.proofs.act.Tie as tie
 
--- the party sends the step, and a step makes few atoms
+-- the party sends the step, so that it is one of the book's
+party-mark-requires : tie.Need-party-mark-requires
+party-mark-requires c κs =
+    let after-step-sender : tie.After-step-sender = search in
+    let start : tie.Start = search in (
+      valid-headed _ (start .pre .valid),
+      sender-party (start .pre) (after-step-sender .step-sender .ensures) (c .if1 .taken),
+    )
+
+-- a step makes few atoms
 send-requires : tie.Need-send-requires
 send-requires c κs =
     let after-step-count : tie.After-step-count = search in
@@ -29,13 +38,15 @@ few c =
 returns : tie.Need-returns
 returns c =
     let after-send : tie.After-send = search in
+    let after-party-mark : tie.After-party-mark = search in
     let then1 : tie.Then1 = search in
     let after-step-sender : tie.After-step-sender = search in
     let after-step-count : tie.After-step-count = search in
     let after-step-first : tie.After-step-first = search in
     let start : tie.Start = search in
     acts-send (start .pre) (after-step-first .step-first .ensures .0) (after-step-count .step-count .ensures .0)
-    (after-step-sender .step-sender .ensures) (then1 .if1 .taken) (after-send .send .ensures)
+    (after-step-sender .step-sender .ensures) (then1 .if1 .taken) (after-party-mark .party-mark .ensures)
+    (after-send .send .ensures)
 
 -- the party receives the step: its messages hand out what the step does, and that fits
 receive-messages-requires : tie.Need-receive-messages-requires
@@ -101,6 +112,7 @@ act-spec =
     (λ c κs. search (valid-headed, needs))  -- step-first-requires
     (λ c κs. search (valid-headed, needs))  -- step-count-requires
     (λ c κs. search (valid-headed, needs))  -- step-sender-requires
+    party-mark-requires
     send-requires
     (λ c. omega (arith, few (search)))  -- add-t23
     (λ c. search needs)  -- same-length

@@ -2,9 +2,10 @@
 use Prim.Native.Nat.{ℕ, _+_, _<_}
 use native.Mathlib.Decide.{decLt}
 use native.Mathlib.Omega.{arith}
-use mathlib.Core.Bool.{Bool, true, false}
+use mathlib.Core.Bool.{Bool, true, false, not, _||_, true≢false}
 use mathlib.Core.List.{List}
-use mathlib.Core.Path.{_≡_, refl, sym, ap, _∙_}
+use mathlib.Core.Logic.{⊎-elim}
+use mathlib.Core.Path.{_≡_, refl, sym, ap, ap₂, _∙_}
 use lib.Dec.{eqb}
 use borrow.Author.Tests.{eqb-true}
 use borrow.Author.Count.{below-more}
@@ -13,17 +14,17 @@ use Rattle.words.specs.Choice.{pick}
 use Rattle.words.specs.Choice.Laws.{pick-true, pick-false}
 use Rattle.words.specs.First.Laws.{clash, first-holds, any-first}
 use Rattle.terms.specs.Table.{terms}
-use Rattle.book.specs.Layout.{table, parties, steps, sender, messages}
+use Rattle.book.specs.Layout.{table, parties, steps, mark, sender, messages}
 use Rattle.book.specs.Stop.{stop, nowhere}
 use Rattle.book.specs.declared.Stop.{Stop}
 use Rattle.translation.specs.Dictionary.{Dictionary}
 use Rattle.translation.specs.Build.{buildAll}
 use Rattle.translation.specs.Narration.{stepAt, narration}
-use Rattle.translation.specs.Taken.{taken, holdsBefore, madeAt, takenAt, unplayable, firstTaken}
+use Rattle.translation.specs.Taken.{taken, holdsBefore, madeAt, senderMakes, unmakeable, stopsAt, unplayable, stopRow, stopNumber}
 use Rattle.sending.specs.Sending.{againstIn, firstIn}
 use Rattle.sending.specs.Sending.Laws.{some-stops, none-stops}
 use Rattle.claims.specs.Claims.{Claims}
-use Rattle.translation.specs.Taken.Laws.{step-is}
+use Rattle.translation.specs.Taken.Laws.{step-is, sender-makes, nobodys-exact, makeable-exact, stop-cases}
 use Rattle.translation.specs.Steps.{before}
 use Rattle.walking.specs.Walk.{refusedFor, Unrefused, IdleUntil}
 use Rattle.translation.specs.Steps.Laws.{before-holds}
@@ -39,28 +40,42 @@ module _ (b : List ℕ) (s : ℕ) (h : s < steps b) where
       ∙ ap (λ q. buildAll (terms (table b) (messages b s)) (holdsBefore (narration b) q s) .made) e
       ∙ ap (λ δ. buildAll (terms (table b) (messages b s)) δ .made) (before-holds b p l s (omega arith))
 
-  -- where code stops is where refusal 10 says
-  stops-first : (w : ℕ → ℕ) → ((r : ℕ) → w r ≡ pick (taken (narration b) s r) 10 0)
-      → firstIn w s (nowhere s) (madeAt (narration b) s) ≡ pick (unplayable (narration b) s) (stopOf b s) (nowhere s)
-  unfolding unplayable takenAt firstTaken pick
-  stops-first w d = go (unplayable (narration b) s) refl
-    where
-      free : (r : ℕ) → taken (narration b) s r ≡ false → w r ≡ 0
-      free r e = d r ∙ pick-false _ _ _ e
+  -- where code stops is where refusals 10 and 13 say
+  module _ (w : ℕ → ℕ) (d : (r : ℕ) → w r ≡ pick (taken (narration b) s r) 10 (pick (senderMakes (narration b) s) 0 13)) where
+    free : (r : ℕ) → unmakeable (narration b) s r ≡ false → w r ≡ 0
+    free r e =
+        let m = makeable-exact (narration b) s r .0 e in
+        d r ∙ pick-false _ _ _ (nobodys-exact (narration b) s r .1 (m .nobodys)) ∙ pick-true _ _ _ (m .maker)
 
-      ten : (r : ℕ) → taken (narration b) s r ≡ true → w r ≡ 10
-      ten r e = d r ∙ pick-true _ _ _ e
+    numbered : (r : ℕ) → unmakeable (narration b) s r ≡ true → w r ≡ pick (taken (narration b) s r) 10 13
+    unfolding unmakeable pick
+    numbered r e = d r ∙ go (taken (narration b) s r) (senderMakes (narration b) s) e
+      where
+        go : (t m : Bool) → (t || not m) ≡ true → _≡_ {A = ℕ} (pick t 10 (pick m 0 13)) (pick t 10 13)
+        go true m h = refl
+        go false true h = absurd (true≢false (sym h))
+        go false false h = refl
 
-      bars : (r : ℕ) → taken (narration b) s r ≡ true → w r ≡ 0 → ⊥
-      bars r e z = let t = ten r e in absurd (omega arith)
+    bars : (r : ℕ) → unmakeable (narration b) s r ≡ true → w r ≡ 0 → ⊥
+    unfolding pick
+    bars r e z = go (taken (narration b) s r) (sym z ∙ numbered r e)
+      where
+        go : (t : Bool) → _≡_ {A = ℕ} 0 (pick t 10 13) → ⊥
+        go true h = omega arith
+        go false h = omega arith
 
-      go : (x : Bool) → unplayable (narration b) s ≡ x → firstIn w s (nowhere s) (madeAt (narration b) s) ≡ pick x (stopOf b s) (nowhere s)
-      go true e =
-          let made = madeAt (narration b) s in
-          let t = takenAt (narration b) s in
-          some-stops w s (taken (narration b) s) free bars made e
-          ∙ ap (λ n. stop n s (firstTaken (narration b) s)) (ten (firstTaken (narration b) s) (first-holds t (length made) (any-first t (length made) e)))
-      go false e = none-stops w s (taken (narration b) s) free bars (madeAt (narration b) s) e
+    stops-first : firstIn w s (nowhere s) (madeAt (narration b) s) ≡ pick (unplayable (narration b) s) (stopOf b s) (nowhere s)
+    unfolding unplayable stopsAt stopRow stopNumber pick
+    stops-first = go (unplayable (narration b) s) refl
+      where
+        go : (x : Bool) → unplayable (narration b) s ≡ x → firstIn w s (nowhere s) (madeAt (narration b) s) ≡ pick x (stopOf b s) (nowhere s)
+        go true e =
+            let made = madeAt (narration b) s in
+            let t = stopsAt (narration b) s in
+            let row = stopRow (narration b) s in
+            some-stops w s (unmakeable (narration b) s) free bars made e
+            ∙ ap (λ n. stop n s row) (numbered row (first-holds t (length made) (any-first t (length made) e)))
+        go false e = none-stops w s (unmakeable (narration b) s) free bars (madeAt (narration b) s) e
 
   pub stops-exact : (l : List ℕ) (p : ℕ) (δ : Dictionary) → Claims b l → p < parties b → δ ≡ before b p s .dictionary
       → stopsIn b l p s δ ≡ pick (refusedFor b p s) (stopOf b s) (nowhere s)
@@ -68,13 +83,20 @@ module _ (b : List ℕ) (s : ℕ) (h : s < steps b) where
   stops-exact l p δ c j d = go (eqb (sender b s) p) refl
     where
       go : (x : Bool) → eqb (sender b s) p ≡ x
-          → pick x (firstIn (againstIn l s) s (nowhere s) (buildAll (terms (table b) (messages b s)) δ .made)) (nowhere s)
+          → pick x (firstIn (againstIn l (mark b p) s) s (nowhere s) (buildAll (terms (table b) (messages b s)) δ .made)) (nowhere s)
           ≡ pick (pick x (unplayable (narration b) s) false) (stopOf b s) (nowhere s)
       go true e =
-          ap (firstIn (againstIn l s) s (nowhere s))
-          (ap (λ ε. buildAll (terms (table b) (messages b s)) ε .made) d ∙ sym (made-here p j (eqb-true (sender b s) p e)))
-          ∙ stops-first (againstIn l s) (λ q. ap (λ t. pick t 10 0) (c s q))
+          let same = eqb-true (sender b s) p e in
+          let maker : eqb (mark b p) 1 ≡ senderMakes (narration b) s =
+          ap (λ q. eqb (mark b q) 1) (sym same) ∙ sym (sender-makes b s h (omega arith)) in
+          ap (firstIn (againstIn l (mark b p) s) s (nowhere s))
+          (ap (λ ε. buildAll (terms (table b) (messages b s)) ε .made) d ∙ sym (made-here p j same))
+          ∙ stops-first (againstIn l (mark b p) s) (λ q. ap₂ (λ t m. pick t 10 (pick m 0 13)) (c s q) maker)
       go false e = refl
+
+-- a stop has a number
+pub stops-some : (b : List ℕ) (s : ℕ) → stopOf b s .number ≡ 0 → ⊥
+stops-some b s z = ⊎-elim (λ e. absurd (omega arith)) (λ e. absurd (omega arith)) (stop-cases (narration b) s)
 
 -- ---- one step more
 module _ (b : List ℕ) (p i : ℕ) (x : Stop) (e : x ≡ pick (refusedFor b p i) (stopOf b i) (nowhere i)) where
@@ -93,7 +115,7 @@ module _ (b : List ℕ) (p i : ℕ) (x : Stop) (e : x ≡ pick (refusedFor b p i
   unrefused-on u z = below-more (λ k. refusedFor b p k ≡ false) i u (go (refusedFor b p i) refl e)
     where
       go : (y : Bool) → refusedFor b p i ≡ y → x ≡ pick y (stopOf b i) (nowhere i) → refusedFor b p i ≡ false
-      go true r d = let n = ap (λ (k : Stop). k .number) d in absurd (omega arith)
+      go true r d = absurd (stops-some b i (sym (ap (λ (k : Stop). k .number) d) ∙ z))
       go false r d = r
 
 -- ---- steps in which the party has no part

@@ -8,29 +8,30 @@ use Rattle.book.specs.Layout.{rows, kind, rowFirst, rowCount, listAt}
 use Rattle.book.specs.Valid.{Valid}
 use Rattle.book.specs.Span.{entry, Span}
 use Rattle.book.specs.Span.Laws.{span-row, span-tail}
+use Rattle.translation.specs.Dictionary.{isHeld}
+use Rattle.holding.specs.Entry.{heldOf}
+use Rattle.holding.specs.Entry.Laws.{held-at}
 use Rattle.holding.specs.AtRow.{canAt, allTrue}
 use Rattle.holding.specs.AtRow.Laws.{can-held, can-atom, can-parts, all-on, all-off, all-done}
 
--- ---- the row's entry, which the code reads at w
-pub is-held : (b e : List ℕ) (r w : ℕ) → Valid b → r < rows b → w ≡ r → (getD e w 0 ≡ 0 → ⊥) → true ≡ canAt b e r
-is-held b e r w v h d n = sym (can-held b e v r h (λ z. n (ap (λ i. getD e i 0) d ∙ z)))
+-- ---- the row's entry, which the code reads at w, and of which x tells whether it is held
+pub is-held : (b e : List ℕ) (r w : ℕ) {x : Bool} → Valid b → r < rows b → w ≡ r → x ≡ isHeld (heldOf (getD e w 0)) → x ≡ true
+    → true ≡ canAt b e r
+is-held b e r w v h d t n = sym (can-held b e v r h (held-at e r w d t n))
 
-is-free : (e : List ℕ) (r w : ℕ) → w ≡ r → getD e w 0 ≡ 0 → getD e r 0 ≡ 0
-is-free e r w d z = ap (λ i. getD e i 0) (sym d) ∙ z
-
-pub lone-atom : (b e : List ℕ) (r w k : ℕ) → Valid b → r < rows b → w ≡ r → getD e w 0 ≡ 0 → k ≡ kind b r → k ≡ 0
-    → false ≡ canAt b e r
-lone-atom b e r w k v h d z c q = sym (can-atom b e v r h (is-free e r w d z) (sym c ∙ q))
+pub lone-atom : (b e : List ℕ) (r w k : ℕ) {x : Bool} → Valid b → r < rows b → w ≡ r → x ≡ isHeld (heldOf (getD e w 0)) → x ≡ false
+    → k ≡ kind b r → k ≡ 0 → false ≡ canAt b e r
+lone-atom b e r w k v h d t n c q = sym (can-atom b e v r h (held-at e r w d t n) (sym c ∙ q))
 
 -- ---- the loop over the parts: n of them are left, from f on
 pub record Going (b e : List ℕ) (r f n : ℕ) : Type 0 where
   pub span : Span b r f n
   pub rest : canAt b e r ≡ allTrue (map (canAt b e) (listAt b f n))
 
-pub going-start : {b e : List ℕ} {r w k f n : ℕ} → Valid b → r < rows b → w ≡ r → getD e w 0 ≡ 0 → k ≡ kind b r → (k ≡ 0 → ⊥)
-    → f ≡ rowFirst b r → n ≡ rowCount b r → Going b e r f n
-going-start {b} {e} {r} {w} {k} {f} {n} v h d z c nz p q =
-    record { span = span-row b v f n r h p q; rest = can-parts b e v r h (is-free e r w d z) (λ o. nz (c ∙ o)) ∙ rw (p, q) }
+pub going-start : {b e : List ℕ} {r w k f n : ℕ} {x : Bool} → Valid b → r < rows b → w ≡ r → x ≡ isHeld (heldOf (getD e w 0)) → x ≡ false
+    → k ≡ kind b r → (k ≡ 0 → ⊥) → f ≡ rowFirst b r → n ≡ rowCount b r → Going b e r f n
+going-start {b} {e} {r} {w} {k} {f} {n} v h d t z c nz p q =
+    record { span = span-row b v f n r h p q; rest = can-parts b e v r h (held-at e r w d t z) (λ o. nz (c ∙ o)) ∙ rw (p, q) }
 
 -- the next part is buildable: the rest decides
 pub going-on : {b e : List ℕ} {r f n x : ℕ} {y : Bool} → Going b e r f n → 0 < n → x ≡ entry b f → y ≡ canAt b e x → y ≡ true

@@ -2,13 +2,12 @@
 use Prim.Native.Nat.{ℕ, _-_}
 use mathlib.Core.Bool.{Bool, true, false}
 use mathlib.Core.List.{List, [], _∷_, _++_, map}
-use lib.Dec.{eqb}
 use Rattle.words.specs.Choice.{pick}
 use Rattle.terms.specs.Kind.{Form, ofKind}
 use Rattle.terms.specs.Image.{words}
 use Rattle.terms.specs.Table.{term}
 use Rattle.book.specs.Layout.{table, kind, tag, rowCount, listAt}
-use Rattle.translation.specs.Dictionary.{buildable, image}
+use Rattle.translation.specs.Dictionary.{Held, free, itself, placeholder, buildable, image}
 use Rattle.holding.specs.View.{rowOf, view}
 pub mod Laws
 
@@ -47,6 +46,8 @@ headOf r k g n = ofKind k .code ∷ told (ofKind k .form) r g n
 abbrev pub headWords : List ℕ → ℕ → List ℕ
 headWords b r = headOf r (kind b r) (tag b r) (rowCount b r)
 
--- the words of an entry that is not 0
-unfoldable pub entryWords : ℕ → ℕ → List ℕ
-entryWords r x = pick (eqb x 1) (0 ∷ r ∷ []) (1 ∷ (x - 2) ∷ [])
+-- the words of the image of row r, by how it is held; what is not held is no entry
+unfoldable pub entryWords : ℕ → Held → List ℕ
+entryWords r free = []
+entryWords r itself = 0 ∷ r ∷ []
+entryWords r (placeholder x) = 1 ∷ x ∷ []

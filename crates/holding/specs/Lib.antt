@@ -1,3 +1,4 @@
+pub mod Entry
 pub mod View
 pub mod AtRow
 pub mod Partners

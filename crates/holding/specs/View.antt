@@ -1,6 +1,5 @@
--- A dictionary as code has it: an entry for each row, 0 where the row is not held, 1 where it is held as itself, x + 2 where it is
--- the placeholder x. Read as a map on terms, it is the dictionary of document 01.
-use Prim.Native.Nat.{ℕ, zero, suc}
+-- A dictionary as code has it: an entry for each row. Read as a map on terms, it is the dictionary of document 01.
+use Prim.Native.Nat.{ℕ}
 use mathlib.Core.List.{List}
 use lib.ListN.{getD}
 use lib.Dec.{ltb}
@@ -8,13 +7,9 @@ use Rattle.words.specs.Choice.{pick}
 use Rattle.terms.specs.Term.{Term}
 use Rattle.terms.specs.Table.{number}
 use Rattle.book.specs.Layout.{table, rows}
-use Rattle.translation.specs.Dictionary.{Held, free, itself, placeholder, Dictionary}
+use Rattle.translation.specs.Dictionary.{free, Dictionary}
+use Rattle.holding.specs.Entry.{heldOf}
 pub mod Laws
-
-unfoldable pub heldOf : ℕ → Held
-heldOf zero = free
-heldOf (suc zero) = itself
-heldOf (suc (suc x)) = placeholder x
 
 -- the row of a term in a book, or the number of rows where it is no row's
 abbrev pub rowOf : List ℕ → Term → ℕ

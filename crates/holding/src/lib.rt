@@ -1,5 +1,5 @@
-// What a party holds, an entry for each row: 0 nothing, 1 the row itself, x + 2 placeholder x. `start` answers what is known at
-// the start, `buildable` and `can_open` whether a row, and a key's partner, can be built; the `write_..` functions write images.
+// What a party holds, an entry for each row: how an entry is coded is the business of `Entry` and `put_entry`. `start` answers what is known
+// at the start, `buildable` and `can_open` whether a row, and a key's partner, can be built; the `write_..` functions write images.
 // All of it is the meaning's own (translation/specs/Dictionary.antt), for a valid book. Where the partners' rows are is looked up in a
 // table, which `partners` makes once for the book.
 use book::ByRow;
@@ -22,6 +22,7 @@ use words::put;
 use words::put2;
 use words::put3;
 use words::wide;
+ghost use mathlib.Core.Bool.{true};
 ghost use mathlib.Core.Path.{_≡_};
 ghost use mathlib.Core.List.{map};
 ghost use Prim.Native.Nat.{_+_, _-_, _≤_, _<_};
@@ -31,11 +32,46 @@ ghost use Rattle.terms.specs.Image.{words};
 ghost use Rattle.terms.specs.Table.{term};
 ghost use Rattle.book.specs.Layout.{rows as rowsOf, parties as partiesOf, kind, known, table};
 ghost use Rattle.book.specs.Valid.{Valid};
-ghost use Rattle.translation.specs.Dictionary.{start as startOf, buildable as buildableFrom, image};
+ghost use Rattle.translation.specs.Dictionary.{Held, isHeld, start as startOf, buildable as buildableFrom, image};
+ghost use Rattle.holding.specs.Entry.{heldOf, limit};
 ghost use Rattle.holding.specs.View.{rowOf, view};
 ghost use Rattle.book.specs.Span.{Span};
 ghost use Rattle.holding.specs.AtRow.{imageAt, imagesAt, headWords, entryWords};
 ghost use Rattle.holding.specs.Partners.{PartnersBefore, Partners};
+
+// An entry: 0 where the row is not held, 1 where it is held as itself, x + 2 where it is placeholder x.
+pub struct Entry {}
+
+impl Entry {
+    // The row is held.
+    pub fn held(entry: u32) -> bool
+        ensures { λ r. ⌜ r ≡ isHeld (heldOf entry) ⌝ }
+    {
+        entry != 0
+    }
+
+    // Not held.
+    pub fn free() -> u32
+        ensures { λ r. ⌜ heldOf r ≡ Held.free ⌝ }
+    {
+        0
+    }
+
+    // Held as itself.
+    pub fn itself() -> u32
+        ensures { λ r. ⌜ heldOf r ≡ Held.itself ⌝ }
+    {
+        1
+    }
+
+    // Held as the placeholder.
+    pub fn placeholder(place: u32) -> u32
+        requires { ⌜ place < limit ⌝ }
+        ensures { λ r. ⌜ heldOf r ≡ Held.placeholder place ⌝ }
+    {
+        place + 2
+    }
+}
 
 // What a party holds at the start: each row that it knows, as itself.
 pub fn start(book: &[u32], party: u32) -> ByRow
@@ -44,10 +80,10 @@ pub fn start(book: &[u32], party: u32) -> ByRow
 {
     let first = party_first(book, party);
     let mut left = party_count(book, party);
-    let mut entries = [0u32; 1024];
+    let mut entries = [Entry::free(); 1024];
     while 0 < left {
         left -= 1;
-        entries[wide(pooled(book, first, left))] = 1;
+        entries[wide(pooled(book, first, left))] = Entry::itself();
     }
     entries
 }
@@ -57,7 +93,7 @@ pub fn buildable(book: &[u32], entries: &ByRow, row: u32) -> bool
     requires { ⌜ Valid (now book) × (row < rowsOf (now book)) ⌝ }
     ensures { λ r. ⌜ r ≡ buildableFrom (view (now (book .entry)) (now (entries .entry))) (term (table (now (book .entry))) row) ⌝ }
 {
-    if entries[wide(row)] != 0 {
+    if Entry::held(entries[wide(row)]) {
         return true;
     }
     if row_kind(book, row) == Kind::ATOM {
@@ -149,8 +185,8 @@ fn put_head(book: &[u32], row: u32, out: &mut [u32], at: usize) -> usize
 
 // The image of a row that is held: itself, or its placeholder.
 fn put_entry(row: u32, held: u32, out: &mut [u32], at: usize) -> usize
-    requires { ⌜ 0 < held ⌝ }
-    ensures { λ r. ⌜ Wrote (entryWords row held) (now (out .entry)) at (now (out .exit)) r ⌝ }
+    requires { ⌜ isHeld (heldOf held) ≡ true ⌝ }
+    ensures { λ r. ⌜ Wrote (entryWords row (heldOf held)) (now (out .entry)) at (now (out .exit)) r ⌝ }
 {
     if held == 1 {
         return put2(out, at, ImageCode::ITSELF, row);
@@ -163,9 +199,9 @@ pub fn write_image(book: &[u32], entries: &ByRow, row: u32, out: &mut [u32], at:
     requires { ⌜ Valid (now book) × (row < rowsOf (now book)) ⌝ }
     ensures { λ r. ⌜ Wrote (imageAt (now (book .entry)) (now (entries .entry)) row) (now (out .entry)) at (now (out .exit)) r ⌝ }
 {
-    let held = entries[wide(row)];
-    if held != 0 {
-        return put_entry(row, held, out, at);
+    let word = entries[wide(row)];
+    if Entry::held(word) {
+        return put_entry(row, word, out, at);
     }
     let next = put_head(book, row, out, at);
     write_images(

@@ -11,9 +11,9 @@ use Rattle.terms.specs.Table.{term}
 use Rattle.book.specs.Layout.{table, kind, rowFirst, rowCount}
 use Rattle.translation.specs.Receive.{canOpen}
 use Rattle.translation.specs.Listing.{programWords}
+use Rattle.holding.specs.Entry.{limit}
 use Rattle.holding.specs.View.{rowOf, view}
 use Rattle.receiving.specs.declared.Received.{Received}
-use Rattle.receiving.specs.Bound.{limit}
 use Rattle.receiving.specs.Turn.{unlocked}
 use Rattle.receiving.specs.Receiving.{standing, rowDid, restDid, listDid, RowReady, RestReady, Brought, Going}
 use Rattle.receiving.proofs.Settling.{opened-cipher, opened-key, opened-ready, opened-led}

@@ -1,6 +1,6 @@
 -- Laws of receiving one row: settled where it can't be opened; and where it can, that its contents, received in turn, complete it.
 -- Assumes nothing.
-use Prim.Native.Nat.{ℕ, suc, _+_, _-_, _≤_}
+use Prim.Native.Nat.{ℕ, _+_, _-_, _≤_}
 use native.Mathlib.Omega.{arith}
 use mathlib.Core.Bool.{Bool, true, false}
 use mathlib.Core.List.{List, [], _∷_}
@@ -12,10 +12,11 @@ use Rattle.terms.specs.Table.{term}
 use Rattle.book.specs.Layout.{table, kind, rowFirst, rowCount}
 use Rattle.book.specs.Span.Laws.{span-row, span-tail}
 use Rattle.book.specs.Headed.Laws.{few-rows}
-use Rattle.translation.specs.Dictionary.{buildable, enter}
+use Rattle.translation.specs.Dictionary.{Held, buildable, enter}
 use Rattle.translation.specs.Receive.{Did, followed, canOpen, compared}
 use Rattle.translation.specs.Listing.{pairWords, programWords}
-use Rattle.holding.specs.View.{heldOf, rowOf, view}
+use Rattle.holding.specs.Entry.{heldOf}
+use Rattle.holding.specs.View.{rowOf, view}
 use Rattle.holding.specs.View.Laws.{row-of, view-set}
 use Rattle.holding.specs.Doing.Laws.{doing-as, doing-then}
 use Rattle.receiving.specs.declared.Received.{Received}
@@ -38,18 +39,18 @@ module _ {b e : List ℕ} {r p n k a : ℕ} (ready : SettleReady b r p (standing
         size = ready .size;
       }
 
-  pub settle-store : {w x : ℕ} {l m o : List ℕ} {j : ℕ} → t ≡ false → w ≡ r → x ≡ p + 2 → Wrote (r ∷ p ∷ []) l k m j
+  -- the word x is entered at w
+  pub settle-store : {w : ℕ} (x : ℕ) {l m o : List ℕ} {j : ℕ} → t ≡ false → w ≡ r → heldOf x ≡ Held.placeholder p
+      → Wrote (r ∷ p ∷ []) l k m j
       → Brought b (rowDid b r p (standing e n k a)) (standing e n k a) l m o o (standing (set e w x) n j a)
-  unfolding pairWords programWords heldOf
-  settle-store {w} {x} q dw dx put =
-      let c : p + 2 ≡ suc (suc p) = omega arith in
+  unfolding pairWords programWords
+  settle-store {w} x q dw dx put =
       let i = few-rows b (ready .valid) in
       let h = ready .row in
       let z = ready .size in
       record {
         led = doing-as (record {
-          holds = rw (dw, dx) (view-set b (ready .valid) e r (p + 2) h (omega arith)
-              ∙ ap (λ (y : ℕ). enter (view b e) (term (table b) r) (heldOf y)) c);
+          holds = rw dw (view-set b (ready .valid) e r x h (omega arith) ∙ ap (enter (view b e) (term (table b) r)) dx);
           goes = omega arith;
           wrote = wrote-none;
           keeps = wrote-as put (ap (λ (y : ℕ). y ∷ p ∷ []) (row-of b (ready .valid) r (term (table b) r) h refl));

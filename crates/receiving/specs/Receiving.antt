@@ -9,11 +9,11 @@ use Rattle.book.specs.Layout.{table, rows, listAt}
 use Rattle.book.specs.Valid.{Valid}
 use Rattle.book.specs.Span.{Span}
 use Rattle.translation.specs.Receive.{Did, canOpen, receive, receiveAll}
+use Rattle.holding.specs.Entry.{limit}
 use Rattle.holding.specs.View.{view}
 use Rattle.holding.specs.Doing.{Doing}
 use Rattle.holding.specs.Partners.{Partners}
 use Rattle.receiving.specs.declared.Received.{Received}
-use Rattle.receiving.specs.Bound.{limit}
 use Rattle.receiving.specs.Turn.{inTurn}
 
 -- a party that holds the entries e: n is its next placeholder, k and a are the places of its next stored pair and its next word

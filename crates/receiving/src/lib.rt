@@ -9,6 +9,7 @@ use book::first_part;
 use book::row_count;
 use book::row_first;
 use book::row_kind;
+use holding::Entry;
 use holding::buildable;
 use holding::can_open;
 use holding::write_image;
@@ -143,7 +144,7 @@ fn settle(
         let last = put_check(book, entries, row, place, out, at);
         return Settled { kept, at: last };
     }
-    entries[wide(row)] = place + 2;
+    entries[wide(row)] = Entry::placeholder(place);
     let last = put2(log, kept, row, place);
     Settled { kept: last, at }
 }

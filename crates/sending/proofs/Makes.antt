@@ -1,5 +1,6 @@
 -- Making the atoms of a row, of a list of rows, and sending a step's messages: what the code leaves behind. Assumes nothing.
 use Prim.Native.Nat.{ℕ, _+_, _-_, _*_, _/_, _≤_, _<_}
+use mathlib.Core.Bool.{Bool, true, false}
 use mathlib.Core.List.{List, [], _∷_}
 use mathlib.Core.Path.{_≡_, refl, sym, ap, _∙_}
 use native.Mathlib.Omega.{arith}
@@ -13,18 +14,20 @@ use Rattle.book.specs.Headed.Laws.{few-rows}
 use Rattle.book.specs.Span.{entry, Span}
 use Rattle.book.specs.Stop.{nowhere}
 use Rattle.book.specs.declared.Stop.{Stop}
-use Rattle.translation.specs.Dictionary.{Dictionary}
+use Rattle.translation.specs.Dictionary.{Held, isHeld, Dictionary}
 use Rattle.translation.specs.Build.{build, buildAll}
 use Rattle.translation.specs.Listing.{eventWords, programWords}
 use Rattle.translation.specs.Long.{stepSize}
 use Rattle.translation.specs.Long.Laws.{news-words}
+use Rattle.holding.specs.Entry.{heldOf}
+use Rattle.holding.specs.Entry.Laws.{held-at}
 use Rattle.holding.specs.View.{rowOf, view}
 use Rattle.holding.specs.AtRow.{imagesAt}
 use Rattle.sending.specs.declared.Made.{Made}
 use Rattle.sending.specs.Sending.{Making, making, allMaking, againstIn, orStop, firstIn, SendReady, Makes, Sends}
 use Rattle.sending.specs.Sending.Laws.{nothing, both, making-held, making-atom, making-parts, one-set, making-none, making-more, first-append, news-append, sent-words}
 
--- ---- one row, of which the code reads the entry at w
+-- ---- one row, of which the code reads the entry at w, where t tells whether it is held
 makes-as : {b l : List ℕ} {k s : ℕ} {g h : Making} {m : Made} {e o p : List ℕ} {r : Made} → Makes b l k s g m e o p r → h ≡ g
     → Makes b l k s h m e o p r
 makes-as x e = rw e x
@@ -35,31 +38,32 @@ unfolding programWords firstIn
 makes-nothing j = record { holds = refl; wrote = wrote-none; stops = refl; size = j }
 
 module _ {b l : List ℕ} (e : List ℕ) {k s r : ℕ} (v : Valid b) (h : r < rows b) {m : Made} (j : length e ≡ 1024) where
-  pub held-makes : {w : ℕ} {o : List ℕ} → w ≡ r → (getD e w 0 ≡ 0 → ⊥)
+  pub held-makes : {w : ℕ} {t : Bool} {o : List ℕ} → w ≡ r → t ≡ isHeld (heldOf (getD e w 0)) → t ≡ true
       → Makes b l k s (making (build (term (table b) r) (view b e))) m e o o m
-  held-makes d n = makes-as (makes-nothing j) (making-held b e v r h (λ z. n (ap (λ i. getD e i 0) d ∙ z)))
+  held-makes d c z = makes-as (makes-nothing j) (making-held b e v r h (held-at e r _ d c z))
 
-  pub atom-makes : {w u g : ℕ} {o p : List ℕ} {i : ℕ} {y : Stop} → w ≡ r → getD e w 0 ≡ 0 → g ≡ kind b r → g ≡ 0 → u ≡ r
-      → Wrote (1 ∷ r ∷ []) o (m .at) p i → y ≡ orStop (m .stop) (againstIn l k s r) s r
-      → Makes b l k s (making (build (term (table b) r) (view b e))) m (set e u 1) o p (record { at = i; stop = y })
+  -- the word a is entered at u
+  pub atom-makes : {w u g : ℕ} (a : ℕ) {t : Bool} {o p : List ℕ} {i : ℕ} {y : Stop} → w ≡ r → t ≡ isHeld (heldOf (getD e w 0)) → t ≡ false
+      → g ≡ kind b r → g ≡ 0 → heldOf a ≡ Held.itself → u ≡ r → Wrote (1 ∷ r ∷ []) o (m .at) p i
+      → y ≡ orStop (m .stop) (againstIn l k s r) s r
+      → Makes b l k s (making (build (term (table b) r) (view b e))) m (set e u a) o p (record { at = i; stop = y })
   unfolding programWords eventWords firstIn
-  atom-makes {u = u} d z f q c x t =
+  atom-makes {u = u} a d i z f q y c x t =
       let n = few-rows b v in
       makes-as
       (record {
-        holds = ap (λ a. view b (set e a 1)) c ∙ one-set b e v r h (sym f ∙ q) (omega arith);
+        holds = ap (λ i. view b (set e i a)) c ∙ one-set b e v r h a y (sym f ∙ q) (omega arith);
         wrote = x;
         stops = t;
-        size = length-set e u 1 ∙ j;
+        size = length-set e u a ∙ j;
       })
-      (making-atom b e v r h (ap (λ a. getD e a 0) (sym d) ∙ z) (sym f ∙ q))
+      (making-atom b e v r h (held-at e r _ d i z) (sym f ∙ q))
 
-  pub parts-makes : {w g f n : ℕ} {after o p : List ℕ} {y : Made} → w ≡ r → getD e w 0 ≡ 0 → g ≡ kind b r → (g ≡ 0 → ⊥)
-      → f ≡ rowFirst b r → n ≡ rowCount b r
+  pub parts-makes : {w g f n : ℕ} {t : Bool} {after o p : List ℕ} {y : Made} → w ≡ r → t ≡ isHeld (heldOf (getD e w 0)) → t ≡ false
+      → g ≡ kind b r → (g ≡ 0 → ⊥) → f ≡ rowFirst b r → n ≡ rowCount b r
       → Makes b l k s (allMaking (buildAll (terms (table b) (listAt b f n)) (view b e))) m after o p y
       → Makes b l k s (making (build (term (table b) r) (view b e))) m after o p y
-  parts-makes d z c q t u x =
-      makes-as (rw (t, u) at x) (making-parts b e v r h (ap (λ a. getD e a 0) (sym d) ∙ z) (λ y. q (c ∙ y)))
+  parts-makes d i z c q t u x = makes-as (rw (t, u) at x) (making-parts b e v r h (held-at e r _ d i z) (λ y. q (c ∙ y)))
 
 -- ---- a list of rows
 pub none-makes : {b l : List ℕ} {k s : ℕ} (f : ℕ) {n : ℕ} {m : Made} {e o : List ℕ} → length e ≡ 1024 → n ≡ 0

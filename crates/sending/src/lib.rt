@@ -11,6 +11,7 @@ use book::row_count;
 use book::row_first;
 use book::row_kind;
 use book::rows;
+use holding::Entry;
 use holding::write_images;
 use words::narrow;
 use words::put2;
@@ -96,11 +97,12 @@ fn make(
     requires { ⌜ Valid (now book) × (row < rowsOf (now book)) × (length (now entries) ≡ 1024) ⌝ }
     ensures { λ r. ⌜ Makes (now (book .entry)) (now (since .entry)) mark step (making (build (term (table (now (book .entry))) row) (view (now (book .entry)) (now (entries .entry))))) m (now (entries .exit)) (now (out .entry)) (now (out .exit)) r ⌝ }
 {
-    if entries[wide(row)] != 0 {
+    if Entry::held(entries[wide(row)]) {
         return m;
     }
     if row_kind(book, row) == Kind::ATOM {
-        entries[wide(row)] = 1;
+        let itself = Entry::itself();
+        entries[wide(row)] = itself;
         let at = put2(out, m.at, Code::NEW, row);
         let before = m.stop;
         let stop = first_stop(since, mark, row, step, before);

@@ -4,7 +4,7 @@ use Prim.Native.Nat.{ℕ, _+_, _≤_, _<_, min}
 use mathlib.Core.Bool.{Bool}
 use mathlib.Core.List.{List}
 use mathlib.Core.Path.{_≡_}
-use lib.Dec.{ltb, eqb}
+use lib.Dec.{ltb}
 use lib.ListN.{length, getD}
 use Rattle.words.specs.Choice.{pick}
 use Rattle.words.specs.First.{first}
@@ -12,12 +12,13 @@ use Rattle.terms.specs.Table.{term}
 use Rattle.book.specs.Layout.{table, rows, steps}
 use Rattle.translation.specs.Dictionary.{isHeld}
 use Rattle.translation.specs.Steps.{before}
+use Rattle.holding.specs.Entry.{heldOf}
 pub mod Laws
 
 -- ---- once
 -- a row whose entry is e and whose mark was m, marked with w: the smaller of the two where it is held
 unfoldable pub markOf : ℕ → ℕ → ℕ → ℕ
-markOf e w m = pick (eqb e 0) m (min w m)
+markOf e w m = pick (isHeld (heldOf e)) (min w m) m
 
 -- the list old became new: each of its rows was marked with w by the entries e
 pub record Marks (e : List ℕ) (w : ℕ) (old new : List ℕ) : Type 0 where

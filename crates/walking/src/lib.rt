@@ -12,6 +12,7 @@ use book::step_first;
 use book::step_receiver;
 use book::step_sender;
 use book::steps;
+use holding::Entry;
 use holding::start;
 use receiving::Dictionary;
 use receiving::receive_messages;
@@ -171,7 +172,7 @@ pub fn next_own(book: &[u32], party: u32, from: u32) -> u32
 fn sooner(entry: u32, word: u32, mark: u32) -> u32
     ensures { λ r. ⌜ r ≡ markOf entry word mark ⌝ }
 {
-    if entry == 0 {
+    if !Entry::held(entry) {
         return mark;
     }
     if word < mark {

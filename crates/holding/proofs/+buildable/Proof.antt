@@ -16,6 +16,7 @@ use Rattle.book.proofs.row_first.Reads as row-first-reads
 use Rattle.book.proofs.row_kind.Reads as row-kind-reads
 use Rattle.book.proofs.entry.Reads as entry-reads
 use Rattle.words.proofs.wide.Reads as wide-reads
+use Rattle.holding.proofs.Entry.held.Reads as held-reads
 use Rattle.holding.proofs.+buildable.{statement}
 use Rattle.holding.proofs.+buildable.Tie.{close}
 
@@ -40,6 +41,8 @@ abbrev buildable-calls : ℕ → buildable-lts.Claims
 buildable-calls t = (
   wide-reads.Asked,
   wide-reads.Learnt,
+  held-reads.Asked,
+  held-reads.Learnt,
   row-kind-reads.Asked,
   row-kind-reads.Learnt,
   row-first-reads.Asked,
@@ -65,11 +68,12 @@ buildable-loop-holds t c =
     let else2 : in-buildable buildable-lts.Else2 t = search in
     let after-row-kind : in-buildable buildable-lts.After-row-kind t = search in
     let else1 : in-buildable buildable-lts.Else1 t = search in
+    let after-held : in-buildable buildable-lts.After-held t = search in
     let after-wide : in-buildable buildable-lts.After-wide t = search in
     let start : in-buildable buildable-lts.Start t = search in
     let (measured, asked) = start .pre in
     let (valid, inside) = asked in
-    going-start valid inside (after-wide .wide .ensures .0) (else1 .if1 .left)
+    going-start valid inside (after-wide .wide .ensures .0) (after-held .held .ensures) (else1 .if1 .left)
     (after-row-kind .row-kind .ensures) (else2 .if2 .left) (first .row-first .ensures .0) (count .row-count .ensures .0)
 
 -- the part asked about is buildable
@@ -93,6 +97,7 @@ pub +buildable-spec : {M : Type 1} → statement M
     (λ c κs. search needs)  -- buildable-wide-requires
     (λ c. omega (arith, few-rows))  -- buildable-mul-if1
     (λ c. omega (arith, few-rows))  -- buildable-element-copy-out-if1
+    (λ c κs. search needs)  -- buildable-held-requires
     (λ c. search is-held)  -- buildable-returns
     (λ c κs. search (valid-headed, needs))  -- buildable-row-kind-requires
     (λ c. search lone-atom)  -- buildable-returns-2

@@ -1,6 +1,7 @@
 -- `holding::write_image` and `holding::write_images` meet their contracts: what is held by its entry, else its head and
 -- its parts, which are rows before it; a list one row after another. Assumes nothing.
 use Prim.Native.Nat.{_+_, _*_}
+use mathlib.Core.Path.{sym, _∙_}
 use Rattle.book.specs.Span.{Span}
 use Rattle.book.specs.Span.Laws.{span-row, span-rest}
 use Rattle.holding.proofs.Images.{held-wrote, free-wrote, none-wrote, more-wrote}
@@ -22,6 +23,7 @@ use Rattle.book.proofs.entry.Reads as entry-reads
 use Rattle.holding.proofs.put_entry.Reads as put-entry-reads
 use Rattle.holding.proofs.put_head.Reads as put-head-reads
 use Rattle.words.proofs.wide.Reads as wide-reads
+use Rattle.holding.proofs.Entry.held.Reads as held-reads
 use Rattle.holding.proofs.+write_image+write_images.{statement}
 use Rattle.holding.proofs.+write_image+write_images.Tie.{close}
 
@@ -56,6 +58,8 @@ abbrev write-image-calls : ℕ → write-image-lts.Claims
 write-image-calls t = (
   wide-reads.Asked,
   wide-reads.Learnt,
+  held-reads.Asked,
+  held-reads.Learnt,
   put-entry-reads.Asked,
   put-entry-reads.Learnt,
   put-head-reads.Asked,
@@ -88,6 +92,13 @@ abbrev in-write-images : (write-images-lts.Claims → In 3 write-images-kinds.ps
     → Out 3 write-images-kinds.ps write-images-kinds.r → Type 0) → ℕ → Type 0
 in-write-images P t = P (write-images-calls t) (write-images-at t) write-images.Post
 
+-- the row is held
+write-image-put-entry-requires : (t : ℕ) → in-write-image write-image-lts.Need-put-entry-requires t
+write-image-put-entry-requires t c κs =
+    let then1 : in-write-image write-image-lts.Then1 t = search in
+    let after-held : in-write-image write-image-lts.After-held t = search in
+    sym (after-held .held .ensures) ∙ then1 .if1 .taken
+
 -- the parts of a row are rows before it
 module _ (t : ℕ) (c : in-write-image write-image-lts.After-row-count t) where
   abbrev start : in-write-image write-image-lts.Start t
@@ -112,7 +123,8 @@ pub +write-image+write-images-spec : {M : Type 1} → statement M
     (λ c κs. search needs)  -- write-image-wide-requires
     (λ c. omega (arith, few-rows))  -- write-image-mul-held
     (λ c. omega (arith, few-rows))  -- write-image-element-copy-out-held
-    (λ c κs. search needs)  -- write-image-put-entry-requires
+    (λ c κs. search needs)  -- write-image-held-requires
+    (write-image-put-entry-requires t)
     (λ c. search needs)  -- write-image-same-length
     (λ c. search held-wrote)  -- write-image-returns
     (λ c κs. search needs)  -- write-image-put-head-requires

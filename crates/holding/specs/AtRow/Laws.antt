@@ -9,6 +9,7 @@ use lib.ListN.{length, getD, length-map}
 use lib.Dec.{eqb}
 use borrow.Author.Tests.{eq-eqb, ne-eqb}
 use Rattle.words.specs.Choice.{pick}
+use Rattle.words.specs.Choice.Laws.{pick-true, pick-false}
 use Rattle.words.specs.Run.Laws.{run-length}
 use Rattle.terms.specs.Term.{Term, gathered}
 use Rattle.terms.specs.Image.{Image, words, wordsOf, countImages}
@@ -22,7 +23,8 @@ use Rattle.book.specs.Valid.Laws.{row-form, row-shape}
 use Rattle.translation.specs.Dictionary.{Held, Dictionary, isHeld, buildable, allBuildable, imageOr, image, images}
 use Rattle.book.specs.Span.{entry}
 use Rattle.book.specs.Span.Laws.{list-none, list-more}
-use Rattle.holding.specs.View.{heldOf, rowOf, view}
+use Rattle.holding.specs.Entry.{heldOf}
+use Rattle.holding.specs.View.{rowOf, view}
 use Rattle.holding.specs.View.Laws.{view-row, row-of}
 use Rattle.holding.specs.AtRow.{canAt, allTrue, imageAt, concat, imagesAt, headOf, headWords, entryWords}
 
@@ -53,12 +55,6 @@ can-form δ r (suc (suc (suc (suc zero)))) g (t ∷ []) l s = ap (pick (isHeld (
 can-form δ r (suc (suc (suc (suc zero)))) g (t ∷ u ∷ ts) l s = absurd (omega arith)
 can-form δ r (suc (suc (suc (suc (suc k))))) g ts l s = absurd (omega arith)
 
-pub held-zero : (x : ℕ) → isHeld (heldOf x) ≡ pick (eqb x 0) false true
-unfolding heldOf pick
-held-zero zero = refl
-held-zero (suc zero) = refl
-held-zero (suc (suc x)) = rw (ne-eqb (suc (suc x)) 0 (omega arith))
-
 -- ---- images, of a form
 pub count-all : (δ : Dictionary) (ts : List Term) → countImages (images δ (gathered ts)) ≡ length ts
 unfolding gathered image countImages
@@ -67,12 +63,10 @@ count-all δ (t ∷ ts) = ap suc (count-all δ ts)
 
 module _ (row : Term → ℕ) (δ : Dictionary) where
   abbrev shown : Held → ℕ → List ℕ → List ℕ
-  shown Held.free n ws = ws
-  shown Held.itself n ws = 0 ∷ n ∷ []
-  shown (Held.placeholder x) n ws = 1 ∷ x ∷ []
+  shown h n ws = pick (isHeld h) (entryWords n h) ws
 
   words-held : (h : Held) (t : Term) (i : Image) (ws : List ℕ) → words row i ≡ ws → words row (imageOr h t i) ≡ shown h (row t) ws
-  unfolding words imageOr
+  unfolding words imageOr entryWords pick
   words-held Held.free t i ws e = e
   words-held Held.itself t i ws e = refl
   words-held (Held.placeholder x) t i ws e = refl
@@ -104,22 +98,22 @@ module _ (row : Term → ℕ) (δ : Dictionary) where
 
 -- ---- a row of a valid book
 module _ (b e : List ℕ) (v : Valid b) (r : ℕ) (h : r < rows b) where
-  can-row : canAt b e r ≡ pick (pick (eqb (getD e r 0) 0) false true) true (pick (eqb (kind b r) 0) false (allTrue (map (canAt b e) (parts b r))))
+  can-row : canAt b e r ≡ pick (isHeld (heldOf (getD e r 0))) true (pick (eqb (kind b r) 0) false (allTrue (map (canAt b e) (parts b r))))
   can-row =
       ap (buildable (view b e)) (row-form b v r h) ∙ can-form (view b e) r _ _ _ (v .rowsKeep r h .kinded) (row-shape b v r h)
-      ∙ rw (← row-form b v r h, view-row b v e r h, held-zero (getD e r 0), map-map (buildable (view b e)) (term (table b)) (parts b r))
+      ∙ rw (← row-form b v r h, view-row b v e r h, map-map (buildable (view b e)) (term (table b)) (parts b r))
 
-  pub can-held : (getD e r 0 ≡ 0 → ⊥) → canAt b e r ≡ true
+  pub can-held : isHeld (heldOf (getD e r 0)) ≡ true → canAt b e r ≡ true
   unfolding pick
-  can-held n = rw (can-row, ne-eqb (getD e r 0) 0 n)
+  can-held n = rw (can-row, n)
 
-  pub can-atom : getD e r 0 ≡ 0 → kind b r ≡ 0 → canAt b e r ≡ false
+  pub can-atom : isHeld (heldOf (getD e r 0)) ≡ false → kind b r ≡ 0 → canAt b e r ≡ false
   unfolding pick
-  can-atom n k = rw (can-row, eq-eqb (getD e r 0) 0 n, eq-eqb (kind b r) 0 k)
+  can-atom n k = rw (can-row, n, eq-eqb (kind b r) 0 k)
 
-  pub can-parts : getD e r 0 ≡ 0 → (kind b r ≡ 0 → ⊥) → canAt b e r ≡ allTrue (map (canAt b e) (parts b r))
+  pub can-parts : isHeld (heldOf (getD e r 0)) ≡ false → (kind b r ≡ 0 → ⊥) → canAt b e r ≡ allTrue (map (canAt b e) (parts b r))
   unfolding pick
-  can-parts n k = rw (can-row, eq-eqb (getD e r 0) 0 n, ne-eqb (kind b r) 0 k)
+  can-parts n k = rw (can-row, n, ne-eqb (kind b r) 0 k)
 
   image-row : imageAt b e r ≡ shown (rowOf b) (view b e) (heldOf (getD e r 0)) r (headWords b r ++ concat (map (imageAt b e) (parts b r)))
   image-row =
@@ -134,18 +128,11 @@ module _ (b e : List ℕ) (v : Valid b) (r : ℕ) (h : r < rows b) where
         map-map (λ t. words (rowOf b) (image (view b e) t)) (term (table b)) (parts b r),
       )
 
-  entry-held : (x : ℕ) (ws : List ℕ) → (x ≡ 0 → ⊥) → shown (rowOf b) (view b e) (heldOf x) r ws ≡ entryWords r x
-  unfolding heldOf entryWords pick
-  entry-held zero ws n = absurd (n refl)
-  entry-held (suc zero) ws n = refl
-  entry-held (suc (suc x)) ws n = let z : suc (suc x) - 2 ≡ x = omega arith in rw (ne-eqb (suc (suc x)) 1 (omega arith), z)
+  pub image-held : isHeld (heldOf (getD e r 0)) ≡ true → imageAt b e r ≡ entryWords r (heldOf (getD e r 0))
+  image-held n = image-row ∙ pick-true _ _ _ n
 
-  pub image-held : (getD e r 0 ≡ 0 → ⊥) → imageAt b e r ≡ entryWords r (getD e r 0)
-  image-held n = image-row ∙ entry-held (getD e r 0) _ n
-
-  pub image-free : getD e r 0 ≡ 0 → imageAt b e r ≡ headWords b r ++ concat (map (imageAt b e) (parts b r))
-  unfolding heldOf
-  image-free z = rw (image-row, z)
+  pub image-free : isHeld (heldOf (getD e r 0)) ≡ false → imageAt b e r ≡ headWords b r ++ concat (map (imageAt b e) (parts b r))
+  image-free n = image-row ∙ pick-false _ _ _ n
 
 -- ---- lists of rows, one after another
 module _ (g : ℕ → Bool) (b : List ℕ) (f n : ℕ) where
@@ -188,10 +175,10 @@ module _ (b : List ℕ) (r k : ℕ) (e : k ≡ kind b r) where
     unfolding headOf
     head-atom z = rw (o .code, ← e, z)
 
-pub entry-itself : (r x : ℕ) → x ≡ 1 → entryWords r x ≡ 0 ∷ r ∷ []
-unfolding entryWords pick
-entry-itself r x z = rw z
+pub entry-itself : (r : ℕ) {h : Held} → h ≡ Held.itself → entryWords r h ≡ 0 ∷ r ∷ []
+unfolding entryWords
+entry-itself r d = rw d
 
-pub entry-placeholder : (r x : ℕ) → (x ≡ 1 → ⊥) → entryWords r x ≡ 1 ∷ (x - 2) ∷ []
-unfolding entryWords pick
-entry-placeholder r x n = rw (ne-eqb x 1 n)
+pub entry-placeholder : (r x : ℕ) {h : Held} → h ≡ Held.placeholder x → entryWords r h ≡ 1 ∷ x ∷ []
+unfolding entryWords
+entry-placeholder r x d = rw d

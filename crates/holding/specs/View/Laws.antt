@@ -20,7 +20,8 @@ use Rattle.book.specs.Valid.{Valid}
 use Rattle.book.specs.Valid.Laws.{formed}
 use Rattle.translation.specs.Dictionary.{free, enter}
 use Rattle.translation.specs.Dictionary.Laws.{enter-same, enter-other}
-use Rattle.holding.specs.View.{heldOf, rowOf, view}
+use Rattle.holding.specs.Entry.{heldOf}
+use Rattle.holding.specs.View.{rowOf, view}
 
 chosen : {P : Type 0} (d : Dec P) → choose d true false ≡ true → P
 unfolding choose

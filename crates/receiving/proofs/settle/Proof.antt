@@ -17,16 +17,17 @@ returns c =
     settle-compare (here .pre) (after-buildable .buildable .ensures) (then1 .if1 .taken)
     (after-put-check .put-check .ensures)
 
--- it isn't: it is stored, and placeholder x is entered as the word x + 2
+-- it isn't: it is stored, and entered as its placeholder
 returns-2 : tie.Need-returns-2
 returns-2 c =
     let after-put2 : tie.After-put2 = search in
     let after-wide : tie.After-wide = search in
+    let after-placeholder : tie.After-placeholder = search in
     let else1 : tie.Else1 = search in
     let after-buildable : tie.After-buildable = search in
     let here : tie.Start = search in
-    settle-store (here .pre) (after-buildable .buildable .ensures) (else1 .if1 .left) (after-wide .wide .ensures .0)
-    (omega arith) (after-put2 .put2 .ensures)
+    settle-store (here .pre) (after-buildable .buildable .ensures) _ (else1 .if1 .left) (after-wide .wide .ensures .0)
+    (after-placeholder .placeholder .ensures) (after-put2 .put2 .ensures)
 
 pub settle-spec : {M : Type 1} → statement M
 settle-spec =
@@ -36,7 +37,7 @@ settle-spec =
     (λ c κs. search needs)  -- put-check-requires
     (λ c. search needs)  -- same-length
     returns
-    (λ c. search needs)  -- add-entries
+    (λ c κs. omega (arith, few-rows))  -- placeholder-requires
     (λ c κs. search needs)  -- wide-requires
     (λ c. omega (arith, few-rows))  -- mul-entries
     (λ c. omega (arith, few-rows))  -- element-write-entries

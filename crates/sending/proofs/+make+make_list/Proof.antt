@@ -23,6 +23,8 @@ use Rattle.book.proofs.entry.Reads as entry-reads
 use Rattle.sending.proofs.first_stop.Reads as first-stop-reads
 use Rattle.words.proofs.put2.Reads as put2-reads
 use Rattle.words.proofs.wide.Reads as wide-reads
+use Rattle.holding.proofs.Entry.held.Reads as held-reads
+use Rattle.holding.proofs.Entry.itself.Reads as itself-reads
 use Rattle.sending.proofs.+make+make_list.{statement}
 use Rattle.sending.proofs.+make+make_list.Tie.{close}
 
@@ -50,8 +52,12 @@ abbrev make-calls : ℕ → make-lts.Claims
 make-calls t = (
   wide-reads.Asked,
   wide-reads.Learnt,
+  held-reads.Asked,
+  held-reads.Learnt,
   row-kind-reads.Asked,
   row-kind-reads.Learnt,
+  itself-reads.Asked,
+  itself-reads.Learnt,
   put2-reads.Asked,
   put2-reads.Learnt,
   first-stop-reads.Asked,
@@ -90,28 +96,31 @@ make-returns-2 t c =
     let after-first-stop : in-make make-lts.After-first-stop t = search in
     let after-put2 : in-make make-lts.After-put2 t = search in
     let after-wide2 : in-make make-lts.After-wide2 t = search in
+    let after-itself : in-make make-lts.After-itself t = search in
     let then2 : in-make make-lts.Then2 t = search in
     let after-row-kind : in-make make-lts.After-row-kind t = search in
     let else1 : in-make make-lts.Else1 t = search in
+    let after-held : in-make make-lts.After-held t = search in
     let after-wide : in-make make-lts.After-wide t = search in
     let start : in-make make-lts.Start t = search in
     let (measured, asked) = start .pre in
     let (valid, inside, sized) = asked in
     atom-makes {l = start .args .since .now} (start .args .entries .now) {k = start .args .mark}
-    {s = start .args .step} valid inside {m = start .args .m} sized (after-wide .wide .ensures .0) (else1 .if1 .left)
-    (after-row-kind .row-kind .ensures) (then2 .if2 .taken) (after-wide2 .wide2 .ensures .0) (after-put2 .put2 .ensures)
+    {s = start .args .step} valid inside {m = start .args .m} sized _ (after-wide .wide .ensures .0)
+    (after-held .held .ensures) (else1 .if1 .left) (after-row-kind .row-kind .ensures) (then2 .if2 .taken)
+    (after-itself .itself .ensures) (after-wide2 .wide2 .ensures .0) (after-put2 .put2 .ensures)
     (after-first-stop .first-stop .ensures)
 
--- the row is held: its entry is not 0
+-- the row is held
 make-returns : (t : ℕ) → in-make make-lts.Need-returns t
 make-returns t c =
+    let after-held : in-make make-lts.After-held t = search in
     let after-wide : in-make make-lts.After-wide t = search in
     let start : in-make make-lts.Start t = search in
     let (measured, asked) = start .pre in
     let (valid, inside, sized) = asked in
-    let entry = c .if1 .taken in
     held-makes (start .args .entries .now) valid inside sized
-    (after-wide .wide .ensures .0) (λ z. absurd (omega arith))
+    (after-wide .wide .ensures .0) (after-held .held .ensures) (c .if1 .taken)
 
 -- the parts of a row are rows before it
 module _ (t : ℕ) (c : in-make make-lts.After-row-count t) where
@@ -149,8 +158,10 @@ pub +make+make-list-spec : {M : Type 1} → statement M
     (λ c κs. search needs)  -- make-wide-requires
     (λ c. omega (arith, few-rows))  -- make-mul-if1
     (λ c. omega (arith, few-rows))  -- make-element-copy-out-if1
+    (λ c κs. search needs)  -- make-held-requires
     (make-returns t)
     (λ c κs. search (valid-headed, needs))  -- make-row-kind-requires
+    (λ c κs. search needs)  -- make-itself-requires
     (λ c κs. search needs)  -- make-wide-requires-2
     (λ c. omega (arith, few-rows))  -- make-mul-entries
     (λ c. omega (arith, few-rows))  -- make-element-write-entries

@@ -31,10 +31,11 @@ use Rattle.book.specs.Stop.{stop, nowhere}
 use Rattle.book.specs.declared.Stop.{Stop}
 use Rattle.book.specs.Span.{entry}
 use Rattle.book.specs.Span.Laws.{list-none, list-more}
-use Rattle.holding.specs.View.{heldOf, rowOf, view}
+use Rattle.holding.specs.Entry.{heldOf}
+use Rattle.holding.specs.View.{rowOf, view}
 use Rattle.holding.specs.View.Laws.{view-row, view-set}
 use Rattle.holding.specs.AtRow.{concat, imagesAt}
-use Rattle.holding.specs.AtRow.Laws.{held-zero, count-all, words-all}
+use Rattle.holding.specs.AtRow.Laws.{count-all, words-all}
 use Rattle.sending.specs.Sending.{Making, making, allMaking, orStop, firstIn}
 
 -- ---- making: nothing, one atom, one after another
@@ -78,30 +79,29 @@ making-form r (suc (suc (suc (suc (suc k))))) g ts δ l s = absurd (omega arith)
 -- ---- a row of a valid book
 module _ (b e : List ℕ) (v : Valid b) (r : ℕ) (h : r < rows b) where
   making-row : making (build (term (table b) r) (view b e))
-      ≡ pick (pick (eqb (getD e r 0) 0) false true) (nothing (view b e))
+      ≡ pick (isHeld (heldOf (getD e r 0))) (nothing (view b e))
       (pick (eqb (kind b r) 0) (one r (view b e)) (allMaking (buildAll (terms (table b) (parts b r)) (view b e))))
   unfolding terms
   making-row =
       ap (λ t. making (build t (view b e))) (row-form b v r h) ∙ making-form r _ _ _ (view b e) (v .rowsKeep r h .kinded) (row-shape b v r h)
-      ∙ rw (← row-form b v r h, view-row b v e r h, held-zero (getD e r 0))
+      ∙ rw (← row-form b v r h, view-row b v e r h)
 
-  pub making-held : (getD e r 0 ≡ 0 → ⊥) → making (build (term (table b) r) (view b e)) ≡ nothing (view b e)
+  pub making-held : isHeld (heldOf (getD e r 0)) ≡ true → making (build (term (table b) r) (view b e)) ≡ nothing (view b e)
   unfolding pick
-  making-held n = rw (making-row, ne-eqb (getD e r 0) 0 n)
+  making-held n = rw (making-row, n)
 
-  pub making-atom : getD e r 0 ≡ 0 → kind b r ≡ 0 → making (build (term (table b) r) (view b e)) ≡ one r (view b e)
+  pub making-atom : isHeld (heldOf (getD e r 0)) ≡ false → kind b r ≡ 0 → making (build (term (table b) r) (view b e)) ≡ one r (view b e)
   unfolding pick
-  making-atom n k = rw (making-row, eq-eqb (getD e r 0) 0 n, eq-eqb (kind b r) 0 k)
+  making-atom n k = rw (making-row, n, eq-eqb (kind b r) 0 k)
 
-  pub making-parts : getD e r 0 ≡ 0 → (kind b r ≡ 0 → ⊥)
+  pub making-parts : isHeld (heldOf (getD e r 0)) ≡ false → (kind b r ≡ 0 → ⊥)
       → making (build (term (table b) r) (view b e)) ≡ allMaking (buildAll (terms (table b) (parts b r)) (view b e))
   unfolding pick
-  making-parts n k = rw (making-row, eq-eqb (getD e r 0) 0 n, ne-eqb (kind b r) 0 k)
+  making-parts n k = rw (making-row, n, ne-eqb (kind b r) 0 k)
 
-  -- the made atom's entry
-  pub one-set : kind b r ≡ 0 → r < length e → view b (set e r 1) ≡ one r (view b e) .dictionary
-  unfolding heldOf
-  one-set k l = view-set b v e r 1 h l ∙ ap (λ t. enter (view b e) t Held.itself) (row-atom b v r h k)
+  -- the made atom's entry, the word x
+  pub one-set : (x : ℕ) → heldOf x ≡ Held.itself → kind b r ≡ 0 → r < length e → view b (set e r x) ≡ one r (view b e) .dictionary
+  one-set x d k l = view-set b v e r x h l ∙ ap₂ (enter (view b e)) (row-atom b v r h k) d
 
 -- ---- lists of rows, one after another
 pub making-none : (b : List ℕ) (f n : ℕ) (δ : Dictionary) → n ≡ 0 → allMaking (buildAll (terms (table b) (listAt b f n)) δ) ≡ nothing δ

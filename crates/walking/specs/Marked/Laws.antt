@@ -1,12 +1,12 @@
 -- Laws of marks: one time more, and where nothing changes. Assumes nothing.
-use Prim.Native.Nat.{ℕ, zero, suc, _+_, _≤_, _<_, min}
-use native.Mathlib.Decide.{ℕ-discrete, decLt}
+use Prim.Native.Nat.{ℕ, _+_, _≤_, _<_, min}
+use native.Mathlib.Decide.{decLt}
 use native.Mathlib.Omega.{arith}
-use mathlib.Core.Bool.{true, false}
+use mathlib.Core.Bool.{Bool, true, false}
 use mathlib.Core.List.{List, []}
 use mathlib.Core.Path.{_≡_, refl, sym, ap, _∙_}
 use lib.ListN.{length, getD}
-use borrow.Author.Tests.{lt-ltb, le-ltb, eq-eqb, ne-eqb}
+use borrow.Author.Tests.{lt-ltb, le-ltb}
 use Rattle.words.specs.Choice.Laws.{pick-true, pick-false}
 use Rattle.words.specs.First.{first}
 use Rattle.words.specs.First.Laws.{first-le, first-holds, first-fails, first-at, first-end}
@@ -16,26 +16,27 @@ use Rattle.book.specs.Valid.{Valid}
 use Rattle.translation.specs.Dictionary.{isHeld}
 use Rattle.translation.specs.Receive.{Did}
 use Rattle.translation.specs.Steps.{before}
-use Rattle.holding.specs.View.{heldOf, view}
+use Rattle.holding.specs.Entry.{heldOf}
+use Rattle.holding.specs.View.{view}
 use Rattle.holding.specs.View.Laws.{view-row}
 use Rattle.walking.specs.Walk.{IdleUntil}
 use Rattle.walking.specs.Walk.Laws.{before-skip}
 use Rattle.walking.specs.Marked.{markOf, Marks, holdsRow, heldFirst, Unmarked, Marked}
 
--- ---- markOf
-pub mark-free : {e : ℕ} (w m : ℕ) → e ≡ 0 → m ≡ markOf e w m
+-- ---- markOf: x tells whether the entry is held
+pub mark-free : (e w m : ℕ) {x : Bool} → x ≡ isHeld (heldOf e) → x ≡ false → m ≡ markOf e w m
 unfolding markOf
-mark-free {e} w m z = sym (pick-true _ _ _ (eq-eqb e 0 z))
+mark-free e w m d z = sym (pick-false _ _ _ (sym d ∙ z))
 
-pub mark-held : {e : ℕ} (w m : ℕ) → (e ≡ 0 → ⊥) → markOf e w m ≡ min w m
+pub mark-held : (e w m : ℕ) {x : Bool} → x ≡ isHeld (heldOf e) → x ≡ true → markOf e w m ≡ min w m
 unfolding markOf
-mark-held {e} w m n = pick-false _ _ _ (ne-eqb e 0 n)
+mark-held e w m d z = pick-true _ _ _ (sym d ∙ z)
 
-pub mark-sooner : {e : ℕ} (w m : ℕ) → (e ≡ 0 → ⊥) → w < m → w ≡ markOf e w m
-mark-sooner w m n h = let s = mark-held w m n in omega arith
+pub mark-sooner : (e w m : ℕ) {x : Bool} → x ≡ isHeld (heldOf e) → x ≡ true → w < m → w ≡ markOf e w m
+mark-sooner e w m d z h = let s = mark-held e w m d z in omega arith
 
-pub mark-later : {e : ℕ} (w m : ℕ) → (e ≡ 0 → ⊥) → m ≤ w → m ≡ markOf e w m
-mark-later w m n h = let s = mark-held w m n in omega arith
+pub mark-later : (e w m : ℕ) {x : Bool} → x ≡ isHeld (heldOf e) → x ≡ true → m ≤ w → m ≡ markOf e w m
+mark-later e w m d z h = let s = mark-held e w m d z in omega arith
 
 -- ---- heldFirst
 module _ (b : List ℕ) (p r : ℕ) where
@@ -106,27 +107,21 @@ unmarked-none = record { few = omega arith; each = λ r h. absurd (omega arith) 
 pub marked-none : {b : List ℕ} {p : ℕ} {marks : List ℕ} → Unmarked b marks → Marked b p 0 marks
 marked-none {b} {p} h = record { each = λ r l. h .each r l ∙ sym (held-none b p r) }
 
-held-of : (x : ℕ) → (x ≡ 0 → ⊥) → isHeld (heldOf x) ≡ true
-unfolding heldOf
-held-of zero n = absurd (n refl)
-held-of (suc zero) n = refl
-held-of (suc (suc x)) n = refl
-
 -- the entries e are what party p holds after the first n steps
 pub marked-on : {b e old new : List ℕ} {p n : ℕ} → Valid b → length old ≤ rows b → n ≤ steps b → view b e ≡ before b p n .dictionary
     → Marked b p n old → Marks e n old new → Marked b p (n + 1) new
-unfolding holdsRow heldOf
+unfolding holdsRow
 marked-on {b} {e} {old} {new} {p} {n} v few h same g w =
-    record { each = λ r l. let size = w .size in w .each r (omega arith) ∙ told r (omega arith) (ℕ-discrete (getD e r 0) 0) }
+    record { each = λ r l. let size = w .size in w .each r (omega arith) ∙ told r (omega arith) (isHeld (heldOf (getD e r 0))) refl }
   where
     entry : (r : ℕ) → r < length old → holdsRow b p r n ≡ isHeld (heldOf (getD e r 0))
     entry r l = ap isHeld (ap (λ δ. δ (term (table b) r)) (sym same) ∙ view-row b v e r (omega arith))
 
-    told : (r : ℕ) → r < length old → Dec (getD e r 0 ≡ 0) → markOf (getD e r 0) n (getD old r 0) ≡ heldFirst b p r (n + 1)
-    told r l (yes z) =
-        sym (mark-free n (getD old r 0) z) ∙ g .each r l ∙ sym (not-held b p r n (entry r l ∙ ap (λ x. isHeld (heldOf x)) z))
-    told r l (no z) =
-        mark-held n (getD old r 0) z ∙ ap (min n) (g .each r l) ∙ sym (now-held b p r n h (entry r l ∙ held-of (getD e r 0) z))
+    told : (r : ℕ) → r < length old → (x : Bool) → x ≡ isHeld (heldOf (getD e r 0))
+        → markOf (getD e r 0) n (getD old r 0) ≡ heldFirst b p r (n + 1)
+    told r l false d = sym (mark-free (getD e r 0) n (getD old r 0) d refl) ∙ g .each r l ∙ sym (not-held b p r n (entry r l ∙ sym d))
+    told r l true d =
+        mark-held (getD e r 0) n (getD old r 0) d refl ∙ ap (min n) (g .each r l) ∙ sym (now-held b p r n h (entry r l ∙ sym d))
 
 -- steps in which the party has no part
 pub marked-skip : {b : List ℕ} {p i j : ℕ} {marks : List ℕ} → IdleUntil b p i j → Marked b p (i + 1) marks → Marked b p (j + 1) marks

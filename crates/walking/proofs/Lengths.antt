@@ -35,8 +35,8 @@ pub record FewPlaces (r : Passed) : Type 0 where
   pub words : r .at ≤ mostEvents
   pub kept : r .kept ≤ 2 * mostPlaceholders
 
-pub few-places : {b : List ℕ} {p upto : ℕ} {log logAfter out outAfter x xAfter y yAfter z zAfter : List ℕ} {r : Passed} → Valid b
-    → Walking b p upto log logAfter 0 out outAfter x xAfter y yAfter z zAfter r → FewPlaces r
+pub few-places : {b : List ℕ} {p upto : ℕ} {held log logAfter out outAfter x xAfter y yAfter z zAfter : List ℕ} {r : Passed} → Valid b
+    → Walking b p upto held log logAfter 0 out outAfter x xAfter y yAfter z zAfter r → FewPlaces r
 few-places {b} {p} v g =
     let e = ends-at v p (g .within) (omega arith) (g .along) in
     let k = ends-kept v p (g .within) (g .along) in
@@ -46,8 +46,8 @@ few-places {b} {p} v g =
     record { words = omega arith; kept = omega arith }
 
 -- a log of 2,048 words has room for all pairs
-pub few-pairs : {b : List ℕ} {p upto a : ℕ} {log logAfter out outAfter x xAfter y yAfter z zAfter : List ℕ} {r : Passed} → Valid b
-    → Walking b p upto log logAfter a out outAfter x xAfter y yAfter z zAfter r → r .kept ≤ 2048
+pub few-pairs : {b : List ℕ} {p upto a : ℕ} {held log logAfter out outAfter x xAfter y yAfter z zAfter : List ℕ} {r : Passed} → Valid b
+    → Walking b p upto held log logAfter a out outAfter x xAfter y yAfter z zAfter r → r .kept ≤ 2048
 few-pairs {b} {p} v g =
     let k = ends-kept v p (g .within) (g .along) in
     let s = stored-few b v p (g .far) (g .within) in

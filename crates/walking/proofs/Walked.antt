@@ -20,8 +20,8 @@ use Rattle.translation.specs.Long.{mostEvents}
 use Rattle.translation.specs.Long.Laws.{all-within}
 use Rattle.holding.specs.View.{rowOf, view}
 use Rattle.holding.specs.Doing.Laws.{doing-none, doing-as}
-use Rattle.receiving.specs.declared.Dictionary.{Dictionary}
 use Rattle.receiving.specs.declared.Received.{Received}
+use Rattle.receiving.specs.Receiving.{standing}
 use Rattle.walking.specs.Walk.{refusedFor, Unrefused, IdleUntil}
 use Rattle.walking.specs.Walk.Laws.{before-skip}
 use Rattle.walking.specs.Stops.{stopOf, StopsBefore}
@@ -70,14 +70,13 @@ walked-skip {b} {p} w g l d n m z f u =
     }
 
 -- ---- at the start the party holds what it knows, and has had no event
-pub walked-start : {b : List ℕ} {p i a k : ℕ} {log out e sends receives marks₀ marks : List ℕ} {d : Dictionary} → Valid b
-    → length e ≡ 1024 → view b e ≡ start (map (term (table b)) (known b p)) → (d .entries ≡ e) × (d .next ≡ 0) × (d .kept ≡ 0)
-    → Unmarked b marks₀ → Marks (d .entries) 0 marks₀ marks → IdleUntil b p 0 i → k ≡ 0
-    → Walked b p i log log a out out (record { dictionary = d; at = a }) k sends sends receives receives marks marks
-walked-start {b} {p} {e = e} v l h w fresh m idle none =
-    walked-skip idle (rw (w .0, w .1, w .2) (doing-as (rw (← h) (doing-none {b = b} {x = e})) (before-none b p))) (ap length (w .0) ∙ l)
+pub walked-start : {b : List ℕ} {p i a k : ℕ} {log out e sends receives marks₀ marks : List ℕ} → Valid b
+    → length e ≡ 1024 → view b e ≡ start (map (term (table b)) (known b p)) → Unmarked b marks₀ → Marks e 0 marks₀ marks
+    → IdleUntil b p 0 i → k ≡ 0 → Walked b p i log log a out out (standing e 0 0 a) k sends sends receives receives marks marks
+walked-start {b} {p} {e = e} v l h fresh m idle none =
+    walked-skip idle (doing-as (rw (← h) (doing-none {b = b} {x = e})) (before-none b p)) l
     (none ∙ sym (ap (λ (k : Did). length (k .events)) (before-none b p))) noted-start
-    (marked-on v (fresh .few) (omega arith) (ap (view b) (w .0) ∙ h ∙ sym (ap (λ (k : Did). k .dictionary) (before-none b p))) (marked-none fresh) m) refl
+    (marked-on v (fresh .few) (omega arith) (h ∙ sym (ap (λ (k : Did). k .dictionary) (before-none b p))) (marked-none fresh) m) refl
     (let size = m .size in let few = fresh .few in omega arith) (λ k l. absurd (omega arith))
 
 module _ {b l ps : List ℕ} {p upto i a e : ℕ} {log₀ log out₀ out sends₀ sends receives₀ receives marks₀ marks : List ℕ} {x : Received}
@@ -151,16 +150,16 @@ module _ {b l ps : List ℕ} {p upto i a e : ℕ} {log₀ log out₀ out sends�
 
       -- ---- a step at which it stops is the last
       pub walked-stops : {before : List ℕ} → length marksAfter ≡ length before → (t .number ≡ 0 → ⊥)
-          → Walking b p upto log₀ logAfter a out₀ outAfter sends₀ sendsAfter receives₀ receivesAfter before marksAfter
+          → Walking b p upto (y .dictionary .entries) log₀ logAfter a out₀ outAfter sends₀ sendsAfter receives₀ receivesAfter before marksAfter
           (record { kept = y .dictionary .kept; at = y .at; events = e + more; stop = t })
       walked-stops same z =
           let j = in-book in
           record {
             far = i + 1;
             within = omega arith;
-            entries = y .dictionary .entries;
             next = y .dictionary .next;
             along = further;
+            size = w .size;
             events = counted;
             noted = noted;
             marked = marked;
@@ -198,15 +197,15 @@ module _ {b : List ℕ} {p i a e : ℕ} {log₀ log out₀ out sends₀ sends se
 -- ---- it stopped nowhere
 pub walked-ends : {b : List ℕ} {p upto i a e : ℕ} {log₀ log out₀ out sends₀ sends receives₀ receives marks₀ marks : List ℕ} {x : Received}
     → Walked b p i log₀ log a out₀ out x e sends₀ sends receives₀ receives marks₀ marks → {before : List ℕ} → length marks ≡ length before
-    → upto ≤ i → Walking b p upto log₀ log a out₀ out sends₀ sends receives₀ receives before marks
+    → upto ≤ i → Walking b p upto (x .dictionary .entries) log₀ log a out₀ out sends₀ sends receives₀ receives before marks
     (record { kept = x .dictionary .kept; at = x .at; events = e; stop = nowhere upto })
 walked-ends {i = i} {x = x} g same h =
     record {
       far = i;
       within = g .within;
-      entries = x .dictionary .entries;
       next = x .dictionary .next;
       along = g .along;
+      size = g .size;
       events = g .events;
       noted = g .noted;
       marked = g .marked;

@@ -25,18 +25,18 @@ use Rattle.walking.proofs.Lengths.{ends-at, ends-kept, few-places, few-
 
 module _ {b : List ℕ} (v : Valid b) {p : ℕ} (h : p < parties b) where
   -- ---- measured: the words of the events, two of END, and two for each pair
-  measured-words : {upto : ℕ} {log logAfter out outAfter x xAfter y yAfter z zAfter : List ℕ} {r : Passed}
-      → Walking b p upto log logAfter 0 out outAfter x xAfter y yAfter z zAfter r
+  measured-words : {upto : ℕ} {held log logAfter out outAfter x xAfter y yAfter z zAfter : List ℕ} {r : Passed}
+      → Walking b p upto held log logAfter 0 out outAfter x xAfter y yAfter z zAfter r
       → r .stop .number ≡ 0 → upto ≡ steps b → r .at + 2 + r .kept ≡ length (partWords b p)
-  measured-words {log = log} {logAfter = logAfter} {out = out} {outAfter = outAfter} {r = r} g z e =
-      let w : Along b p (steps b) log logAfter 0 out outAfter (standing (g .entries) (g .next) (r .kept) (r .at)) = rw (g .whole z e) at (g .along) in
+  measured-words {held = held} {log = log} {logAfter = logAfter} {out = out} {outAfter = outAfter} {r = r} g z e =
+      let w : Along b p (steps b) log logAfter 0 out outAfter (standing held (g .next) (r .kept) (r .at)) = rw (g .whole z e) at (g .along) in
       let a = ends-at v p (omega arith) (omega arith) w in
       let k = ends-kept v p (omega arith) w in
       let l = part-length b p h in
       omega arith
 
-  pub measured : {upto : ℕ} {log logAfter out outAfter x xAfter y yAfter z zAfter : List ℕ} {r : Passed}
-      → Walking b p upto log logAfter 0 out outAfter x xAfter y yAfter z zAfter r
+  pub measured : {upto : ℕ} {held log logAfter out outAfter x xAfter y yAfter z zAfter : List ℕ} {r : Passed}
+      → Walking b p upto held log logAfter 0 out outAfter x xAfter y yAfter z zAfter r
       → Measures b p upto x xAfter y yAfter (record { words = r .at + 2 + r .kept; events = r .events; stop = r .stop })
   measured {upto} {x = x} {xAfter = xAfter} {y = y} {yAfter = yAfter} {r = r} g =
       let few = few-places v g in
@@ -62,12 +62,12 @@ module _ {b : List ℕ} (v : Valid b) {p : ℕ} (h : p < parties b) where
       let k = ends-kept v p (omega arith) g in
       ap (λ i. take i logAfter) (k ∙ sym n) ∙ wrote-take (g .keeps) (omega arith)
 
-  pub programmed : {upto : ℕ} {log logAfter out middle between outAfter x xAfter y yAfter z zAfter : List ℕ} {a i m j : ℕ} {r : Passed}
-      → length log ≡ 2048 → upto ≡ steps b → Unrefused b p (steps b) → Walking b p upto log logAfter a out middle x xAfter y yAfter z zAfter r
+  pub programmed : {upto : ℕ} {held log logAfter out middle between outAfter x xAfter y yAfter z zAfter : List ℕ} {a i m j : ℕ} {r : Passed}
+      → length log ≡ 2048 → upto ≡ steps b → Unrefused b p (steps b) → Walking b p upto held log logAfter a out middle x xAfter y yAfter z zAfter r
       → m ≡ r .kept / 2 → Wrote (6 ∷ m ∷ []) middle (r .at) between i
       → Wrote (take (r .kept) logAfter) between i outAfter j → Wrote (partWords b p) out a outAfter j
-  programmed {log = log} {logAfter = logAfter} {out = out} {middle = middle} {a = a} {r = r} l q u g d w f =
-      let t : Along b p (steps b) log logAfter a out middle (standing (g .entries) (g .next) (r .kept) (r .at)) =
+  programmed {held = held} {log = log} {logAfter = logAfter} {out = out} {middle = middle} {a = a} {r = r} l q u g d w f =
+      let t : Along b p (steps b) log logAfter a out middle (standing held (g .next) (r .kept) (r .at)) =
       rw (g .whole (stops-unrefused u (rw q at (g .stops))) q) at (g .along) in
       let k = ends-kept v p (omega arith) t in
       let pairs : r .kept / 2 ≡ length (before b p (steps b) .stored) = omega arith in
@@ -75,8 +75,8 @@ module _ {b : List ℕ} (v : Valid b) {p : ℕ} (h : p < parties b) where
       wrote-as parts (part-words b p h)
 
 -- ---- marked: after each of all steps
-pub marked-whole : {b : List ℕ} {p upto a : ℕ} {log logAfter out outAfter x xAfter y yAfter z zAfter : List ℕ} {r : Passed}
-    → upto ≡ steps b → Unrefused b p (steps b) → Walking b p upto log logAfter a out outAfter x xAfter y yAfter z zAfter r
+pub marked-whole : {b : List ℕ} {p upto a : ℕ} {held log logAfter out outAfter x xAfter y yAfter z zAfter : List ℕ} {r : Passed}
+    → upto ≡ steps b → Unrefused b p (steps b) → Walking b p upto held log logAfter a out outAfter x xAfter y yAfter z zAfter r
     → Marked b p (steps b + 1) zAfter
 marked-whole {b} {p} {zAfter = zAfter} q u g =
     let all = g .whole (stops-unrefused u (rw q at (g .stops))) q in

@@ -66,21 +66,21 @@ abbrev pub Along : List ℕ → ℕ → ℕ → List ℕ → List ℕ → ℕ �
 Along b p i log logAfter a out outAfter y =
     Doing b (before b p i) 0 0 log logAfter a out outAfter (y .dictionary .entries) (y .dictionary .next) (y .dictionary .kept) (y .at)
 
--- party p's walk through the steps before `upto`: the steps that it came through, at most all of them, and where it stopped. x and y are the
--- lists of SENDs and RECEIVEs, m that of marks. Where it looked at all steps and did not stop, it came through all.
-pub record Walking (b : List ℕ) (p upto : ℕ) (log logAfter : List ℕ) (a : ℕ) (out outAfter x xAfter y yAfter m mAfter : List ℕ) (r : Passed) : Type 0
-  where
-    pub far : ℕ
-    pub within : far ≤ steps b
-    pub entries : List ℕ
-    pub next : ℕ
-    pub along : Along b p far log logAfter a out outAfter (standing entries next (r .kept) (r .at))
-    pub events : r .events ≡ length (before b p far .events)
-    pub noted : StepsNoted b p far x xAfter y yAfter
-    pub marked : Marked b p (far + 1) mAfter
-    pub marks-size : length mAfter ≡ length m
-    pub stops : StopsBefore b p upto (r .stop)
-    pub whole : r .stop .number ≡ 0 → upto ≡ steps b → far ≡ steps b
+-- party p's walk through the steps before `upto`: the steps that it came through, at most all of them, what it holds behind them, and where
+-- it stopped. x and y are the lists of SENDs and RECEIVEs, m that of marks. Where it looked at all steps and did not stop, it came through all.
+pub record Walking (b : List ℕ) (p upto : ℕ) (entries log logAfter : List ℕ) (a : ℕ) (out outAfter x xAfter y yAfter m mAfter : List ℕ)
+    (r : Passed) : Type 0 where
+  pub far : ℕ
+  pub within : far ≤ steps b
+  pub next : ℕ
+  pub along : Along b p far log logAfter a out outAfter (standing entries next (r .kept) (r .at))
+  pub size : length entries ≡ 1024
+  pub events : r .events ≡ length (before b p far .events)
+  pub noted : StepsNoted b p far x xAfter y yAfter
+  pub marked : Marked b p (far + 1) mAfter
+  pub marks-size : length mAfter ≡ length m
+  pub stops : StopsBefore b p upto (r .stop)
+  pub whole : r .stop .number ≡ 0 → upto ≡ steps b → far ≡ steps b
 
 -- and what is measured so: of a walk that looked at all steps and did not stop, the program's words and the places of its events
 pub record Measures (b : List ℕ) (p upto : ℕ) (x xAfter y yAfter : List ℕ) (r : Measured) : Type 0 where

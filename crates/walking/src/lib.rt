@@ -1,7 +1,7 @@
 // A party's way through its own steps of a valid book, by the tables of claims and of partners. There is one walk, and it leaves all that
-// can be asked of a party: its events' words, what it stores, where its SENDs and RECEIVEs stand, and since when it holds each row. Who
-// wants less lends less: `measure` counts the words and notes the places, `write_program` writes the words, `since_when` marks the rows.
-// `act` and `next_own` are the walk's parts: one step, and the way to the next.
+// can be asked of a party: what it holds, its events' words, what it stores, where its SENDs and RECEIVEs stand, and since when it holds
+// each row. Who wants less lends less: `measure` counts the words and notes the places, `write_program` writes the words, `since_when`
+// marks the rows. `act` and `next_own` are the walk's parts: one step, and the way to the next.
 use book::ByRow;
 use book::Code;
 use book::Stop;
@@ -14,7 +14,6 @@ use book::step_sender;
 use book::steps;
 use holding::Entry;
 use holding::start;
-use receiving::Dictionary;
 use receiving::receive_messages;
 use sending::send;
 use words::narrow;
@@ -193,13 +192,15 @@ fn mark(entries: &ByRow, word: u32, marks: &mut [u32])
     }
 }
 
-// The steps before `upto`, for one party: its events' words go to `out`, what it stores to `log`, the places of its SENDs and RECEIVEs to
-// `sends` and `receives`, by step, and since when it holds each row to `marks`, which has one more than all steps everywhere before. The
-// walk stops with the first step at which the party would have to make an atom that it can't, for such a book is refused.
+// The steps before `upto`, for one party: what it holds is in `entries`, whatever was there before; its events' words go to `out`, what it
+// stores to `log`, the places of its SENDs and RECEIVEs to `sends` and `receives`, by step, and since when it holds each row to `marks`,
+// which has one more than all steps everywhere before. The walk stops with the first step at which the party would have to make an atom
+// that it can't, for such a book is refused.
 pub fn walk(
     book: &[u32],
     since: &ByRow,
     partners: &ByRow,
+    entries: &mut ByRow,
     party: u32,
     upto: u32,
     log: &mut [u32],
@@ -210,24 +211,23 @@ pub fn walk(
     marks: &mut [u32],
 ) -> Passed
     requires { ⌜ WalkReady (now book) (now since) (now partners) party upto at × Unmarked (now book) (now marks) ⌝ }
-    ensures { λ r. ⌜ Walking (now (book .entry)) party upto (now (log .entry)) (now (log .exit)) at (now (out .entry)) (now (out .exit)) (now (sends .entry)) (now (sends .exit)) (now (receives .entry)) (now (receives .exit)) (now (marks .entry)) (now (marks .exit)) r ⌝ }
+    ensures { λ r. ⌜ Walking (now (book .entry)) party upto (now (entries .exit)) (now (log .entry)) (now (log .exit)) at (now (out .entry)) (now (out .exit)) (now (sends .entry)) (now (sends .exit)) (now (receives .entry)) (now (receives .exit)) (now (marks .entry)) (now (marks .exit)) r ⌝ }
 {
-    let entries = start(book, party);
-    let mut held = Dictionary::new(entries, 0);
-    mark(&held.entries, 0, marks);
+    *entries = start(book, party);
+    mark(entries, 0, marks);
+    let mut next = 0;
+    let mut kept = 0;
     let mut last = at;
     let mut events = 0;
     let mut i = next_own(book, party, 0);
     while i < upto {
-        let next = held.next;
-        let stored = held.kept;
         let acted = act(
             book,
             since,
             partners,
-            &mut held.entries,
+            entries,
             next,
-            stored,
+            kept,
             party,
             i,
             log,
@@ -235,15 +235,15 @@ pub fn walk(
             last,
         );
         note(book, party, i, events + acted.ahead, sends, receives);
-        mark(&held.entries, i + 1, marks);
-        held.next = acted.next;
-        held.kept = acted.kept;
+        mark(entries, i + 1, marks);
+        next = acted.next;
+        kept = acted.kept;
         last = acted.at;
         events += acted.events;
         let stop = acted.stop;
         if stop.number != 0 {
             return Passed {
-                kept: held.kept,
+                kept,
                 at: last,
                 events,
                 stop,
@@ -257,7 +257,7 @@ pub fn walk(
         row: 0,
     };
     Passed {
-        kept: held.kept,
+        kept,
         at: last,
         events,
         stop: nowhere,
@@ -285,6 +285,7 @@ pub fn measure(
     requires { ⌜ WalkReady (now book) (now since) (now partners) party upto 0 ⌝ }
     ensures { λ r. ⌜ Measures (now (book .entry)) party upto (now (sends .entry)) (now (sends .exit)) (now (receives .entry)) (now (receives .exit)) r ⌝ }
 {
+    let mut entries = [0u32; 1024];
     let mut log = [0u32; 1];
     let mut out = [0u32; 1];
     let mut marks = [0u32; 1];
@@ -292,6 +293,7 @@ pub fn measure(
         book,
         since,
         partners,
+        &mut entries,
         party,
         upto,
         &mut log[0..0],
@@ -322,6 +324,7 @@ pub fn write_program(
     requires { ⌜ WalkReady (now book) (now since) (now partners) party (stepsOf (now book)) at × Unrefused (now book) party (stepsOf (now book)) ⌝ }
     ensures { λ r. ⌜ Wrote (partWords (now (book .entry)) party) (now (out .entry)) at (now (out .exit)) r ⌝ }
 {
+    let mut entries = [0u32; 1024];
     let mut log = [0u32; 2048];
     let mut sends = [0u32; 1];
     let mut receives = [0u32; 1];
@@ -330,6 +333,7 @@ pub fn write_program(
         book,
         since,
         partners,
+        &mut entries,
         party,
         steps(book),
         &mut log,
@@ -349,6 +353,7 @@ pub fn since_when(book: &[u32], since: &ByRow, partners: &ByRow, party: u32, mar
     requires { ⌜ WalkReady (now book) (now since) (now partners) party (stepsOf (now book)) 0 × Unrefused (now book) party (stepsOf (now book)) × Unmarked (now book) (now marks) ⌝ }
     ensures { λ r. ⌜ Marked (now (book .entry)) party (stepsOf (now (book .entry)) + 1) (now (marks .exit)) × (length (now (marks .exit)) ≡ length (now (marks .entry))) ⌝ }
 {
+    let mut entries = [0u32; 1024];
     let mut log = [0u32; 1];
     let mut out = [0u32; 1];
     let mut sends = [0u32; 1];
@@ -357,6 +362,7 @@ pub fn since_when(book: &[u32], since: &ByRow, partners: &ByRow, party: u32, mar
         book,
         since,
         partners,
+        &mut entries,
         party,
         steps(book),
         &mut log[0..0],

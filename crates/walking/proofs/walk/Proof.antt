@@ -11,19 +11,22 @@ use Rattle.book.specs.Layout.{steps}
 use Rattle.book.specs.Valid.{Valid}
 use Rattle.book.specs.Headed.Laws.{few-rows, few-steps}
 use Rattle.translation.specs.Long.{mostEvents}
+use Rattle.receiving.specs.Receiving.{standing}
 use Rattle.walking.specs.Walking.{WalkReady}
 use Rattle.walking.proofs.Walked.{Walked, walked-start, in-book, walked-ready, walked-few, acted-log, acted-out, noted-sends, noted-receives, walked-stops, walked-on, walked-ends}
 use Rattle.walking.proofs.walk.Statement.{statement}
 use Rattle.walking.proofs.walk.Tie as tie
 
 abbrev Inv-loop : tie.InvT-loop
-Inv-loop book since partners party upto log₀ out₀ at sends₀ receives₀ marks₀ held₀ last₀ events₀ i₀ log out sends receives marks held last events i =
+Inv-loop book since partners entries₀ party upto log₀ out₀ at sends₀ receives₀ marks₀ next₀ kept₀ last₀
+    events₀ i₀ entries log out sends receives marks next kept last events i =
     WalkReady book since partners party upto at
-    × Walked book party i log₀ log at out₀ out (record { dictionary = held; at = last }) events sends₀ sends receives₀ receives marks₀ marks
+    × Walked book party i log₀ log at out₀ out (standing entries next kept last)
+    events sends₀ sends receives₀ receives marks₀ marks
 
 abbrev μ-loop : tie.MeasureT-loop
-μ-loop book since partners party upto log₀ out₀ at sends₀ receives₀ marks₀ held₀ last₀ events₀ i₀ log out sends receives marks held last events i =
-    upto - i
+μ-loop book since partners entries₀ party upto log₀ out₀ at sends₀ receives₀ marks₀ next₀ kept₀ last₀
+    events₀ i₀ entries log out sends receives marks next kept last events i = upto - i
 
 -- a place or a need of `walk`, by its name
 abbrev in-walk : (tie.InvT-loop → tie.MeasureT-loop → Type 0) → Type 0
@@ -33,12 +36,11 @@ in-walk P = P Inv-loop μ-loop
 loop-holds : in-walk tie.Need-loop-holds
 loop-holds c =
     let after-mark : in-walk tie.After-mark = search in
-    let after-new : in-walk tie.After-new = search in
     let after-start : in-walk tie.After-start = search in
     let start : in-walk tie.Start = search in
     let (ready, fresh) = start .pre in (
       ready,
-      walked-start (ready .valid) (search needs) (after-start .start .ensures) (after-new .new .ensures) fresh
+      walked-start (ready .valid) (search needs) (after-start .start .ensures) fresh
           (after-mark .mark .ensures) (c .next-own .ensures) refl,
     )
 
@@ -160,7 +162,6 @@ walk-spec =
     Inv-loop
     μ-loop
     (λ c κs. search needs)  -- start-requires
-    (λ c κs. search needs)  -- new-requires
     (λ c κs. let start : in-walk tie.Start = search in omega (arith, few-rows))  -- mark-requires
     (λ c κs. search needs)  -- next-own-requires
     loop-holds

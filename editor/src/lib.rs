@@ -13,7 +13,7 @@
 //! let book = std::fs::read("../books/example-1.book").expect("a book");
 //!
 //! let listing = nghiralum::listing(&book).expect("it can be played");
-//! assert_eq!(listing.len(), 4 * 51);
+//! assert_eq!(listing.len(), 4 * 52);
 //! assert_eq!(listing[..4], 2u32.to_le_bytes()); // two parties
 //!
 //! // Two moves by party 1, then one by party 0.
@@ -185,8 +185,8 @@ pub fn held_after(summary: &[u8], party: u32, row: u32, step: u32) -> Result<boo
 
 /// The listing of a book, in as many bytes as it has.
 ///
-/// The length is asked for first, through refusal 12, so the book is gone through twice. The longest listing of all has
-/// 33,558,593 words, some 134 MB.
+/// The length is asked for first, through refusal 12, so the book is gone through twice. No listing has more
+/// than 16,830,529 words, some 67 MB.
 ///
 /// # Errors
 ///
@@ -197,7 +197,7 @@ pub fn held_after(summary: &[u8], party: u32, row: u32, step: u32) -> Result<boo
 /// let words: Vec<u32> = (nghiralum::listing(&book).expect("a listing").chunks_exact(4))
 ///     .map(|word| u32::from_le_bytes([word[0], word[1], word[2], word[3]]))
 ///     .collect();
-/// assert_eq!(words[..5], [2, 5, 19, 24, 27]); // two parties: 19 words from word 5, 27 words from word 24
+/// assert_eq!(words[..5], [2, 5, 20, 25, 27]); // two parties: 20 words from word 5, 27 words from word 25
 /// ```
 pub fn listing(book: &[u8]) -> Result<Vec<u8>, Refusal> {
     whole(|out| translate(book, out))

@@ -87,12 +87,12 @@ fn every_book_of_the_shelf() {
 fn room_exact_and_short_with_spare_bytes() {
     let book = book("example-1.book");
     let listing = listing(&book).expect("a listing");
-    assert_eq!(listing.len(), 204);
+    assert_eq!(listing.len(), 208);
     for room in 0..=listing.len() + 9 {
         let mut out = vec![MARK; room];
         let answer = translate(&book, &mut out);
         if room < listing.len() {
-            assert_eq!(refused(answer), (12, 51, None));
+            assert_eq!(refused(answer), (12, 52, None));
             assert!(out.iter().all(|byte| *byte == MARK));
         } else {
             assert_eq!(answer, Ok(listing.len()));
@@ -205,8 +205,8 @@ fn questions_that_are_refused() {
     assert_eq!(refused(held_after(&bytes(&[0, 7, 3]), 4, 0, 0)), (21, 4, None));
 }
 
-/// Every book has a summary or the refusal that its listing has. A row that END names, or that is made, is held from a
-/// step on, and nothing else is but what a party knows.
+/// Every book has a summary or the refusal that its listing has. A row that END names is held from the step on that END
+/// tells, and from the start on what a party knows.
 #[test]
 fn summaries_of_the_shelf() {
     let mut longest = 0;
@@ -231,18 +231,14 @@ fn summaries_of_the_shelf() {
             let known = &book[known][..book[record + 2] as usize];
             let given = (0..rows as u32).filter(|row| own[*row as usize] == 0);
             assert!(given.eq(known.iter().copied()), "{}, party {party}", file.display());
-            // The last of a part are END's pairs.
+            // The last of a part are END's triples of row, placeholder, step.
             let (offset, count) = (listing[1 + 2 * party] as usize, listing[2 + 2 * party] as usize);
             let part = &listing[offset..offset + count];
             let later = own.iter().filter(|word| (1..=steps as u32).contains(*word)).count();
-            let stored = (0..=later).find(|pairs| part[..count - 2 * pairs].ends_with(&[6, *pairs as u32]));
+            let stored = (0..=later).find(|stored| part[..count - 3 * stored].ends_with(&[6, *stored as u32]));
             let stored = stored.expect("no more are stored than are held");
-            for pair in part[count - 2 * stored..].chunks_exact(2) {
-                assert!(
-                    (1..=steps as u32).contains(&own[pair[0] as usize]),
-                    "{}",
-                    file.display()
-                );
+            for triple in part[count - 3 * stored..].chunks_exact(3) {
+                assert_eq!(own[triple[0] as usize], triple[2] + 1, "{}", file.display());
             }
         }
         longest = longest.max(summary.len());

@@ -18,6 +18,7 @@ host rehearse FILE SCHEDULE             play a book under a schedule (a file of 
 host narrate FILE [OUT]                 turn a narration into a book
 host show FILE                          tell what a book says
 host summary FILE                       tell since when each party has held each row of a book
+host sources FILE                       tell how each party knows each row of a book: given, made or stored, and when
 host words FILE [OUT]                   turn decimal words (# to the line's end is a remark) into a book
 host books [--check] DIR                write (or only check) the files derived in a folder of books
 host shelf [--check] BOOKS CRATE        write (or only check) what the program shelf reads and prints
@@ -90,6 +91,10 @@ fn run(arguments: &[String]) -> Result<bool, String> {
         }
         ["show", file] => match words::of_bytes(&first_words(file, book::READ)?) {
             Ok(words) => say(&ended(show::show(&words)))?,
+            Err(refusal) => say(&format!("{refusal}\n"))?,
+        },
+        ["sources", file] => match words::of_bytes(&first_words(file, book::READ)?) {
+            Ok(words) => say(&ended(show::sources(&words).unwrap_or_else(|_| show::show(&words))))?,
             Err(refusal) => say(&format!("{refusal}\n"))?,
         },
         ["summary", file] => {

@@ -1,14 +1,14 @@
 //! Prints a book back: as a narration that narrates to the very same book, with each party's program
-//! under it in comments; or, if the book is refused by 1 to 9, its raw words, all in comments. And its summary, a table.
+//! under it in comments; or, if the book is refused by 1 to 9, its raw words, all in comments. And its tables.
 
 mod events;
 mod order;
 mod raw;
-mod summary;
+mod tables;
 mod texts;
 mod why;
 
-pub use summary::summary;
+pub use tables::{sources, summary};
 
 use crate::book::{self, Book, Party, Refusal, Step, Stop, Unmade};
 use crate::translate;

@@ -1,8 +1,8 @@
 //! Who knew what, when (document 02, request 4): the summary of a book, and questions that are answered from a summary
 //! alone (refusals 20 and 21). Beside them stands the answer of the full walk, which makes no summary.
 
-use crate::book::{self, Book, Refusal, Step};
-use crate::translate::{self, Translation};
+use crate::book::{self, Book, Refusal};
+use crate::translate::{self, Source, Translation};
 
 /// The words before the first party's: Q, T and L.
 pub const HEAD: usize = 3;
@@ -16,36 +16,25 @@ pub fn write(words: &[u32], out: &mut [u32]) -> Result<usize, Refusal> {
     translate::lend(&of(&book::read(words)?)?, out)
 }
 
-/// The summary of a book that keeps its rules, or the refusal where the walk stops: "Q, T, L, then for each party and row 0 if given at the
-/// start, s+1 if first in the dictionary after step s, L+1 if never".
+/// The summary of a book that keeps its rules, or the refusal where the walk stops: "Q, T, L, then for each party and row
+/// 0 if given at the start, s+1 if first in the dictionary after step s, L+1 if never". How the row is known tells it.
 pub fn of(book: &Book) -> Result<Vec<u32>, Refusal> {
-    let counts = [book.parties.len(), book.rows.len(), book.steps.len()];
-    let [parties, rows, steps] = counts;
-    let never = steps as u32 + 1;
-    let mut words: Vec<u32> = counts.iter().map(|count| *count as u32).collect();
-    words.resize(HEAD + parties * rows, never);
-    let mut enter = |walk: &Translation, party: u32, word: u32| {
-        let dictionary = walk.dictionary(party);
-        let own = words[HEAD + party as usize * rows..].iter_mut();
-        for (first, term) in own.zip(&walk.terms) {
-            if *first == never && dictionary.holds(term) {
-                *first = word;
-            }
-        }
+    let walk = Translation::whole(book)?;
+    let [parties, rows, steps] = counts(book);
+    let word = |source: Option<Source>| match source {
+        Some(Source::Given) => START,
+        Some(Source::Made { step } | Source::Stored { step, .. }) => step + 1,
+        None => steps + 1,
     };
-
-    let mut walk = Translation::start(book);
-    for party in 0..parties as u32 {
-        enter(&walk, party, START);
-    }
-    for (step, word) in book.steps.iter().zip(1..) {
-        walk.step(step)?;
-        // "A party that is neither sender nor receiver does nothing."
-        let Step { sender, receiver, .. } = step;
-        enter(&walk, *sender, word);
-        enter(&walk, *receiver, word);
+    let mut words = vec![parties, rows, steps];
+    for party in 0..parties {
+        words.extend((0..rows).map(|row| word(walk.source(party, row))));
     }
     Ok(words)
+}
+
+fn counts(book: &Book) -> [u32; HEAD] {
+    [book.parties.len(), book.rows.len(), book.steps.len()].map(|count| count as u32)
 }
 
 /// Whether the party held the row after the step, "answered from the summary alone: yes exactly if the word is at most
@@ -77,11 +66,11 @@ fn in_range(numbers: [(u32, u32); 3]) -> Result<(), Refusal> {
 /// book that can't be played has none, whatever is asked.
 pub fn held_after(book: &Book, party: u32, row: u32, step: u32) -> Result<bool, Refusal> {
     translate::programs(book)?;
-    let counts = [book.parties.len(), book.rows.len(), book.steps.len()].map(|count| count as u32);
-    in_range([(party, counts[0]), (row, counts[1]), (step, counts[2])])?;
+    let [parties, rows, steps] = counts(book);
+    in_range([(party, parties), (row, rows), (step, steps)])?;
     let mut walk = Translation::start(book);
     for done in &book.steps[..=step as usize] {
         walk.step(done)?;
     }
-    Ok(walk.dictionary(party).holds(&walk.terms[row as usize]))
+    Ok(walk.source(party, row).is_some())
 }

@@ -1,6 +1,6 @@
-//! The translation of figure 3 as document 01 reads it, with document 02's order of receiving and its parties that make
-//! nothing: one program per party (refusals 10, 13 and 12), the listing's words, and the line that the small program
-//! prints.
+//! The translation of figure 3 as document 01 reads it, with document 02's order of receiving, its parties that make
+//! nothing and its sources: how each party knows each row, one program per party (refusals 10, 13 and 12), the listing's
+//! words, and the line that the small program prints.
 
 use crate::book::{self, Book, Refusal, Step, Stop, Unmade, READ};
 use crate::term::{Form, Shared, SharedMap, SharedSet};
@@ -44,33 +44,60 @@ pub enum Event {
         n: u32,
         key: Image,
     },
-    /// The stored rows with their placeholders, in the order of storing.
+    /// "Triples of row, placeholder, step": all stored rows, in the order of storing.
     End {
-        stored: Vec<(u32, u32)>,
+        stored: Vec<[u32; 3]>,
     },
 }
 
 /// One party's events, END last.
 pub type Program = Vec<Event>;
 
-/// What a party holds: "for each party a dictionary sends rows to images". The rows are there as
+/// How a row is known: "given at the start, made at step s, or stored at step s", and then as a placeholder.
+#[derive(Clone, Copy, PartialEq, Eq, Debug)]
+pub enum Source {
+    Given,
+    Made { step: u32 },
+    Stored { step: u32, placeholder: u32 },
+}
+
+impl Source {
+    /// The image of a row that is known so.
+    pub fn image(self, row: u32) -> Image {
+        match self {
+            Source::Given | Source::Made { .. } => Image::Itself(row),
+            Source::Stored { placeholder, .. } => Image::Placeholder(placeholder),
+        }
+    }
+}
+
+/// What a party holds: "for each party a dictionary sends rows to images", by how they are known. The rows are there as
 /// their terms, which comes to the same, as equal terms have equal row numbers.
 #[derive(Clone, Default)]
 pub struct Dictionary {
-    images: SharedMap<Image>,
+    entries: SharedMap<(u32, Source)>,
 }
 
 impl Dictionary {
-    /// Whether the term is in it, which is more than that it could be built.
-    pub fn holds(&self, term: &Shared) -> bool {
-        self.images.contains_key(term)
+    /// How the term is known; nothing if it isn't in the dictionary, even if it could be built.
+    pub fn source(&self, term: &Shared) -> Option<Source> {
+        self.entries.get(term).map(|(_, source)| *source)
+    }
+
+    fn entry(&self, term: &Shared) -> Option<Image> {
+        self.entries.get(term).map(|(row, source)| source.image(*row))
+    }
+
+    /// The first source stays.
+    fn enter(&mut self, term: &Shared, row: u32, source: Source) {
+        self.entries.entry(term.clone()).or_insert((row, source));
     }
 
     /// The image of a buildable term; nothing if it isn't buildable. "The row is in the dictionary;
     /// or it isn't an atom and all its parts are buildable."
     pub fn image(&self, term: &Shared) -> Option<Image> {
-        if let Some(entry) = self.images.get(term) {
-            return Some(entry.clone());
+        if let Some(entry) = self.entry(term) {
+            return Some(entry);
         }
         let all = |parts: &[Shared]| -> Option<Vec<Image>> { parts.iter().map(|part| self.image(part)).collect() };
         Some(match term.form() {
@@ -92,7 +119,7 @@ impl Dictionary {
 
     /// Of the atoms that sending a term would make, what is said of the first of which anything is, in building order.
     fn first_made<T>(&self, term: &Shared, said: &impl Fn(&Shared) -> Option<T>) -> Option<T> {
-        if self.holds(term) {
+        if self.source(term).is_some() {
             return None;
         }
         match term.form() {
@@ -107,10 +134,12 @@ struct Side {
     dictionary: Dictionary,
     /// Whether it may make atoms.
     makes: bool,
+    /// The step that it is in.
+    step: u32,
     /// "A party's placeholders count from 0": the next one.
     next: u32,
     events: Program,
-    stored: Vec<(u32, u32)>,
+    stored: Vec<[u32; 3]>,
 }
 
 impl Side {
@@ -125,8 +154,8 @@ impl Side {
     fn build(&mut self, term: &Shared, taken: &Taken) -> Result<Image, (Unmade, u32)> {
         // "A row in the dictionary gives its entry. Else parts first, a cipher's key before its
         // contents."
-        if let Some(entry) = self.dictionary.images.get(term) {
-            return Ok(entry.clone());
+        if let Some(entry) = self.dictionary.entry(term) {
+            return Ok(entry);
         }
         Ok(match term.form() {
             Form::Atom(row) => self.make(*row, term, taken)?,
@@ -150,9 +179,9 @@ impl Side {
             return Err((why, row));
         }
         self.events.push(Event::New { row });
-        let images = &mut self.dictionary.images;
-        images.insert(atom.clone(), Image::Itself(row));
-        Ok(Image::Itself(row))
+        let source = Source::Made { step: self.step };
+        self.dictionary.enter(atom, row, source);
+        Ok(source.image(row))
     }
 
     /// What keeps the party from making an atom that it lacks: "10 if it is taken and else 13".
@@ -180,9 +209,9 @@ impl Side {
             } else if let Some(image) = self.dictionary.image(term) {
                 self.events.push(Event::Check { placeholder, image });
             } else {
-                self.stored.push((rows[term], placeholder));
-                let images = &mut self.dictionary.images;
-                images.insert(term.clone(), Image::Placeholder(placeholder));
+                let (row, step) = (rows[term], self.step);
+                self.stored.push([row, placeholder, step]);
+                self.dictionary.enter(term, row, Source::Stored { step, placeholder });
             }
         }
     }
@@ -229,12 +258,12 @@ impl Translation {
             for row in &party.known {
                 let term = &terms[*row as usize];
                 taken.add(term);
-                let images = &mut dictionary.images;
-                images.insert(term.clone(), Image::Itself(*row));
+                dictionary.enter(term, *row, Source::Given);
             }
             sides.push(Side {
                 dictionary,
                 makes: party.makes,
+                step: 0,
                 next: 0,
                 events: Vec::new(),
                 stored: Vec::new(),
@@ -249,9 +278,24 @@ impl Translation {
         }
     }
 
+    /// After the last step, or where the walk stops, "at the first atom that can't be made": the steps are gone through
+    /// in order, so that is at the smallest step.
+    pub fn whole(book: &Book) -> Result<Translation, Stop> {
+        let mut translation = Translation::start(book);
+        for step in &book.steps {
+            translation.step(step)?;
+        }
+        Ok(translation)
+    }
+
     /// What a party holds by now.
     pub fn dictionary(&self, party: u32) -> &Dictionary {
         &self.sides[party as usize].dictionary
+    }
+
+    /// How a party knows a row by now.
+    pub fn source(&self, party: u32, row: u32) -> Option<Source> {
+        self.dictionary(party).source(&self.terms[row as usize])
     }
 
     /// Why a party can't send a term at the next step; nothing if it can.
@@ -268,11 +312,13 @@ impl Translation {
         let messages: Vec<Shared> = step.messages.iter().map(message).collect();
 
         let sender = &mut self.sides[step.sender as usize];
+        sender.step = number;
         let stop = |(why, row)| Stop { why, step: number, row };
         let images = sender.build_all(&messages, &self.taken).map_err(stop)?;
         sender.events.push(Event::Send { step: number, images });
 
         let receiver = &mut self.sides[step.receiver as usize];
+        receiver.step = number;
         let first = receiver.placeholders(messages.len());
         receiver.events.push(Event::Receive {
             step: number,
@@ -296,14 +342,9 @@ impl Translation {
     }
 }
 
-/// One program per party of a book that keeps its rules, or where the walk stops, "at the first atom that can't be made":
-/// the steps are gone through in order, so that is at the smallest step.
+/// One program per party of a book that keeps its rules, or where the walk stops.
 pub fn walk(book: &Book) -> Result<Vec<Program>, Stop> {
-    let mut translation = Translation::start(book);
-    for step in &book.steps {
-        translation.step(step)?;
-    }
-    Ok(translation.end())
+    Ok(Translation::whole(book)?.end())
 }
 
 /// The same, with the refusal where the walk stops.
@@ -352,8 +393,7 @@ impl Event {
             }
             Event::End { stored } => {
                 words.extend([6, stored.len() as u32]);
-                let pairs = stored.iter().flat_map(|(row, holder)| [*row, *holder]);
-                words.extend(pairs);
+                words.extend(stored.as_flattened());
             }
         }
     }

@@ -37,6 +37,7 @@ fn the_folder_is_current() {
 
 /// Books that can't be played, or not by the small program, and don't say so in their names.
 const REFUSED: &[(&str, &str)] = &[
+    ("full-placeholders", "refused 12 991722"),
     ("listing-too-long", "refused 12 16385"),
     ("protocol-beta-other-form", "refused 10 2 7"),
     ("sts-one-form", "refused 10 2 16"),
@@ -124,27 +125,28 @@ fn marks_are_in_no_program() {
     assert_eq!(marked, 8);
 }
 
-/// Document 01's trials, word for word, and document 02's: those of its order of receiving, and of its marks.
+/// Document 01's trials, word for word, and document 02's: those of its order of receiving, of its marks, and of END's
+/// steps.
 const TRIALS: &[(&str, &str)] = &[
     ("trial-smallest", "1 3 2 6 0"),
     (
         "example-1",
-        "2 5 19 24 27 3 0 0 1 2 1 1 3 2 0 2 1 0 0 1 6 1 3 0 \
+        "2 5 20 25 27 3 0 0 1 2 1 1 3 2 0 2 1 0 0 1 6 1 3 0 0 \
          1 3 2 0 1 0 3 3 1 0 1 5 0 1 2 0 2 4 1 0 3 4 2 0 1 6 0",
     ),
     ("unplayable-unopened-nonce", "refused 10 1 3"),
-    ("trial-public-half", "2 5 10 15 8 1 2 2 0 1 4 0 2 6 0 3 0 0 1 6 1 3 0"),
+    ("trial-public-half", "2 5 10 15 9 1 2 2 0 1 4 0 2 6 0 3 0 0 1 6 1 3 0 0"),
     (
         "trial-partner-no-row",
-        "2 5 15 20 13 3 0 0 1 5 0 1 1 5 0 1 6 1 4 1 1 4 2 0 1 3 1 0 3 0 4 6 0",
+        "2 5 16 21 13 3 0 0 1 5 0 1 1 5 0 1 6 1 4 1 0 1 4 2 0 1 3 1 0 3 0 4 6 0",
     ),
     (
         "trial-stored-operation",
-        "2 5 12 17 8 1 2 2 0 1 2 0 1 0 2 6 0 3 0 0 1 6 1 3 0",
+        "2 5 12 17 9 1 2 2 0 1 2 0 1 0 2 6 0 3 0 0 1 6 1 3 0 0",
     ),
     (
         "trial-sent-on",
-        "3 7 12 19 13 32 8 1 3 2 0 1 2 0 1 0 3 6 0 3 0 0 1 2 1 1 1 0 6 1 4 0 3 1 0 1 6 1 4 0",
+        "3 7 12 19 14 33 9 1 3 2 0 1 2 0 1 0 3 6 0 3 0 0 1 2 1 1 1 0 6 1 4 0 0 3 1 0 1 6 1 4 0 1",
     ),
     ("trial-sending-n-itself", "refused 10 1 2"),
     ("trial-no-messages", "2 5 5 10 6 2 0 0 6 0 3 0 0 0 6 0"),
@@ -153,14 +155,33 @@ const TRIALS: &[(&str, &str)] = &[
     ("refusal-5", "refused 5 1023"),
     (
         "trial-taught-nonce",
-        "2 5 37 42 31 1 2 1 3 2 0 1 3 1 0 2 0 3 2 1 1 0 2 2 2 1 3 1 0 2 0 3 3 3 0 1 4 0 0 3 6 0 \
-         3 0 0 1 3 1 1 1 3 2 2 1 5 2 3 1 1 1 2 3 1 1 3 6 3 4 0 2 1 3 3",
+        "2 5 37 42 34 1 2 1 3 2 0 1 3 1 0 2 0 3 2 1 1 0 2 2 2 1 3 1 0 2 0 3 3 3 0 1 4 0 0 3 6 0 \
+         3 0 0 1 3 1 1 1 3 2 2 1 5 2 3 1 1 1 2 3 1 1 3 6 3 4 0 0 2 1 1 3 3 2",
     ),
     ("unplayable-taught-key", "refused 10 4 3"),
     (
         "trial-makes-nothing",
-        "2 5 43 48 30 1 3 2 0 1 0 3 3 1 0 3 5 0 3 2 0 2 4 3 0 3 4 4 0 1 4 1 2 0 1 0 3 4 2 2 0 0 3 2 5 0 6 0 \
-         3 0 0 1 2 1 3 3 2 0 2 1 0 0 1 2 0 1 1 0 2 0 0 2 2 0 6 1 3 0",
+        "2 5 43 48 31 1 3 2 0 1 0 3 3 1 0 3 5 0 3 2 0 2 4 3 0 3 4 4 0 1 4 1 2 0 1 0 3 4 2 2 0 0 3 2 5 0 6 0 \
+         3 0 0 1 2 1 3 3 2 0 2 1 0 0 1 2 0 1 1 0 2 0 0 2 2 0 6 1 3 0 0",
+    ),
+    (
+        "trial-end-steps",
+        "2 5 53 58 55 1 3 2 0 2 2 0 1 0 3 0 3 3 1 0 1 1 6 1 8 1 10 2 2 2 3 2 0 1 3 1 0 1 0 6 0 8 0 10 \
+         1 11 2 3 2 0 3 0 11 6 1 5 0 1 \
+         3 0 0 2 1 5 2 1 1 0 5 3 2 2 2 5 2 4 2 0 1 5 4 6 1 0 1 3 3 7 2 4 7 1 1 \
+         6 6 4 0 0 3 1 0 6 6 2 8 5 2 10 3 2 11 8 3",
+    ),
+    (
+        "trial-given-and-received",
+        "2 5 22 27 30 2 0 3 0 1 0 3 0 6 3 1 0 2 4 1 0 6 6 1 5 0 1 \
+         3 0 0 3 4 0 0 1 4 1 0 3 5 2 3 1 0 4 2 1 2 1 3 0 6 6 1 5 3 0",
+    ),
+    (
+        "trial-made-and-received",
+        "2 5 59 64 60 1 3 2 0 1 3 1 0 1 0 3 3 1 0 2 4 0 0 3 4 1 2 0 1 0 3 2 2 1 3 1 0 1 0 3 \
+         3 3 2 1 5 2 3 2 0 1 4 3 0 3 2 4 1 1 4 6 1 6 4 3 \
+         3 0 0 1 5 0 1 1 0 1 2 1 2 1 1 2 0 1 1 1 3 2 2 1 5 2 3 1 0 1 4 3 1 1 \
+         1 6 2 3 1 3 2 0 1 1 1 0 6 3 4 4 1 4 4 0 6 6 1 3 1 0",
     ),
     ("unplayable-maker", "refused 13 0 3"),
     ("unplayable-maker-then-taken", "refused 13 0 3"),
@@ -173,19 +194,19 @@ const TRIALS: &[(&str, &str)] = &[
     ("refusal-3-longest-and-one", "refused 3 8"),
     (
         "trial-empty-cipher",
-        "3 7 24 31 18 49 10 2 0 2 3 0 0 2 3 0 0 3 2 1 2 3 0 0 2 3 0 0 3 6 0 \
-         3 0 0 2 5 0 2 0 0 5 5 1 2 0 0 3 6 0 3 1 0 2 6 2 7 0 8 1",
+        "3 7 24 31 18 49 12 2 0 2 3 0 0 2 3 0 0 3 2 1 2 3 0 0 2 3 0 0 3 6 0 \
+         3 0 0 2 5 0 2 0 0 5 5 1 2 0 0 3 6 0 3 1 0 2 6 2 7 0 1 8 1 1",
     ),
     (
         "trial-open-before-compare",
-        "2 5 27 32 38 1 5 2 0 3 3 1 0 1 0 2 3 2 0 1 0 2 0 5 3 1 0 1 0 5 6 0 \
-         3 0 0 3 5 0 3 1 0 1 4 3 0 2 5 1 4 2 0 1 4 4 0 2 5 2 6 1 0 1 4 6 1 5 6 1 5 5",
+        "2 5 27 32 39 1 5 2 0 3 3 1 0 1 0 2 3 2 0 1 0 2 0 5 3 1 0 1 0 5 6 0 \
+         3 0 0 3 5 0 3 1 0 1 4 3 0 2 5 1 4 2 0 1 4 4 0 2 5 2 6 1 0 1 4 6 1 5 6 1 5 5 0",
     ),
     (
         "trial-compared-cipher",
-        "3 7 36 43 20 63 16 \
+        "3 7 36 43 21 64 16 \
          1 8 1 9 2 0 3 3 1 0 2 0 3 3 1 0 8 0 9 3 1 0 8 0 9 2 1 1 3 1 0 2 0 3 6 0 \
-         3 0 0 3 4 0 3 1 0 2 0 3 4 2 1 1 6 1 10 1 3 1 0 1 5 0 1 1 0 6 4 1 0 3 6 0",
+         3 0 0 3 4 0 3 1 0 2 0 3 4 2 1 1 6 1 10 1 0 3 1 0 1 5 0 1 1 0 6 4 1 0 3 6 0",
     ),
 ];
 

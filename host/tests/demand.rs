@@ -153,7 +153,7 @@ fn play(book: &Book, programs: &[Program], random: &mut Random) -> Result<usize,
     // END names what is held: each stored row's own term at its placeholder.
     for (program, player) in programs.iter().zip(&machine.players) {
         if let Some(Event::End { stored }) = program.last() {
-            for (row, placeholder) in stored {
+            for [row, placeholder, _] in stored {
                 if player.bound.get(placeholder) != Some(&book.term(*row)) {
                     return Err(format!("row {row} isn't at {placeholder}"));
                 }
@@ -267,7 +267,7 @@ fn check(placeholder: u32, image: Image) -> Event {
     Event::Check { placeholder, image }
 }
 
-fn end(stored: &[(u32, u32)]) -> Event {
+fn end(stored: &[[u32; 3]]) -> Event {
     Event::End {
         stored: stored.to_vec(),
     }
@@ -308,7 +308,7 @@ fn wrong_by_making_what_is_missing() {
         receive(0, 0, 1),
         Event::New { row: 3 },
         send(1, itself(3)),
-        end(&[(5, 0)]),
+        end(&[[5, 0, 0]]),
     ];
     let programs = [a, b];
     assert_eq!(&broken(&book, &programs)[..2], "c:");
@@ -332,7 +332,7 @@ fn wrong_by_comparing_rows() {
     // Were it let in, the terms would be equal, so B compares; row against row, B would store.
     let programs = translate::programs(&book).expect("all is known");
     let right = vec![receive(0, 0, 1), check(0, itself(5)), end(&[])];
-    let wrong = vec![receive(0, 0, 1), end(&[(6, 0)])];
+    let wrong = vec![receive(0, 0, 1), end(&[[6, 0, 0]])];
     assert_eq!(programs[1], right);
     assert_ne!(translate::listing(&[right]), translate::listing(&[wrong]));
     assert!(play(&book, &programs, &mut Random::new(6)).is_ok());
@@ -376,7 +376,7 @@ fn wrong_by_testing_taken_per_party() {
         check(0, itself(3)),
         end(&[]),
     ];
-    let b = vec![receive(0, 0, 1), end(&[(3, 0)])];
+    let b = vec![receive(0, 0, 1), end(&[[3, 0, 0]])];
     let c = vec![new, send(1, itself(3)), end(&[])];
     let told = broken(&book, &[a, b, c]);
     assert!(["b:", "c:"].contains(&&told[..2]), "{told}");
@@ -386,7 +386,7 @@ fn wrong_by_testing_taken_per_party() {
     let refusal = translate::programs(&book).expect_err("row 3 is taken");
     assert_eq!((refusal.number, refusal.place), (10, vec![0, 3]));
     let a = vec![Event::New { row: 3 }, send(0, itself(3)), end(&[])];
-    let b = vec![receive(0, 0, 1), end(&[(3, 0)])];
+    let b = vec![receive(0, 0, 1), end(&[[3, 0, 0]])];
     let told = broken(&book, &[a, b, vec![end(&[])]]);
     assert!(["b:", "c:"].contains(&&told[..2]), "{told}");
 }

@@ -1,10 +1,10 @@
 //! The worked examples of source 000: the listings of books/example-1 to example-4 are the processes printed there, word
-//! by word, with document 01's two corrections; and so is that of section 5's request, but for one pair.
+//! by word, with document 01's two corrections; and so is that of section 5's request, but for one stored row.
 //!
 //! Every line has a piece of a printed process and, beside it, the event that document 01's layout makes of it. `^chan_B`
 //! is printed with a line over it, `new` as a Greek letter, and the map of an `After` above it. A variable that a process
 //! binds is a placeholder, numbered in the order of binding, each party's from 0. Where a process names the channel of the
-//! receiver, a listing names the step, from 0. An `After` is END.
+//! receiver, a listing names the step, from 0. An `After` is END, each variable with the step in which it came (document 02).
 
 mod common;
 
@@ -80,7 +80,7 @@ fn example_1() {
             "^chan_B<{x, B}K_AB>.",
             vec![SEND, 1, 1, CIPHER, 2, ROW, K, VAR, x, ROW, B],
         ),
-        ("After_A, N_B -> x", vec![END, 1, N, x]),
+        ("After_A, N_B -> x", vec![END, 1, N, x, 0]),
     ];
     let [y, z1, z2] = [0, 1, 2];
     let b = [
@@ -92,7 +92,7 @@ fn example_1() {
         ("if z2 = B then", vec![CHECK, z2, ROW, B]),
         ("After_B, nothing", vec![END, 0]),
     ];
-    is_printed("example-1", &book, &[&a, &b], 51);
+    is_printed("example-1", &book, &[&a, &b], 52);
 }
 
 /// The Needham-Schroeder public-key protocol. "Read the private half of K_A in A's knowledge, in place of that of K_B:
@@ -146,7 +146,7 @@ fn example_2() {
             "^chan_B<{y2}K_B+>.",
             vec![SEND, 2, 1, CIPHER, 1, ROW, KB_PUBLIC, VAR, y2],
         ),
-        ("After_A, N_B -> y2", vec![END, 1, NB, y2]),
+        ("After_A, N_B -> y2", vec![END, 1, NB, y2, 1]),
     ];
     let [x, x1, x2, z, z1] = [0, 1, 2, 3, 4];
     let b = [
@@ -161,9 +161,9 @@ fn example_2() {
         ("chan_B(z).", vec![RECEIVE, 2, z, 1]),
         ("case z of {z1}K_B- in", vec![OPEN, z, z1, 1, ROW, KB_PRIVATE]),
         ("if z1 = N_B then", vec![CHECK, z1, ROW, NB]),
-        ("After_B, N_A -> x1", vec![END, 1, NA, x1]),
+        ("After_B, N_A -> x1", vec![END, 1, NA, x1, 0]),
     ];
-    is_printed("example-2", &book, &[&a, &b], 90);
+    is_printed("example-2", &book, &[&a, &b], 92);
 
     // With the knowledge as it is printed A couldn't open the answer, and would have to make N_B.
     let mut uncorrected = book;
@@ -229,7 +229,7 @@ fn example_3() {
         ("case w of {w1, w2}K_AB in", vec![OPEN, w, w1, 2, ROW, K]),
         (
             "After_A, N_B -> y2, K'_AB -> w1, N'_B -> w2",
-            vec![END, 3, NB, y2, K2, w1, N2, w2],
+            vec![END, 3, NB, y2, 1, K2, w1, 3, N2, w2, 3],
         ),
     ];
     let [x1, x2, x3, z, z1] = [0, 1, 2, 3, 4];
@@ -251,9 +251,9 @@ fn example_3() {
             "^chan_A<{K'_AB, N'_B}K_AB>.",
             vec![SEND, 3, 1, CIPHER, 2, ROW, K, ROW, K2, ROW, N2],
         ),
-        ("After_B, N_A -> z1, read x3", vec![END, 1, NA, x3]),
+        ("After_B, N_A -> z1, read x3", vec![END, 1, NA, x3, 0]),
     ];
-    is_printed("example-3", &book, &[&a, &b], 131);
+    is_printed("example-3", &book, &[&a, &b], 135);
 }
 
 /// Woo and Lam's protocol Pi.
@@ -291,7 +291,7 @@ fn example_4() {
         ("^chan_B<A>.", vec![SEND, 0, 1, ROW, A]),
         ("chan_A(y).", vec![RECEIVE, 1, y, 1]),
         ("^chan_B<{y}K_AS>.", vec![SEND, 2, 1, CIPHER, 1, ROW, KAS, VAR, y]),
-        ("After_A, N_B -> y", vec![END, 1, NB, y]),
+        ("After_A, N_B -> y", vec![END, 1, NB, y, 1]),
     ];
     let [x, z, u, u1] = [0, 1, 2, 3];
     let b = [
@@ -307,7 +307,7 @@ fn example_4() {
         ("chan_B(u).", vec![RECEIVE, 4, u, 1]),
         ("case u of {u1}K_BS in", vec![OPEN, u, u1, 1, ROW, KBS]),
         ("if u1 = N_B then", vec![CHECK, u1, ROW, NB]),
-        ("After_B, {N_B}K_AS -> z", vec![END, 1, NB_UNDER_KAS, z]),
+        ("After_B, {N_B}K_AS -> z", vec![END, 1, NB_UNDER_KAS, z, 2]),
     ];
     let [w, w1, w2, w3] = [0, 1, 2, 3];
     let s = [
@@ -316,9 +316,9 @@ fn example_4() {
         ("if w1 = A then", vec![CHECK, w1, ROW, A]),
         ("case w2 of {w3}K_AS in", vec![OPEN, w2, w3, 1, ROW, KAS]),
         ("^chan_B<{w3}K_BS>.", vec![SEND, 4, 1, CIPHER, 1, ROW, KBS, VAR, w3]),
-        ("After_S, N_B -> w3", vec![END, 1, NB, w3]),
+        ("After_S, N_B -> w3", vec![END, 1, NB, w3, 3]),
     ];
-    is_printed("example-4", &book, &[&a, &b, &s], 110);
+    is_printed("example-4", &book, &[&a, &b, &s], 113);
 }
 
 /// Example 2's protocol on request of B, section 5 before figure 4. A's end is printed without the name that A stored; by
@@ -373,7 +373,7 @@ fn the_request_of_section_5() {
             "^chan_B<{y2}K_B+>.",
             vec![SEND, 3, 1, CIPHER, 1, ROW, KB_PUBLIC, VAR, y2],
         ),
-        ("After_A, N_B -> y2, and B -> w", vec![END, 2, B, w, NB, y2]),
+        ("After_A, N_B -> y2, and B -> w", vec![END, 2, B, w, 0, NB, y2, 2]),
     ];
     let [x, x1, x2, z, z1] = [0, 1, 2, 3, 4];
     let b = [
@@ -389,7 +389,7 @@ fn the_request_of_section_5() {
         ("chan_B(z).", vec![RECEIVE, 3, z, 1]),
         ("case z of {z1}K_B- in", vec![OPEN, z, z1, 1, ROW, KB_PRIVATE]),
         ("if z1 = N_B then", vec![CHECK, z1, ROW, NB]),
-        ("After_B, N_A -> x1", vec![END, 1, NA, x1]),
+        ("After_B, N_A -> x1", vec![END, 1, NA, x1, 1]),
     ];
-    is_printed("example-request", &book, &[&a, &b], 101);
+    is_printed("example-request", &book, &[&a, &b], 104);
 }

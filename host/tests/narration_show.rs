@@ -51,7 +51,7 @@ B -> A: op0(n7), {B, n12, n14}({n6}n2)+
 # A: open x4 with ({n6}n2)-: x5, x6, x7
 # A: check x5 = B
 # A: check x6 = x1
-# A: end: n12 = x1, n14 = x7
+# A: end: n12 = x1, step 1; n14 = x7, step 3
 
 # B: receive step 0: x0, x1
 # B: open x0 with n3-: x2, x3
@@ -61,7 +61,7 @@ B -> A: op0(n7), {B, n12, n14}({n6}n2)+
 # B: receive step 2: nothing
 # B: new n14
 # B: send step 3: x3, {B, n12, n14}({x2}n2)+
-# B: end: n6 = x2, op0(n7) = x3
+# B: end: n6 = x2, step 0; op0(n7) = x3, step 0
 ";
     assert_eq!(text, expected);
 }

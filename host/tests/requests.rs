@@ -46,7 +46,7 @@ fn each_function() {
         &book,
         &[3],
         &book,
-        &slice(&[9; 51]),
+        &slice(&[9; 52]),
         &[3],
         &book,
         &slice(&[9; 50]),
@@ -64,7 +64,7 @@ fn each_function() {
         &slice(&[9]),
     ];
     let lines = format!(
-        "accepted\naccepted\n{}refused 12 51\n1 2\nrefused 11 1\nrefused 12 2\n",
+        "accepted\naccepted\n{}refused 12 52\n1 2\nrefused 11 1\nrefused 12 2\n",
         line_1()
     );
     assert_eq!(answered(&to_bytes(&stream.concat())), (lines, Ok(7)));
@@ -78,10 +78,10 @@ fn on_bytes() {
         let stream = [
             to_bytes(&[5]),
             octets(&book, fill),
-            octets(&[9; 4 * 51 + 3], fill),
+            octets(&[9; 4 * 52 + 3], fill),
             to_bytes(&[5]),
             octets(&book, fill),
-            octets(&[9; 4 * 51 - 1], fill),
+            octets(&[9; 4 * 52 - 1], fill),
             to_bytes(&[5]),
             octets(&book[..book.len() - 1], fill),
             octets(&[], fill),
@@ -94,7 +94,7 @@ fn on_bytes() {
             octets(&[1, 0, 0, 0, 1, 0, 0, 0, 0], fill),
             octets(&[9; 8], fill),
         ];
-        let lines = format!("{}refused 12 51\nrefused 1 0\n1 2\nrefused 1 0\n", line_1());
+        let lines = format!("{}refused 12 52\nrefused 1 0\n1 2\nrefused 1 0\n", line_1());
         assert_eq!(answered(&stream.concat()), (lines, Ok(5)));
     }
     let most = [&to_bytes(&[5, 65_536])[..], &[0; 65_536], &to_bytes(&[0])].concat();
@@ -386,7 +386,7 @@ fn piped(arguments: &[&str], input: &[u8]) -> Output {
 fn the_commands() {
     let folder = Folder::new("requests-commands");
     let book = folder.file("1.book", to_bytes(&EXAMPLE_1));
-    let one = output(&["requests", "--write", "translate", &book, "=51x0"]).stdout;
+    let one = output(&["requests", "--write", "translate", &book, "=52x0"]).stdout;
     let two = output(&["requests", "--write", "rehearse", &book, "=1,1,0", "=2x0"]).stdout;
     let answer = piped(&["requests", "--answer"], &[&one[..], &two].concat());
     assert_eq!(answer.stdout, (line_1() + "1 2\n").into_bytes());

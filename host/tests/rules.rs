@@ -16,7 +16,7 @@ struct Side {
     held: Vec<(Term, Image)>,
     next: u32,
     events: Program,
-    stored: Vec<(u32, u32)>,
+    stored: Vec<[u32; 3]>,
 }
 
 fn row_of(book: &Book, term: &Term) -> u32 {
@@ -67,7 +67,7 @@ impl Side {
         }
     }
 
-    fn receive(&mut self, book: &Book, placeholder: u32, term: &Term) {
+    fn receive(&mut self, book: &Book, step: u32, placeholder: u32, term: &Term) {
         if let Term::Cipher(key, contents) = term {
             if self.buildable(&key.partner()) {
                 let (first, n) = (self.next, contents.len() as u32);
@@ -80,7 +80,7 @@ impl Side {
                     key,
                 });
                 for (content, placeholder) in contents.iter().zip(first..) {
-                    self.receive(book, placeholder, content);
+                    self.receive(book, step, placeholder, content);
                 }
                 return;
             }
@@ -90,7 +90,7 @@ impl Side {
             self.events.push(Event::Check { placeholder, image });
             return;
         }
-        self.stored.push((row_of(book, term), placeholder));
+        self.stored.push([row_of(book, term), placeholder, step]);
         self.held.push((term.clone(), Image::Placeholder(placeholder)));
     }
 }
@@ -131,7 +131,7 @@ fn plainly(book: &Book) -> Result<Vec<Program>, Refusal> {
         receiver.next += n;
         receiver.events.push(Event::Receive { step: number, first, n });
         for (message, placeholder) in messages.iter().zip(first..) {
-            receiver.receive(book, placeholder, message);
+            receiver.receive(book, number, placeholder, message);
         }
     }
     let ended = |mut side: Side| {

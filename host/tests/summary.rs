@@ -201,9 +201,10 @@ fn by_the_programs(book: &Book) -> Result<Vec<u32>, Refusal> {
                 Event::Send { step, .. } => made.drain(..).for_each(|row| own[row as usize] = step + 1),
                 Event::Receive { step, first, .. } => received.push((first, step)),
                 Event::End { stored } => {
-                    for (row, placeholder) in stored {
+                    for [row, placeholder, step] in stored {
                         let before = received.iter().rev().find(|(first, _)| *first <= placeholder);
-                        own[row as usize] = before.expect("a RECEIVE").1 + 1;
+                        assert_eq!(before.expect("a RECEIVE").1, step);
+                        own[row as usize] = step + 1;
                     }
                 }
                 _ => (),

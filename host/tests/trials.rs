@@ -1,5 +1,5 @@
-//! Document 01's "Trials at the edges", marked P or not, document 02's order of receiving, and its parties that make
-//! nothing. Every expected word was worked out by hand. Examples 2 to 4 are in tests/examples.rs.
+//! Document 01's "Trials at the edges", marked P or not, document 02's order of receiving, its parties that make
+//! nothing, and the steps of its END. Every expected word was worked out by hand. Examples 2 to 4 are in tests/examples.rs.
 
 mod common;
 
@@ -83,7 +83,7 @@ fn the_public_half_of_a_free_key() {
         &[step(0, 1, &[3])],
     );
     let a = [1, 2, 2, 0, 1, 4, 0, 2, 6, 0];
-    let b = [3, 0, 0, 1, 6, 1, 3, 0];
+    let b = [3, 0, 0, 1, 6, 1, 3, 0, 0];
     assert_eq!(listing(&book.words()), Ok(joined(&[&a, &b])));
 }
 
@@ -95,7 +95,7 @@ fn opened_with_a_partner_that_is_no_row() {
         &[party(0, &[0, 2]), party(1, &[1, 4])],
         &[step(1, 0, &[5])],
     );
-    let a = [3, 0, 0, 1, 5, 0, 1, 1, 5, 0, 2, 6, 1, 3, 1];
+    let a = [3, 0, 0, 1, 5, 0, 1, 1, 5, 0, 2, 6, 1, 3, 1, 0];
     let b = [1, 3, 2, 0, 1, 3, 1, 0, 4, 0, 3, 6, 0];
     assert_eq!(listing(&book.words()), Ok(joined(&[&a, &b])));
 }
@@ -109,7 +109,7 @@ fn signed_with_a_private_half_and_opened_with_the_public_one() {
         &[step(0, 1, &[5])],
     );
     let a = [1, 3, 2, 0, 1, 3, 1, 5, 0, 2, 0, 3, 6, 0];
-    let b = [3, 0, 0, 1, 5, 0, 1, 1, 0, 6, 6, 1, 3, 1];
+    let b = [3, 0, 0, 1, 5, 0, 1, 1, 0, 6, 6, 1, 3, 1, 0];
     assert_eq!(listing(&book.words()), Ok(joined(&[&a, &b])));
 }
 
@@ -120,7 +120,7 @@ fn the_operation_over_an_unknown_atom() {
     let parties = [party(0, &[0, 1]), party(1, &[0, 1])];
     let sent_on = book(rows.clone(), &parties, &[step(0, 1, &[3]), step(1, 0, &[3])]);
     let a = [1, 2, 2, 0, 1, 2, 7, 1, 0, 2, 3, 1, 0, 1, 4, 0, 2, 7, 1, 0, 2, 6, 0];
-    let b = [3, 0, 0, 1, 2, 1, 1, 1, 0, 6, 1, 3, 0];
+    let b = [3, 0, 0, 1, 2, 1, 1, 1, 0, 6, 1, 3, 0, 0];
     assert_eq!(listing(&sent_on.words()), Ok(joined(&[&a, &b])));
 
     let itself = book(rows, &parties, &[step(0, 1, &[3]), step(1, 0, &[2])]);
@@ -172,7 +172,7 @@ fn the_deepest_halves_are_sent_and_compared() {
     let own = [
         vec![3, 0, 0, 2, 3, 1, 2, 2, 4, 2, 1, 0, 4, 3],
         image(1_021, [1, 1]),
-        vec![6, 2, 1_022, 0, 0, 1],
+        vec![6, 2, 1_022, 0, 0, 0, 1, 0],
     ];
     let other = [
         vec![2, 0, 2],
@@ -203,7 +203,7 @@ fn the_deepest_ciphers_are_opened() {
     for placeholder in 0..255 {
         b.extend([5, placeholder, placeholder + 1, 1, 0, 2]);
     }
-    b.extend([6, 1, 3, 255]);
+    b.extend([6, 1, 3, 255, 0]);
     assert_eq!(listing(&book.words()), Ok(joined(&[&a, &b])));
 }
 
@@ -224,10 +224,10 @@ fn a_stored_cipher_is_not_opened_later() {
         &[4, 1, 0, 3, 6, 0],                // x1 = N
     ];
     let b = [
-        &[3, 0, 0, 2][..],               // x0 and x1, both stored
-        &[3, 1, 2, 1, 5, 2, 3, 1, 1, 1], // x2, opened with x1; x3 is stored
-        &[2, 2, 1, 1, 0],                // x0
-        &[6, 3, 4, 0, 2, 1, 3, 3],       // {N}K is x0, K is x1, N is x3
+        &[3, 0, 0, 2][..],                  // x0 and x1, both stored
+        &[3, 1, 2, 1, 5, 2, 3, 1, 1, 1],    // x2, opened with x1; x3 is stored
+        &[2, 2, 1, 1, 0],                   // x0
+        &[6, 3, 4, 0, 0, 2, 1, 0, 3, 3, 1], // {N}K is x0 and K x1, of step 0; N is x3, of step 1
     ];
     assert_eq!(listing(&book.words()), Ok(joined(&[&a.concat(), &b.concat()])));
 }
@@ -267,7 +267,7 @@ fn opened_without_contents() {
         &[step(0, 1, &[3]), step(0, 1, &[4])],
     );
     let a = [2, 0, 1, 3, 0, 0, 2, 1, 4, 2, 1, 1, 0, 4, 6, 0];
-    let b = [3, 0, 0, 1, 5, 0, 1, 0, 0, 2, 3, 1, 1, 1, 6, 1, 4, 1];
+    let b = [3, 0, 0, 1, 5, 0, 1, 0, 0, 2, 3, 1, 1, 1, 6, 1, 4, 1, 1];
     assert_eq!(listing(&book.words()), Ok(joined(&[&a, &b])));
 }
 
@@ -294,7 +294,7 @@ fn a_cipher_that_cannot_be_opened_is_compared() {
     // Stored, and received again without its key: compared with the first placeholder.
     let stored = book(rows, &[party(0, &[3, 4]), party(1, &[])], &[step(0, 1, &[5, 5])]);
     let a = [2, 0, 2, 3, 1, 0, 4, 0, 3, 3, 1, 0, 4, 0, 3, 6, 0];
-    let b = [3, 0, 0, 2, 4, 1, 1, 0, 6, 1, 5, 0];
+    let b = [3, 0, 0, 2, 4, 1, 1, 0, 6, 1, 5, 0, 0];
     assert_eq!(listing(&stored.words()), Ok(joined(&[&a, &b])));
 }
 
@@ -318,11 +318,11 @@ fn a_cipher_received_again_teaches_its_contents() {
         &[6, 0],
     ];
     let b = [
-        &[3, 0, 0, 1][..],               // x0, stored
-        &[3, 1, 1, 1],                   // x1, stored
-        &[3, 2, 2, 1, 5, 2, 3, 1, 1, 1], // x2, opened with x1; x3 is stored
-        &[2, 3, 1, 1, 3],                // x3
-        &[6, 3, 4, 0, 2, 1, 3, 3],       // {N}K is x0, K is x1, N is x3
+        &[3, 0, 0, 1][..],                  // x0, stored
+        &[3, 1, 1, 1],                      // x1, stored
+        &[3, 2, 2, 1, 5, 2, 3, 1, 1, 1],    // x2, opened with x1; x3 is stored
+        &[2, 3, 1, 1, 3],                   // x3
+        &[6, 3, 4, 0, 0, 2, 1, 1, 3, 3, 2], // {N}K is x0, of step 0, K is x1, of step 1, N is x3, of step 2
     ];
     assert_eq!(listing(&taught.words()), Ok(joined(&[&a.concat(), &b.concat()])));
 
@@ -358,7 +358,7 @@ fn a_cipher_received_again_teaches_too_much() {
     let closed = [&steps[..2], &[steps[3].clone(), last]].concat();
     let closed = book(rows, &parties, &closed);
     let a = [
-        3, 0, 0, 1, 3, 1, 1, 1, 3, 2, 2, 1, 2, 3, 1, 1, 2, 6, 3, 5, 0, 2, 1, 8, 2,
+        3, 0, 0, 1, 3, 1, 1, 1, 3, 2, 2, 1, 2, 3, 1, 1, 2, 6, 3, 5, 0, 0, 2, 1, 1, 8, 2, 2,
     ];
     let own = listing(&closed.words()).expect("A only hands on");
     assert_eq!(own[5..5 + a.len()], a);
@@ -375,7 +375,7 @@ fn contents_are_numbered_before_they_are_received() {
         &[step(0, 1, &[6, 3])],
     );
     let b = [
-        3, 0, 0, 2, 5, 0, 2, 2, 0, 2, 5, 2, 4, 1, 0, 2, 4, 1, 1, 3, 6, 2, 4, 4, 3, 3,
+        3, 0, 0, 2, 5, 0, 2, 2, 0, 2, 5, 2, 4, 1, 0, 2, 4, 1, 1, 3, 6, 2, 4, 4, 0, 3, 3, 0,
     ];
     let a = [1, 4, 1, 3, 2, 0, 2, 3, 2, 0, 2, 3, 1, 0, 2, 0, 4, 0, 3, 0, 3, 6, 0];
     assert_eq!(listing(&book.words()), Ok(joined(&[&a, &b])));
@@ -396,7 +396,7 @@ fn a_sender_that_makes_nothing() {
     let t = [
         &[3, 0, 0, 1][..],                                 // x0, stored
         &[2, 1, 2, 3, 2, 0, 2, 1, 0, 0, 1, 2, 7, 1, 1, 0], // {x0, T}K, f(x0)
-        &[6, 1, 3, 0],                                     // N is x0
+        &[6, 1, 3, 0, 0],                                  // N is x0, of step 0
     ];
     let programs = joined(&[&r.concat(), &t.concat()]);
     assert_eq!(listing(&plain.words()), Ok(programs.clone()));

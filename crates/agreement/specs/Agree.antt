@@ -11,7 +11,7 @@ use mathlib.Core.Option.{some}
 use mathlib.Core.Path.{_≡_}
 use lib.ListN.{length, getElem?}
 use Rattle.terms.specs.Term.{Term, Terms}
-use Rattle.translation.specs.Receive.{Event}
+use Rattle.translation.specs.Receive.{Event, Stored}
 use Rattle.translation.specs.Standing.{Standing, standing}
 use Rattle.words.specs.Run.{NoRepeat}
 use Rattle.translation.specs.Program.{actsOf, walked}
@@ -36,7 +36,7 @@ pub record Narrated (N : Narration) (s : ℕ) (ts : Terms) : Type 0 where
 -- ---- the machine's side
 -- only END is left
 pub data AtEnd : List Event → Type 0 where
-  end : {ps : List (Term × ℕ)} → AtEnd (Event.ends ps ∷ [])
+  end : {ps : List Stored} → AtEnd (Event.ends ps ∷ [])
 
 -- by the move m, party p's next event gets done
 pub record Does (N : Narration) (S : System) (m : Move) (p : ℕ) : Type 0 where
@@ -95,10 +95,10 @@ Moves N Q S = (p : ℕ) → p < Q → (AtEnd (S .party p .left) → ⊥) → Som
 abbrev pub TakenOnce : Narration → System → Type 0
 TakenOnce N S = (s : ℕ) → Dropped N s S ⊎ TakesCopy N s S
 
--- what END names: at END each of its placeholders is bound, to the term of the pair's row
+-- what END names: at END each of its placeholders is bound, to the term of the triple's row
 abbrev pub EndsBound : System → Type 0
 EndsBound S =
-    (p : ℕ) (ps : List (Term × ℕ)) (es : List Event) → S .party p .left ≡ Event.ends ps ∷ es → (t : Term) (x : ℕ) → List·Memᴰ (t, x) ps
+    (p : ℕ) (ps : List Stored) (es : List Event) → S .party p .left ≡ Event.ends ps ∷ es → (t : Term) (x s : ℕ) → List·Memᴰ (t, x, s) ps
     → S .party p .sight .placeholders x ≡ some t
 
 -- of the first Q parties

@@ -76,7 +76,7 @@ duplicates =
 
 pub duplicates-right : programOf duplicates 1
     ≡ Event.receives 0 0 2 ∷ Event.opens 0 2 1 (Image.itself madeKey)
-    ∷ Event.opens 1 3 1 (Image.itself madeKey) ∷ Event.ends ((nonce, 2) ∷ (token, 3) ∷ []) ∷ []
+    ∷ Event.opens 1 3 1 (Image.itself madeKey) ∷ Event.ends ((nonce, 2, 0) ∷ (token, 3, 0) ∷ []) ∷ []
 unfolding computes duplicates
 duplicates-right = refl
 
@@ -84,7 +84,7 @@ unfoldable pub row-by-row : ℕ → List Event
 row-by-row =
     instead 1
     (Event.receives 0 0 2 ∷ Event.opens 1 2 1 (Image.itself madeKey)
-    ∷ Event.ends ((Term.cipher madeKey (oneTerm nonce), 0) ∷ (token, 2) ∷ []) ∷ [])
+    ∷ Event.ends ((Term.cipher madeKey (oneTerm nonce), 0, 0) ∷ (token, 2, 0) ∷ []) ∷ [])
     (programOf duplicates)
 
 pub row-by-row-breaks : Breaks duplicates row-by-row (Bound duplicates)
@@ -108,13 +108,13 @@ sealed =
     }
 
 pub sealed-right : programOf sealed 1
-    ≡ Event.receives 0 0 1 ∷ Event.opens 0 1 1 (Image.private (Image.itself key)) ∷ Event.ends ((nonce, 1) ∷ []) ∷ []
+    ≡ Event.receives 0 0 1 ∷ Event.opens 0 1 1 (Image.private (Image.itself key)) ∷ Event.ends ((nonce, 1, 0) ∷ []) ∷ []
 unfolding computes sealed
 sealed-right = refl
 
 unfoldable pub own-key : ℕ → List Event
 own-key =
-    instead 1 (Event.receives 0 0 1 ∷ Event.opens 0 1 1 (Image.public (Image.itself key)) ∷ Event.ends ((nonce, 1) ∷ []) ∷ []) (programOf sealed)
+    instead 1 (Event.receives 0 0 1 ∷ Event.opens 0 1 1 (Image.public (Image.itself key)) ∷ Event.ends ((nonce, 1, 0) ∷ []) ∷ []) (programOf sealed)
 
 pub own-key-breaks : Breaks sealed own-key (Faithful sealed)
 unfolding computes stateAfter sealed own-key
@@ -259,7 +259,7 @@ no-move zero l (CanMove.byDelivery s d) =
 no-move (suc zero) l (CanMove.byOwn d) = let z : _≡_ {A = ℕ} 1 2 = d .oneMore in omega arith
 no-move (suc zero) l (CanMove.byDelivery s d) =
     let t = does-handed twoSteps stuck s 1 d in
-    let w : Event.receives 1 1 1 ∷ Event.ends ((nonce, 0) ∷ (token, 1) ∷ []) ∷ [] ≡ Event.receives s (t .first) (t .many) ∷ t .rest = t .waits in
+    let w : Event.receives 1 1 1 ∷ Event.ends ((nonce, 0, 0) ∷ (token, 1, 1) ∷ []) ∷ [] ≡ Event.receives s (t .first) (t .many) ∷ t .rest = t .waits in
     let e : s ≡ 1 = cc in
     Option·some-ne-none (t .messages) (sym (subst (λ n. stuck .sent n ≡ some (t .messages)) e (t .sent)))
 no-move (suc (suc p)) l c = absurd (omega arith)
@@ -277,7 +277,7 @@ skipping-breaks =
 unfoldable pub receiving-twice : ℕ → List Event
 receiving-twice =
     instead 1
-    (Event.receives 0 0 1 ∷ Event.receives 0 1 1 ∷ Event.receives 1 2 1 ∷ Event.ends ((nonce, 0) ∷ (token, 2) ∷ []) ∷ [])
+    (Event.receives 0 0 1 ∷ Event.receives 0 1 1 ∷ Event.receives 1 2 1 ∷ Event.ends ((nonce, 0, 0) ∷ (token, 2, 1) ∷ []) ∷ [])
     (programOf twoSteps)
 
 unfoldable pub sentOnce : System

@@ -38,7 +38,7 @@ exampleEnd = sequence (receiverOf (narration exampleBook)) exampleMoves (started
 unfoldable pub leftAndDone : System → ℕ → List Event × ℕ
 leftAndDone S p = (S .party p .left, S .party p .done)
 
-pub A-ends : leftAndDone exampleEnd 0 ≡ (Event.ends ((Term.atom 3, 0) ∷ []) ∷ [], 2)
+pub A-ends : leftAndDone exampleEnd 0 ≡ (Event.ends ((Term.atom 3, 0, 0) ∷ []) ∷ [], 2)
 unfolding computes trials exampleBook exampleLent exampleMoves exampleEnd leftAndDone
 A-ends = refl
 

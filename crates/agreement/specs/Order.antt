@@ -5,9 +5,8 @@ use Prim.Native.Nat.{ℕ, suc, _≤_, _<_}
 use mathlib.Core.List.{List, [], _∷_}
 use mathlib.Core.Path.{_≡_}
 use lib.ListN.{length}
-use Rattle.terms.specs.Term.{Term}
 use Rattle.terms.specs.Image.{Image, Images}
-use Rattle.translation.specs.Receive.{Event}
+use Rattle.translation.specs.Receive.{Event, Stored}
 use Rattle.translation.specs.Narration.{Narration}
 use Rattle.translation.specs.Taken.{stepOf}
 use Rattle.agreement.specs.Agree.{receiverOf}
@@ -15,7 +14,7 @@ pub mod Laws
 
 -- events of party p, in the steps from `low` on
 pub data Rising (N : Narration) (p : ℕ) : ℕ → List Event → Type 0 where
-  end : {low : ℕ} {ps : List (Term × ℕ)} → Rising N p low (Event.ends ps ∷ [])
+  end : {low : ℕ} {ps : List Stored} → Rising N p low (Event.ends ps ∷ [])
   new : {low r : ℕ} {es : List Event} → Rising N p low es → Rising N p low (Event.new r ∷ es)
   sends : {low s : ℕ} {is : Images} {es : List Event} → low ≤ s → stepOf N s .sender ≡ p → Rising N p (suc s) es
       → Rising N p low (Event.sends s is ∷ es)

@@ -1,23 +1,22 @@
 -- The events that a party has left go well: with what it holds and has bound, each comparison and opening succeeds, each message
--- sent is the narration's, each pair of END stands at its placeholder, and what gets bound is, in the end, all that the narration has. One predicate over
+-- sent is the narration's, each triple of END stands at its placeholder, and what gets bound is, in the end, all that the narration has. One predicate over
 -- the events left, of which every clause of demand 3 takes its share.
-use Prim.Native.Nat.{ℕ}
 use mathlib.Core.List.{List, [], _∷_, _++_}
 use mathlib.Core.Option.{some}
 use mathlib.Core.Path.{_≡_}
 use lib.ListN.{length, getElem?}
 use Rattle.terms.specs.Term.{Term, Terms, count, listed, partner}
-use Rattle.translation.specs.Receive.{Event}
+use Rattle.translation.specs.Receive.{Event, Stored}
 use Rattle.translation.specs.Narration.{Narration}
 use Rattle.agreement.specs.Sight.{value, valueAll}
 use Rattle.agreement.specs.Agree.{Narrated}
 use Rattle.agreement.specs.Sound.{sightOf}
 pub mod Laws
 
--- each pair's placeholder stands for its term
-abbrev pub PairsAt : List Term → List (Term × ℕ) → Type 0
-PairsAt ns [] = Unit {0}
-PairsAt ns (p ∷ ps) = (getElem? ns (p .1) ≡ some (p .0)) × PairsAt ns ps
+-- the placeholder of each that was stored stands for its term
+abbrev pub StoredAt : List Term → List Stored → Type 0
+StoredAt ns [] = Unit {0}
+StoredAt ns (p ∷ ps) = (getElem? ns (p .1) ≡ some (p .0)) × StoredAt ns ps
 
 -- hs are held as themselves, the placeholders stand for ns; all: what the narration has at the party's placeholders
 module _ (N : Narration) (all : List Term) where
@@ -30,4 +29,4 @@ module _ (N : Narration) (all : List Term) where
   Safe (Event.opens x f n i ∷ es) hs ns =
       (k : Term) × (ts : Terms) × (getElem? ns x ≡ some (Term.cipher k ts)) × (f ≡ length ns) × (n ≡ count ts)
       × (value (sightOf hs ns) i ≡ some (partner k)) × Safe es hs (ns ++ listed ts)
-  Safe (Event.ends ps ∷ es) hs ns = PairsAt ns ps × Safe es hs ns
+  Safe (Event.ends ps ∷ es) hs ns = StoredAt ns ps × Safe es hs ns

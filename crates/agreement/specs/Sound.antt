@@ -17,8 +17,9 @@ sightOf hs ns = record { itself = hs; placeholders = getElem? ns }
 
 pub data Right (hs ns : List Term) (t : Term) : Held → Type 0 where
   free : Right hs ns t Held.free
-  itself : holds hs t ≡ true → Right hs ns t Held.itself
-  placeholder : {x : ℕ} → getElem? ns x ≡ some t → Right hs ns t (Held.placeholder x)
+  given : holds hs t ≡ true → Right hs ns t Held.given
+  made : {s : ℕ} → holds hs t ≡ true → Right hs ns t (Held.made s)
+  stored : {s x : ℕ} → getElem? ns x ≡ some t → Right hs ns t (Held.stored s x)
 
 abbrev pub Sound : Dictionary → List Term → List Term → Type 0
 Sound δ hs ns = (t : Term) → Right hs ns t (δ t)

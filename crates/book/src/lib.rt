@@ -250,6 +250,16 @@ impl Code {
     pub const END: u32 = 6;
 }
 
+// What END tells of each stored row: the row, its placeholder and the step. No row is stored twice.
+pub struct Triple {}
+
+impl Triple {
+    pub const WORDS: usize = 3;
+
+    // The words of all that a party can store.
+    pub const ALL: usize = Triple::WORDS * (Limit::ROWS as usize);
+}
+
 // The images' codes.
 pub struct ImageCode {}
 

@@ -19,12 +19,12 @@ use Rattle.translation.specs.Listing.Laws.{program-append}
 use Rattle.translation.specs.Steps.{before}
 use Rattle.translation.specs.Steps.Laws.{before-none}
 use Rattle.translation.specs.Long.{stepWords}
-use Rattle.translation.specs.Long.Laws.{step-within, all-within, pairs-length}
+use Rattle.translation.specs.Long.Laws.{step-within, all-within, triples-length}
 use Rattle.holding.specs.View.{rowOf, view}
 use Rattle.holding.specs.Doing.{Doing}
 use Rattle.holding.specs.Doing.Laws.{doing-none, doing-as}
-use Rattle.receiving.specs.declared.Dictionary.{Dictionary}
 use Rattle.receiving.specs.declared.Received.{Received}
+use Rattle.receiving.specs.Receiving.{standing}
 use Rattle.walking.specs.Walk.{IdleUntil}
 use Rattle.walking.specs.Walk.Laws.{before-skip}
 use Rattle.holding.specs.Partners.{Partners}
@@ -41,60 +41,58 @@ doing-counted : {b : List ℕ} {d : Did} {n k : ℕ} {l m : List ℕ} {a : ℕ} 
     → Doing b d n k l m a o s x i j q → (c : ℕ) → Doing b d n k l m c [] [] x i j (forward c (length (programWords (rowOf b) (d .events))))
 doing-counted f c = record { holds = f .holds; goes = f .goes; wrote = counted _ c; keeps = f .keeps }
 
--- standing at a place with the dictionary d
-abbrev standing : Dictionary → ℕ → Received
-standing d a = record { dictionary = d; at = a }
-
--- party p came through the first i steps: `count` words, whose bytes were written from a on
-pub record Flushed (b : List ℕ) (p i : ℕ) (log₀ log out₀ : List ℕ) (a : ℕ) (out : List ℕ) (next : ℕ) (d : Dictionary) (step : List ℕ)
+-- party p came through the first i steps: `count` words, whose bytes were written from a on. It holds the entries e, m is its next
+-- placeholder, and k the words of what it stored
+pub record Flushed (b : List ℕ) (p i : ℕ) (log₀ log out₀ : List ℕ) (a : ℕ) (out : List ℕ) (next : ℕ) (e : List ℕ) (m k : ℕ) (step : List ℕ)
     : Type 0 where
   pub valid : Valid b
   pub within : i ≤ steps b
   pub count : ℕ
-  pub along : Along b p i log₀ log 0 [] [] (standing d count)
+  pub along : Along b p i log₀ log 0 [] [] e m k count
   pub wrote : Wrote (bytesOfAll (programWords (rowOf b) (before b p i .events))) out₀ a out next
   pub size : length step ≡ stepWords
-  pub long : length (d .entries) ≡ 1024
+  pub long : length e ≡ 1024
 
 -- steps in which the party has no part add nothing
 module _ {b : List ℕ} {p i j : ℕ} (valid : Valid b) (idle : IdleUntil b p i j) {log₀ log out₀ : List ℕ} {a : ℕ} {out : List ℕ} {next : ℕ}
-    {d : Dictionary} {step : List ℕ} where
-  skip : {c : ℕ} → Along b p i log₀ log 0 [] [] (standing d c) → Wrote (bytesOfAll (programWords (rowOf b) (before b p i .events))) out₀ a out next
-      → length step ≡ stepWords → length (d .entries) ≡ 1024 → Flushed b p j log₀ log out₀ a out next d step
-  skip {c} g w l m =
+    {e : List ℕ} {m k : ℕ} {step : List ℕ} where
+  skip : {c : ℕ} → Along b p i log₀ log 0 [] [] e m k c → Wrote (bytesOfAll (programWords (rowOf b) (before b p i .events))) out₀ a out next
+      → length step ≡ stepWords → length e ≡ 1024 → Flushed b p j log₀ log out₀ a out next e m k step
+  skip {c} g w l n =
       let same = before-skip b p idle in
       record {
         valid = valid;
         within = idle .within;
         count = c;
         along = doing-as g same;
-        wrote = wrote-as w (ap (λ (e : Did). bytesOfAll (programWords (rowOf b) (e .events))) same);
+        wrote = wrote-as w (ap (λ (d : Did). bytesOfAll (programWords (rowOf b) (d .events))) same);
         size = l;
-        long = m;
+        long = n;
       }
 
 -- ---- at the start the party holds what it knows
-pub flushed-start : {b : List ℕ} {p i : ℕ} {log out e : List ℕ} {a : ℕ} {d : Dictionary} {step : List ℕ}
-    → Valid b → length e ≡ 1024 → view b e ≡ start (map (term (table b)) (known b p)) → (d .entries ≡ e) × (d .next ≡ 0) × (d .kept ≡ 0)
-    → IdleUntil b p 0 i → length step ≡ stepWords → Flushed b p i log log out a out a d step
+pub flushed-start : {b : List ℕ} {p i : ℕ} {log out e : List ℕ} {a : ℕ} {step : List ℕ}
+    → Valid b → length e ≡ 1024 → view b e ≡ start (map (term (table b)) (known b p))
+    → IdleUntil b p 0 i → length step ≡ stepWords → Flushed b p i log log out a out a e 0 0 step
 unfolding programWords
-flushed-start {b} {p} {e = e} v long h w idle l =
+flushed-start {b} {p} {e = e} v long h idle l =
     let none = before-none b p in
-    skip v idle {d = _} {c = 0} (rw (w .0, w .1, w .2) (doing-as (rw (← h) (doing-none {b = b} {x = e})) none))
-    (wrote-as bytes-none (ap (λ (f : Did). bytesOfAll (programWords (rowOf b) (f .events))) none)) l (ap length (w .0) ∙ long)
+    skip v idle {c = 0} (doing-as (rw (← h) (doing-none {b = b} {x = e})) none)
+    (wrote-as bytes-none (ap (λ (f : Did). bytesOfAll (programWords (rowOf b) (f .events))) none)) l long
 
-module _ {b : List ℕ} {p i : ℕ} (h : i < steps b) {log₀ log out₀ : List ℕ} {a : ℕ} {out : List ℕ} {next : ℕ} {d : Dictionary}
-    {step : List ℕ} (g : Flushed b p i log₀ log out₀ a out next d step) where
+module _ {b : List ℕ} {p i : ℕ} (h : i < steps b) {log₀ log out₀ : List ℕ} {a : ℕ} {out : List ℕ} {next : ℕ} {e : List ℕ} {m k : ℕ}
+    {step : List ℕ} (g : Flushed b p i log₀ log out₀ a out next e m k step) where
   -- ---- a step more can be done
-  pub flushed-ready : {ps : List ℕ} → Partners b ps → ActReady b ps p i (standing d 0)
+  pub flushed-ready : {ps : List ℕ} → Partners b ps → ActReady b ps p i (standing i e m k 0)
   flushed-ready partners =
       let kept = g .along .keeps .next in
-      let pairs = pairs-length (rowOf b) (before b p i .stored) in
+      let triples = triples-length (rowOf b) (before b p i .stored) in
       let stored = all-within b (g .valid) (rowOf b) p i (g .within) .stored in
       record {
         valid = g .valid;
         partners = partners;
         step = h;
+        now = refl;
         size = g .long;
         fits = along-fits b p i (g .along) (g .valid) h;
         low = omega arith;
@@ -102,11 +100,11 @@ module _ {b : List ℕ} {p i : ℕ} (h : i < steps b) {log₀ log out₀ : List 
       }
 
   module _ {l logAfter stepAfter : List ℕ} {y : Received} {ahead more : ℕ} {t : Stop}
-      (w : Acting b l p i (standing d 0) log logAfter step stepAfter y ahead more t)
+      (w : Acting b l p i (standing i e m k 0) log logAfter step stepAfter y ahead more t)
     where
       -- the step's words stand in front of the buffer
       abbrev did : Did
-      did = actDid b p i (standing d 0)
+      did = actDid b p i (standing i e m k 0)
 
       few : length (programWords (rowOf b) (did .events)) ≤ stepWords
       few = step-within b (g .valid) (rowOf b) p i h _ _ .words
@@ -128,7 +126,8 @@ module _ {b : List ℕ} {p i : ℕ} (h : i < steps b) {log₀ log out₀ : List 
 
       -- ---- and its bytes are behind those of the steps before
       pub flushed-on : {j : ℕ} {outAfter : List ℕ} {after : ℕ} → Wrote (bytesOfAll (take (y .at) stepAfter)) out next outAfter after
-          → IdleUntil b p (i + 1) j → Flushed b p j log₀ logAfter out₀ a outAfter after (y .dictionary) stepAfter
+          → IdleUntil b p (i + 1) j → Flushed b p j log₀ logAfter out₀ a outAfter after
+          (y .dictionary .entries) (y .dictionary .next) (y .dictionary .kept) stepAfter
       flushed-on {j} {outAfter} {after} put idle =
           let events = programWords (rowOf b) (before b p i .events) in
           let both = bytes-then events (programWords (rowOf b) (did .events)) (g .wrote) (wrote-as put (ap bytesOfAll (sym front))) in
@@ -138,9 +137,9 @@ module _ {b : List ℕ} {p i : ℕ} (h : i < steps b) {log₀ log out₀ : List 
           (w .size)
 
 -- ---- all steps
-pub flushed-end : {b : List ℕ} {p i n : ℕ} {log₀ log out₀ : List ℕ} {a : ℕ} {out : List ℕ} {next : ℕ} {d : Dictionary} {step : List ℕ}
-    → n ≡ steps b → n ≤ i → Flushed b p i log₀ log out₀ a out next d step → WroteEvents b p log₀ log out₀ a out next (d .kept)
-flushed-end {b} {p} {i} e h g =
+pub flushed-end : {b : List ℕ} {p i n : ℕ} {log₀ log out₀ : List ℕ} {a : ℕ} {out : List ℕ} {next : ℕ} {e : List ℕ} {m k : ℕ} {step : List ℕ}
+    → n ≡ steps b → n ≤ i → Flushed b p i log₀ log out₀ a out next e m k step → WroteEvents b p log₀ log out₀ a out next k
+flushed-end {b} {p} {i} d h g =
     let l = g .within in
     let all : i ≡ steps b = omega arith in
     record { wrote = rw all at (g .wrote); keeps = rw all at (g .along .keeps) }

@@ -11,9 +11,9 @@ use Rattle.octets.specs.Octets.{bytesOfAll}
 use Rattle.octets.specs.Octets.Laws.{bytes-none, bytes-then}
 use Rattle.book.specs.Layout.{parties, steps}
 use Rattle.book.specs.Headed.Laws.{valid-headed}
-use Rattle.translation.specs.Listing.{programWords, pairWords, bodies, partWords, listing}
+use Rattle.translation.specs.Listing.{programWords, tripleWords, bodies, partWords, listing}
 use Rattle.translation.specs.Steps.{before}
-use Rattle.translation.specs.Long.Laws.{stored-few, pairs-length}
+use Rattle.translation.specs.Long.Laws.{stored-few, triples-length}
 use Rattle.holding.specs.View.{rowOf}
 use Rattle.walking.specs.Walking.Laws.{part-words}
 use Rattle.translator.specs.Parts.{programsTo, headsOf, HeadsIn, bodiesOf}
@@ -22,34 +22,34 @@ use Rattle.editor.specs.Events.{EventsReady, WroteEvents}
 
 -- ---- a program
 module _ {b ps : List ℕ} {p : ℕ} (ready : EventsReady b ps p) {log logAfter out middle : List ℕ} {a next kept : ℕ} where
-  -- two words for each stored term, and no more of these than rows
-  pairs : WroteEvents b p log logAfter out a middle next kept → (kept ≡ 2 * length (before b p (steps b) .stored)) × (kept ≤ 2048)
-  pairs w =
+  -- three words for each stored term, and no more of these than rows
+  triples : WroteEvents b p log logAfter out a middle next kept → (kept ≡ 3 * length (before b p (steps b) .stored)) × (kept ≤ 3072)
+  triples w =
       let n = w .keeps .next in
-      let l = pairs-length (rowOf b) (before b p (steps b) .stored) in
+      let l = triples-length (rowOf b) (before b p (steps b) .stored) in
       let s = stored-few b (ready .valid) p (steps b) (omega arith) in
       let f = valid-headed b (ready .valid) .fewRows in
       (omega arith, omega arith)
 
-  pub few-pairs : WroteEvents b p log logAfter out a middle next kept → kept ≤ 2048
-  few-pairs w = pairs w .1
+  pub few-triples : WroteEvents b p log logAfter out a middle next kept → kept ≤ 3072
+  few-triples w = triples w .1
 
-  -- the events' bytes, those of END's first words, and those of the pairs
-  pub programmed : {end endAfter between outAfter : List ℕ} {m e i j : ℕ} → length log ≡ 2048 → length end ≡ 2
-      → WroteEvents b p log logAfter out a middle next kept → m ≡ kept / 2 → Wrote (6 ∷ m ∷ []) end 0 endAfter e
+  -- the events' bytes, those of END's first words, and those of the triples
+  pub programmed : {end endAfter between outAfter : List ℕ} {m e i j : ℕ} → length log ≡ 3072 → length end ≡ 2
+      → WroteEvents b p log logAfter out a middle next kept → m ≡ kept / 3 → Wrote (6 ∷ m ∷ []) end 0 endAfter e
       → Wrote (bytesOfAll (take 2 endAfter)) middle next between i → Wrote (bytesOfAll (take kept logAfter)) between i outAfter j
       → Wrote (bytesOfAll (partWords b p)) out a outAfter j
-  programmed {end} {endAfter} {m = m} l two w half put ends rest =
+  programmed {end} {endAfter} {m = m} l two w third put ends rest =
       let stored = before b p (steps b) .stored in
-      let count = pairs w .0 in
-      let few = pairs w .1 in
-      let n = pairs-length (rowOf b) stored in
+      let count = triples w .0 in
+      let few = triples w .1 in
+      let n = triples-length (rowOf b) stored in
       let first = wrote-take put (omega arith) in
-      let halves : m ≡ length stored = omega arith in
-      let kept-pairs = ap (λ k. take k logAfter) (count ∙ sym n) ∙ wrote-take (w .keeps) (omega arith) in
-      let front = wrote-as ends (ap bytesOfAll (sym (first ∙ ap (λ k. 6 ∷ k ∷ []) halves))) in
-      let back = wrote-as rest (ap bytesOfAll (sym kept-pairs)) in
-      let end-words = bytes-then (6 ∷ length stored ∷ []) (pairWords (rowOf b) stored) front back in
+      let thirds : m ≡ length stored = omega arith in
+      let kept-triples = ap (λ k. take k logAfter) (count ∙ sym n) ∙ wrote-take (w .keeps) (omega arith) in
+      let front = wrote-as ends (ap bytesOfAll (sym (first ∙ ap (λ k. 6 ∷ k ∷ []) thirds))) in
+      let back = wrote-as rest (ap bytesOfAll (sym kept-triples)) in
+      let end-words = bytes-then (6 ∷ length stored ∷ []) (tripleWords (rowOf b) stored) front back in
       wrote-as (bytes-then (programWords (rowOf b) (before b p (steps b) .events)) _ (w .wrote) end-words)
       (ap bytesOfAll (part-words b p (ready .party)))
 

@@ -6,6 +6,7 @@ use book::Code;
 use book::Layout;
 use book::Refusal;
 use book::Told;
+use book::Triple;
 use book::parties;
 use book::steps;
 use book::told_of;
@@ -13,7 +14,6 @@ use holding::start;
 use octets::load;
 use octets::put_words;
 use octets::word_at;
-use receiving::Dictionary;
 use summary::Found;
 use summary::Reply;
 use summary::decide;
@@ -52,10 +52,8 @@ impl Most {
 
     const MOVES: usize = 4097;
 
-    // The words of a step's events, and of the pairs that a party stores.
+    // The words of a step's events.
     const STEP: usize = 16388;
-
-    const PAIRS: usize = 2048;
 
     const PARTIES: usize = 16;
 
@@ -63,7 +61,7 @@ impl Most {
     const SUMMARY: usize = 16387;
 }
 
-// Behind a party's events: where the next byte goes, and the words of the pairs that it stored.
+// Behind a party's events: where the next byte goes, and the words of what it stored.
 struct Events {
     at: usize,
     kept: usize,
@@ -84,35 +82,31 @@ fn write_events(
 {
     let mut step = [0u32; Most::STEP];
     let n = steps(book);
-    let entries = start(book, party);
-    let mut held = Dictionary::new(entries, 0);
+    let mut entries = start(book, party);
+    let mut given = 0;
+    let mut kept = 0;
     let mut next = at;
     let mut i = next_own(book, party, 0);
     while i < n {
-        let given = held.next;
-        let stored = held.kept;
         let acted = act(
             book,
             since,
             partners,
-            &mut held.entries,
+            &mut entries,
             given,
-            stored,
+            kept,
             party,
             i,
             log,
             &mut step,
             0,
         );
-        held.next = acted.next;
-        held.kept = acted.kept;
+        given = acted.next;
+        kept = acted.kept;
         next = put_words(out, next, &step, acted.at);
         i = next_own(book, party, i + 1);
     }
-    Events {
-        at: next,
-        kept: held.kept,
-    }
+    Events { at: next, kept }
 }
 
 // The program of a party whose walk stops nowhere, as bytes.
@@ -127,12 +121,12 @@ fn write_program(
     requires { ⌜ EventsReady (now book) (now partners) party ⌝ }
     ensures { λ r. ⌜ Wrote (bytesOfAll (partWords (now (book .entry)) party)) (now (out .entry)) at (now (out .exit)) r ⌝ }
 {
-    let mut log = [0u32; Most::PAIRS];
+    let mut log = [0u32; Triple::ALL];
     let events = write_events(book, since, partners, party, &mut log, out, at);
     let mut end = [0u32; 2];
-    put2(&mut end, 0, Code::END, narrow(events.kept / 2));
-    let pairs = put_words(out, events.at, &end, 2);
-    put_words(out, pairs, &log, events.kept)
+    put2(&mut end, 0, Code::END, narrow(events.kept / Triple::WORDS));
+    let triples = put_words(out, events.at, &end, 2);
+    put_words(out, triples, &log, events.kept)
 }
 
 // The programs, in party order, as bytes.

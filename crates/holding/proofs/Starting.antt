@@ -15,7 +15,7 @@ use Rattle.book.specs.Layout.{table, rows, parties, pool, partyFirst, partyCoun
 use Rattle.book.specs.Valid.{Valid}
 use Rattle.book.specs.Headed.Laws.{few-rows}
 use Rattle.book.specs.Span.Laws.{list-none, list-more}
-use Rattle.translation.specs.Dictionary.{free, itself, enter, start}
+use Rattle.translation.specs.Dictionary.{free, given, enter, start}
 use Rattle.holding.specs.Entry.{heldOf}
 use Rattle.holding.specs.View.{rowOf, view}
 use Rattle.holding.specs.View.Laws.{view-set}
@@ -62,9 +62,9 @@ starting-start b p f n x v d c =
       holds = none-held b v x c ∙ sym (ap (λ l. start (map (term (table b)) l)) (list-none b (f + n) (partyCount b p - n) (omega arith)));
     }
 
--- the last row that is left is entered as itself, by the word x at w
+-- the last row that is left is entered as given, by the word x at w
 pub starting-on : {b e : List ℕ} {p f left w r : ℕ} (x : ℕ) → Valid b → p < parties b → f ≡ partyFirst b p → Starting b e p f left
-    → 0 < left → r ≡ pooled b f (left - 1) → heldOf x ≡ itself → w ≡ r → Starting b (set e w x) p f (left - 1)
+    → 0 < left → r ≡ pooled b f (left - 1) → heldOf x ≡ given → w ≡ r → Starting b (set e w x) p f (left - 1)
 unfolding start
 starting-on {b} {e} {p} {f} {left} {w} {r} x v j q g h d dx dw =
     let l = known-row b v p f left r j q g h d in
@@ -82,8 +82,8 @@ starting-on {b} {e} {p} {f} {left} {w} {r} x v j q g h d dx dw =
       long = length-set e w x ∙ o;
       holds =
           ap (λ i. view b (set e i x)) dw ∙ view-set b v e r x l (omega arith) ∙ ap (enter (view b e) (term (table b) r)) dx
-          ∙ ap (λ δ. enter δ (term (table b) r) itself) (g .holds)
-          ∙ ap (λ i. enter (start (map (term (table b)) (listAt b (f + left) (c - left)))) (term (table b) i) itself) (d ∙ same)
+          ∙ ap (λ δ. enter δ (term (table b) r) given) (g .holds)
+          ∙ ap (λ i. enter (start (map (term (table b)) (listAt b (f + left) (c - left)))) (term (table b) i) given) (d ∙ same)
           ∙ sym (ap (λ s. start (map (term (table b)) s)) more);
     }
 

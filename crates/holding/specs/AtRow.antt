@@ -7,7 +7,7 @@ use Rattle.terms.specs.Kind.{Form, ofKind}
 use Rattle.terms.specs.Image.{words}
 use Rattle.terms.specs.Table.{term}
 use Rattle.book.specs.Layout.{table, kind, tag, rowCount, listAt}
-use Rattle.translation.specs.Dictionary.{Held, free, itself, placeholder, buildable, image}
+use Rattle.translation.specs.Dictionary.{Held, free, given, made, stored, buildable, image}
 use Rattle.holding.specs.View.{rowOf, view}
 pub mod Laws
 
@@ -49,5 +49,6 @@ headWords b r = headOf r (kind b r) (tag b r) (rowCount b r)
 -- the words of the image of row r, by how it is held; what is not held is no entry
 unfoldable pub entryWords : ℕ → Held → List ℕ
 entryWords r free = []
-entryWords r itself = 0 ∷ r ∷ []
-entryWords r (placeholder x) = 1 ∷ x ∷ []
+entryWords r given = 0 ∷ r ∷ []
+entryWords r (made s) = 0 ∷ r ∷ []
+entryWords r (stored s x) = 1 ∷ x ∷ []

@@ -5,6 +5,7 @@
 use book::ByRow;
 use book::ImageCode;
 use book::Kind;
+use book::Limit;
 use book::entry;
 use book::first_part;
 use book::is_half;
@@ -33,16 +34,23 @@ ghost use Rattle.terms.specs.Table.{term};
 ghost use Rattle.book.specs.Layout.{rows as rowsOf, parties as partiesOf, kind, known, table};
 ghost use Rattle.book.specs.Valid.{Valid};
 ghost use Rattle.translation.specs.Dictionary.{Held, isHeld, start as startOf, buildable as buildableFrom, image};
-ghost use Rattle.holding.specs.Entry.{heldOf, limit};
+ghost use Rattle.translation.specs.Source.{sinceOf};
+ghost use Rattle.holding.specs.Entry.{heldOf, limit, stepLimit};
 ghost use Rattle.holding.specs.View.{rowOf, view};
 ghost use Rattle.book.specs.Span.{Span};
 ghost use Rattle.holding.specs.AtRow.{imageAt, imagesAt, headWords, entryWords};
 ghost use Rattle.holding.specs.Partners.{PartnersBefore, Partners};
 
-// An entry: 0 where the row is not held, 1 where it is held as itself, x + 2 where it is placeholder x.
+// An entry of a dictionary, a word: what it says is `heldOf`, specs/Entry.antt. From 2 to 63 nothing is written.
 pub struct Entry {}
 
 impl Entry {
+    const GIVEN: u32 = 1;
+
+    const MADE: u32 = Limit::STEPS;
+
+    const STORED: u32 = 2 * Limit::STEPS;
+
     // The row is held.
     pub fn held(entry: u32) -> bool
         ensures { λ r. ⌜ r ≡ isHeld (heldOf entry) ⌝ }
@@ -57,23 +65,44 @@ impl Entry {
         0
     }
 
-    // Held as itself.
-    pub fn itself() -> u32
-        ensures { λ r. ⌜ heldOf r ≡ Held.itself ⌝ }
+    // Given at the start.
+    pub fn given() -> u32
+        ensures { λ r. ⌜ heldOf r ≡ Held.given ⌝ }
     {
-        1
+        Entry::GIVEN
     }
 
-    // Held as the placeholder.
-    pub fn placeholder(place: u32) -> u32
-        requires { ⌜ place < limit ⌝ }
-        ensures { λ r. ⌜ heldOf r ≡ Held.placeholder place ⌝ }
+    // Made at the step.
+    pub fn made(step: u32) -> u32
+        requires { ⌜ step < stepLimit ⌝ }
+        ensures { λ r. ⌜ heldOf r ≡ Held.made step ⌝ }
     {
-        place + 2
+        Entry::MADE + step
+    }
+
+    // Stored at the step, under the placeholder.
+    pub fn stored(step: u32, place: u32) -> u32
+        requires { ⌜ (step < stepLimit) × (place < limit) ⌝ }
+        ensures { λ r. ⌜ heldOf r ≡ Held.stored step place ⌝ }
+    {
+        Entry::STORED + Limit::STEPS * place + step
+    }
+
+    // After how many steps the row is first held, and `never` if it is not.
+    pub fn since(entry: u32, never: u32) -> u32
+        ensures { λ r. ⌜ r ≡ sinceOf never (heldOf entry) ⌝ }
+    {
+        if entry == 0 {
+            return never;
+        }
+        if entry < Entry::MADE {
+            return 0;
+        }
+        entry % Limit::STEPS + 1
     }
 }
 
-// What a party holds at the start: each row that it knows, as itself.
+// What a party holds at the start: each row that it knows, as given.
 pub fn start(book: &[u32], party: u32) -> ByRow
     requires { ⌜ Valid (now book) × (party < partiesOf (now book)) ⌝ }
     ensures { λ r. ⌜ view (now (book .entry)) r ≡ startOf (map (term (table (now (book .entry)))) (known (now (book .entry)) party)) ⌝ }
@@ -83,7 +112,7 @@ pub fn start(book: &[u32], party: u32) -> ByRow
     let mut entries = [Entry::free(); 1024];
     while 0 < left {
         left -= 1;
-        entries[wide(pooled(book, first, left))] = Entry::itself();
+        entries[wide(pooled(book, first, left))] = Entry::given();
     }
     entries
 }
@@ -188,10 +217,15 @@ fn put_entry(row: u32, held: u32, out: &mut [u32], at: usize) -> usize
     requires { ⌜ isHeld (heldOf held) ≡ true ⌝ }
     ensures { λ r. ⌜ Wrote (entryWords row (heldOf held)) (now (out .entry)) at (now (out .exit)) r ⌝ }
 {
-    if held == 1 {
+    if held < Entry::STORED {
         return put2(out, at, ImageCode::ITSELF, row);
     }
-    put2(out, at, ImageCode::PLACEHOLDER, held - 2)
+    put2(
+        out,
+        at,
+        ImageCode::PLACEHOLDER,
+        (held - Entry::STORED) / Limit::STEPS,
+    )
 }
 
 // The image of a row, in prefix words.

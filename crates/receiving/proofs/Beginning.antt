@@ -19,7 +19,7 @@ use Rattle.receiving.specs.Receiving.{standing, rowDid, restDid, listDid
 use Rattle.receiving.proofs.Settling.{opened-cipher, opened-key, opened-ready, opened-led}
 use Rattle.receiving.proofs.Going.{going-start, going-ready, going-within, going-none}
 
-module _ {b ps : List ℕ} {r p : ℕ} {e : List ℕ} {n k a : ℕ} (ready : RowReady b ps r p (standing e n k a)) {u : Bool}
+module _ {b ps : List ℕ} {r p t : ℕ} {e : List ℕ} {n k a : ℕ} (ready : RowReady b ps r p (standing t e n k a)) {u : Bool}
     (du : u ≡ canOpen (view b e) (term (table b) r)) where
   -- ---- it opens: f and c are where its parts begin and how many they are, q the number of contents, and j the place behind the OPEN
   module _ (y : u ≡ true) where
@@ -33,24 +33,24 @@ module _ {b ps : List ℕ} {r p : ℕ} {e : List ℕ} {n k a : ℕ} (ready : Row
     begun-key d = opened-key ready can d
 
     module _ {f c q : ℕ} (df : f ≡ rowFirst b r) (dc : c ≡ rowCount b r) (dq : q ≡ c - 1) where
-      given : (j : ℕ) (l o : List ℕ) → Going b r (listDid b (f + 1) (c - 1) (standing e n k j)) (standing e n k j) l o (f + 1) (c - 1) n
-          (standing e (n + q) k j) l o
+      given : (j : ℕ) (l o : List ℕ) → Going b r (listDid b (f + 1) (c - 1) (standing t e n k j)) (standing t e n k j) l o (f + 1) (c - 1) n
+          (standing t e (n + q) k j) l o
       given j l o = going-start (opened-ready ready can df dc j) dq refl
 
       pub begun-low : n + q ≤ limit
       begun-low = let h = given 0 [] [] .fits in omega arith
 
-      pub begun-ready : (j : ℕ) → RestReady b ps r (f + 1) (c - 1) n (standing e (n + q) k j)
-      begun-ready j = going-ready (given j [] []) (ready .valid) (ready .partners) (let h = ready .row in omega arith)
+      pub begun-ready : (j : ℕ) → RestReady b ps r (f + 1) (c - 1) n (standing t e (n + q) k j)
+      begun-ready j = going-ready (given j [] []) (ready .timely) (ready .valid) (ready .partners) (let h = ready .row in omega arith)
 
       pub begun-opened : {j : ℕ} {l o s : List ℕ} {i m z : ℕ} {x : Received} {l′ s′ : List ℕ}
           → Wrote (programWords (rowOf b) (unlocked (term (table b) r) p (view b e) n .events)) o a s j
-          → Going b r (restDid b (f + 1) (c - 1) n (standing e (n + q) k j)) (standing e (n + q) k j) l s i m z x l′ s′
-          → Going b r (rowDid b r p (standing e n k a)) (standing e n k a) l o i m z x l′ s′
+          → Going b r (restDid b (f + 1) (c - 1) n (standing t e (n + q) k j)) (standing t e (n + q) k j) l s i m z x l′ s′
+          → Going b r (rowDid b r p (standing t e n k a)) (standing t e n k a) l o i m z x l′ s′
       begun-opened {j} {l} {o} {s} w g =
-          going-within g refl (wrote-length w) (λ m t y v. opened-led ready can df dc w (given j l s .rest m t y v))
+          going-within g refl refl (wrote-length w) (λ m u y v. opened-led ready can df dc y w (given j l s .rest m u y v))
 
   -- ---- it doesn't, and is settled: nothing is left
-  pub begun-settled : {y : Received} {l m o s : List ℕ} → Brought b (rowDid b r p (standing e n k a)) (standing e n k a) l m o s y
-      → n ≤ y .dictionary .next → Going b r (rowDid b r p (standing e n k a)) (standing e n k a) l o 0 0 n y m s
+  pub begun-settled : {y : Received} {l m o s : List ℕ} → Brought b (rowDid b r p (standing t e n k a)) (standing t e n k a) l m o s y
+      → n ≤ y .dictionary .next → Going b r (rowDid b r p (standing t e n k a)) (standing t e n k a) l o 0 0 n y m s
   begun-settled w h = let f = ready .fits in going-none w (omega arith) h

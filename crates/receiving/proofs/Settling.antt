@@ -14,7 +14,7 @@ use Rattle.book.specs.Span.Laws.{span-row, span-tail}
 use Rattle.book.specs.Headed.Laws.{few-rows}
 use Rattle.translation.specs.Dictionary.{Held, buildable, enter}
 use Rattle.translation.specs.Receive.{Did, followed, canOpen, compared}
-use Rattle.translation.specs.Listing.{pairWords, programWords}
+use Rattle.translation.specs.Listing.{tripleWords, programWords}
 use Rattle.holding.specs.Entry.{heldOf}
 use Rattle.holding.specs.View.{rowOf, view}
 use Rattle.holding.specs.View.Laws.{row-of, view-set}
@@ -26,26 +26,27 @@ use Rattle.receiving.specs.Receiving.{standing, rowDid, listDid, SettleR
 use Rattle.receiving.proofs.Bounds.{some-key}
 
 -- ---- a row that can't be opened; t is the code's test, of building
-module _ {b e : List ℕ} {r p n k a : ℕ} (ready : SettleReady b r p (standing e n k a)) {t : Bool}
+module _ {b e : List ℕ} {i r p n k a : ℕ} (ready : SettleReady b r p (standing i e n k a)) {t : Bool}
     (dt : t ≡ buildable (view b e) (term (table b) r)) where
   pub settle-compare : {l o s : List ℕ} {j : ℕ} → t ≡ true
       → Wrote (programWords (rowOf b) (compared (term (table b) r) p (view b e) .events)) o a s j
-      → Brought b (rowDid b r p (standing e n k a)) (standing e n k a) l l o s (standing e n k j)
-  unfolding pairWords
+      → Brought b (rowDid b r p (standing i e n k a)) (standing i e n k a) l l o s (standing i e n k j)
+  unfolding tripleWords
   settle-compare q x =
       record {
         led = doing-as (record { holds = refl; goes = omega arith; wrote = x; keeps = wrote-none })
-            (receive-compared (term (table b) r) p (view b e) n (ready .shut) (sym dt ∙ q));
+            (receive-compared i (term (table b) r) p (view b e) n (ready .shut) (sym dt ∙ q));
         size = ready .size;
+        same = refl;
       }
 
   -- the word x is entered at w
-  pub settle-store : {w : ℕ} (x : ℕ) {l m o : List ℕ} {j : ℕ} → t ≡ false → w ≡ r → heldOf x ≡ Held.placeholder p
-      → Wrote (r ∷ p ∷ []) l k m j
-      → Brought b (rowDid b r p (standing e n k a)) (standing e n k a) l m o o (standing (set e w x) n j a)
-  unfolding pairWords programWords
+  pub settle-store : {w : ℕ} (x : ℕ) {l m o : List ℕ} {j : ℕ} → t ≡ false → w ≡ r → heldOf x ≡ Held.stored i p
+      → Wrote (r ∷ p ∷ i ∷ []) l k m j
+      → Brought b (rowDid b r p (standing i e n k a)) (standing i e n k a) l m o o (standing i (set e w x) n j a)
+  unfolding tripleWords programWords
   settle-store {w} x q dw dx put =
-      let i = few-rows b (ready .valid) in
+      let few = few-rows b (ready .valid) in
       let h = ready .row in
       let z = ready .size in
       record {
@@ -53,13 +54,14 @@ module _ {b e : List ℕ} {r p n k a : ℕ} (ready : SettleReady b r p (standing
           holds = rw dw (view-set b (ready .valid) e r x h (omega arith) ∙ ap (enter (view b e) (term (table b) r)) dx);
           goes = omega arith;
           wrote = wrote-none;
-          keeps = wrote-as put (ap (λ (y : ℕ). y ∷ p ∷ []) (row-of b (ready .valid) r (term (table b) r) h refl));
-        }) (receive-kept (term (table b) r) p (view b e) n (ready .shut) (sym dt ∙ q));
+          keeps = wrote-as put (ap (λ (y : ℕ). y ∷ p ∷ i ∷ []) (row-of b (ready .valid) r (term (table b) r) h refl));
+        }) (receive-kept i (term (table b) r) p (view b e) n (ready .shut) (sym dt ∙ q));
         size = length-set e w x ∙ z;
+        same = refl;
       }
 
 -- ---- a row that is opened: f and c are where its parts begin and how many they are, and j the place behind the OPEN
-module _ {b ps : List ℕ} {r p : ℕ} {e : List ℕ} {n k a : ℕ} (ready : RowReady b ps r p (standing e n k a))
+module _ {b ps : List ℕ} {r p i : ℕ} {e : List ℕ} {n k a : ℕ} (ready : RowReady b ps r p (standing i e n k a))
     (can : canOpen (view b e) (term (table b) r) ≡ true) where
   pub opened-cipher : kind b r ≡ 2
   opened-cipher = opens-cipher b (ready .valid) r (ready .row) (view b e) can
@@ -72,18 +74,18 @@ module _ {b ps : List ℕ} {r p : ℕ} {e : List ℕ} {n k a : ℕ} (ready : Row
   itself = unlocked (term (table b) r) p (view b e) n
 
   module _ {f c : ℕ} (df : f ≡ rowFirst b r) (dc : c ≡ rowCount b r) where
-    is-turn : (j : ℕ) → rowDid b r p (standing e n k a) ≡ followed itself (listDid b (f + 1) (c - 1) (standing e n k j))
+    is-turn : (j : ℕ) → rowDid b r p (standing i e n k a) ≡ followed itself (listDid b (f + 1) (c - 1) (standing i e n k j))
     unfolding contentsOf
     is-turn j =
-        receive-opened (term (table b) r) p (view b e) n can
-        ∙ ap (λ ts. followed itself (inTurn ts (view b e) n)) (ap contentsOf (cipher-row b (ready .valid) r (ready .row) opened-cipher) ∙ rw (df, dc))
+        receive-opened i (term (table b) r) p (view b e) n can
+        ∙ ap (λ ts. followed itself (inTurn i ts (view b e) n)) (ap contentsOf (cipher-row b (ready .valid) r (ready .row) opened-cipher) ∙ rw (df, dc))
 
     -- the contents can be received in turn
-    pub opened-ready : (j : ℕ) → ListReady b ps r (f + 1) (c - 1) (standing e n k j)
+    pub opened-ready : (j : ℕ) → ListReady b ps r (f + 1) (c - 1) (standing i e n k j)
     opened-ready j =
         let fits = ready .fits in
         let g = ap (λ (d : Did). length (d .given)) (is-turn j) in
-        let z = length-append (itself .given) (listDid b (f + 1) (c - 1) (standing e n k j) .given) in
+        let z = length-append (itself .given) (listDid b (f + 1) (c - 1) (standing i e n k j) .given) in
         let key = opened-key dc in
         let row = ready .row in
         record {
@@ -91,20 +93,21 @@ module _ {b ps : List ℕ} {r p : ℕ} {e : List ℕ} {n k a : ℕ} (ready : Row
           partners = ready .partners;
           bounded = omega arith;
           span = span-tail b r f c (span-row b (ready .valid) f c r (ready .row) df dc) (omega arith);
+          timely = ready .timely;
           size = ready .size;
           fits = omega arith;
         }
 
     -- and complete it
-    pub opened-led : {j : ℕ} {l m o s t : List ℕ} {y : Received} → Wrote (programWords (rowOf b) (itself .events)) o a s j
-        → Led b (listDid b (f + 1) (c - 1) (standing e n k j)) (standing e n k j) l m s t y
-        → Led b (rowDid b r p (standing e n k a)) (standing e n k a) l m o t y
-    unfolding pairWords
-    opened-led {j} w u =
+    pub opened-led : (y : Received) {j : ℕ} {l m o s t : List ℕ} → Wrote (programWords (rowOf b) (itself .events)) o a s j
+        → Led b (listDid b (f + 1) (c - 1) (standing i e n k j)) (standing i e n k j) l m s t y
+        → Led b (rowDid b r p (standing i e n k a)) (standing i e n k a) l m o t y
+    unfolding tripleWords
+    opened-led y {j} w u =
         let q = unlocked-rest (term (table b) r) p (view b e) n in
-        doing-as (doing-then b itself (listDid b (f + 1) (c - 1) (standing e n k j)) (record {
+        doing-as (doing-then b itself (listDid b (f + 1) (c - 1) (standing i e n k j)) (record {
           holds = sym (q .0);
           goes = let g = ap length (q .1) in omega arith;
           wrote = w;
-          keeps = wrote-as wrote-none (ap (pairWords (rowOf b)) (q .2));
+          keeps = wrote-as wrote-none (ap (tripleWords (rowOf b)) (q .2));
         }) u) (is-turn j)

@@ -7,10 +7,10 @@ use Rattle.translation.specs.Dictionary.{Dictionary, image}
 use Rattle.translation.specs.Receive.{Event, Did, nothing, followed, receiveAll}
 pub mod Laws
 
--- the terms get the placeholders from n on, and are received left to right
-unfoldable pub inTurn : Terms → Dictionary → ℕ → Did
-inTurn ts δ n =
-    followed (record { dictionary = δ; given = listed ts; events = []; stored = [] }) (receiveAll ts n δ (n + count ts))
+-- the terms get the placeholders from n on, and are received left to right, at step s
+unfoldable pub inTurn : ℕ → Terms → Dictionary → ℕ → Did
+inTurn s ts δ n =
+    followed (record { dictionary = δ; given = listed ts; events = []; stored = [] }) (receiveAll s ts n δ (n + count ts))
 
 -- what opening says of a cipher at placeholder p, where n is the next placeholder; no other term is ever opened
 unfoldable pub unlocked : Term → ℕ → Dictionary → ℕ → Did

@@ -1,5 +1,5 @@
 // Figure 3's R, opening first: what a party does with the terms that arrive at its placeholders. `receive_messages` and `receive` write the
-// CHECKs and OPENs, put each stored pair behind the last in the log, and give back the dictionary afterwards. All of it is the
+// CHECKs and OPENs, put what is stored behind the last in the log, and give back the dictionary afterwards. All of it is the
 // meaning's own (translation/specs/Receive.antt), for a valid book and the table of its partners.
 use book::ByRow;
 use book::Code;
@@ -16,6 +16,7 @@ use holding::write_image;
 use holding::write_partner;
 use words::narrow;
 use words::put2;
+use words::put3;
 use words::wide;
 ghost use mathlib.Core.Path.{_≡_};
 ghost use Prim.Native.Nat.{_<_};
@@ -30,9 +31,10 @@ ghost use Rattle.holding.specs.View.{rowOf, view};
 ghost use Rattle.receiving.specs.Turn.{unlocked};
 ghost use Rattle.receiving.specs.Receiving.{standing, rowDid, listDid, restDid, SettleReady, RowReady, RestReady, ListReady, Brought, Going};
 
-// What a party holds, an entry for each row; its next placeholder; the place of its next stored pair in the log.
+// What a party holds, an entry for each row; the step that it is at; its next placeholder; the place in the log of what it stores next.
 pub struct Dictionary {
     pub entries: ByRow,
+    pub step: u32,
     pub next: u32,
     pub kept: usize,
 }
@@ -43,7 +45,7 @@ pub struct Received {
     pub at: usize,
 }
 
-// How far it got, beside the entries: the next placeholder, and the places of the next stored pair and of the next word.
+// How far it got, beside the entries: the next placeholder, and the places of what is stored next and of the next word.
 pub struct Reached {
     pub next: u32,
     pub kept: usize,
@@ -67,13 +69,14 @@ struct Settled {
 }
 
 impl Dictionary {
-    // What is held at the start; no placeholder is handed out yet.
-    pub fn new(entries: ByRow, kept: usize) -> Self
-        ensures { λ r. ⌜ (r .entries ≡ entries) × (r .next ≡ 0) × (r .kept ≡ kept) ⌝ }
+    // A fresh dictionary of what is held by now, at a step, with the next placeholder and the place in the log.
+    pub fn new(entries: ByRow, step: u32, next: u32, kept: usize) -> Self
+        ensures { λ r. ⌜ r ≡ standing step entries next kept 0 .dictionary ⌝ }
     {
         Dictionary {
             entries,
-            next: 0,
+            step,
+            next,
             kept,
         }
     }
@@ -129,6 +132,7 @@ fn put_open(
 fn settle(
     book: &[u32],
     entries: &mut ByRow,
+    step: u32,
     next: u32,
     kept: usize,
     row: u32,
@@ -137,15 +141,15 @@ fn settle(
     out: &mut [u32],
     at: usize,
 ) -> Settled
-    requires { ⌜ SettleReady (now book) row place (standing (now entries) next kept at) ⌝ }
-    ensures { λ r. ⌜ Brought (now (book .entry)) (rowDid (now (book .entry)) row place (standing (now (entries .entry)) next kept at)) (standing (now (entries .entry)) next kept at) (now (log .entry)) (now (log .exit)) (now (out .entry)) (now (out .exit)) (standing (now (entries .exit)) next (r .kept) (r .at)) ⌝ }
+    requires { ⌜ SettleReady (now book) row place (standing step (now entries) next kept at) ⌝ }
+    ensures { λ r. ⌜ Brought (now (book .entry)) (rowDid (now (book .entry)) row place (standing step (now (entries .entry)) next kept at)) (standing step (now (entries .entry)) next kept at) (now (log .entry)) (now (log .exit)) (now (out .entry)) (now (out .exit)) (standing step (now (entries .exit)) next (r .kept) (r .at)) ⌝ }
 {
     if buildable(book, entries, row) {
         let last = put_check(book, entries, row, place, out, at);
         return Settled { kept, at: last };
     }
-    entries[wide(row)] = Entry::placeholder(place);
-    let last = put2(log, kept, row, place);
+    entries[wide(row)] = Entry::stored(step, place);
+    let last = put3(log, kept, row, place, step);
     Settled { kept: last, at }
 }
 
@@ -154,6 +158,7 @@ fn settle_run(
     book: &[u32],
     partners: &ByRow,
     entries: &mut ByRow,
+    step: u32,
     next: u32,
     kept: usize,
     bound: u32,
@@ -164,8 +169,8 @@ fn settle_run(
     out: &mut [u32],
     at: usize,
 ) -> Begun
-    requires { ⌜ RestReady (now book) (now partners) bound first left from (standing (now entries) next kept at) ⌝ }
-    ensures { λ r. ⌜ Going (now (book .entry)) bound (restDid (now (book .entry)) first left from (standing (now (entries .entry)) next kept at)) (standing (now (entries .entry)) next kept at) (now (log .entry)) (now (out .entry)) (r .first) (r .left) (r .place) (standing (now (entries .exit)) (r .next) (r .kept) (r .at)) (now (log .exit)) (now (out .exit)) ⌝ }
+    requires { ⌜ RestReady (now book) (now partners) bound first left from (standing step (now entries) next kept at) ⌝ }
+    ensures { λ r. ⌜ Going (now (book .entry)) bound (restDid (now (book .entry)) first left from (standing step (now (entries .entry)) next kept at)) (standing step (now (entries .entry)) next kept at) (now (log .entry)) (now (out .entry)) (r .first) (r .left) (r .place) (standing step (now (entries .exit)) (r .next) (r .kept) (r .at)) (now (log .exit)) (now (out .exit)) ⌝ }
 {
     let mut stored = kept;
     let mut last = at;
@@ -184,7 +189,18 @@ fn settle_run(
                 at: last,
             };
         }
-        let settled = settle(book, entries, next, stored, row, place, log, out, last);
+        let settled = settle(
+            book,
+            entries,
+            step,
+            next,
+            stored,
+            row,
+            place,
+            log,
+            out,
+            last,
+        );
         stored = settled.kept;
         last = settled.at;
         place += 1;
@@ -206,6 +222,7 @@ fn begin(
     book: &[u32],
     partners: &ByRow,
     entries: &mut ByRow,
+    step: u32,
     next: u32,
     kept: usize,
     row: u32,
@@ -214,8 +231,8 @@ fn begin(
     out: &mut [u32],
     at: usize,
 ) -> Begun
-    requires { ⌜ RowReady (now book) (now partners) row place (standing (now entries) next kept at) ⌝ }
-    ensures { λ r. ⌜ Going (now (book .entry)) row (rowDid (now (book .entry)) row place (standing (now (entries .entry)) next kept at)) (standing (now (entries .entry)) next kept at) (now (log .entry)) (now (out .entry)) (r .first) (r .left) (r .place) (standing (now (entries .exit)) (r .next) (r .kept) (r .at)) (now (log .exit)) (now (out .exit)) ⌝ }
+    requires { ⌜ RowReady (now book) (now partners) row place (standing step (now entries) next kept at) ⌝ }
+    ensures { λ r. ⌜ Going (now (book .entry)) row (rowDid (now (book .entry)) row place (standing step (now (entries .entry)) next kept at)) (standing step (now (entries .entry)) next kept at) (now (log .entry)) (now (out .entry)) (r .first) (r .left) (r .place) (standing step (now (entries .exit)) (r .next) (r .kept) (r .at)) (now (log .exit)) (now (out .exit)) ⌝ }
 {
     if opens(book, partners, entries, row) {
         let last = put_open(book, partners, entries, row, place, next, out, at);
@@ -225,6 +242,7 @@ fn begin(
             book,
             partners,
             entries,
+            step,
             next + narrow(left),
             kept,
             row,
@@ -236,7 +254,7 @@ fn begin(
             last,
         );
     }
-    let settled = settle(book, entries, next, kept, row, place, log, out, at);
+    let settled = settle(book, entries, step, next, kept, row, place, log, out, at);
     Begun {
         next,
         first: 0,
@@ -262,6 +280,7 @@ pub fn receive(
     ensures { λ r. ⌜ Brought (now (book .entry)) (rowDid (now (book .entry)) row place before) before (now (log .entry)) (now (log .exit)) (now (out .entry)) (now (out .exit)) r ⌝ }
 {
     let mut here = before;
+    let step = here.dictionary.step;
     let next = here.dictionary.next;
     let kept = here.dictionary.kept;
     let at = here.at;
@@ -269,6 +288,7 @@ pub fn receive(
         book,
         partners,
         &mut here.dictionary.entries,
+        step,
         next,
         kept,
         row,
@@ -335,6 +355,7 @@ pub fn receive_messages(
     book: &[u32],
     partners: &ByRow,
     entries: &mut ByRow,
+    step: u32,
     next: u32,
     kept: usize,
     bound: u32,
@@ -344,8 +365,8 @@ pub fn receive_messages(
     out: &mut [u32],
     at: usize,
 ) -> Reached
-    requires { ⌜ ListReady (now book) (now partners) bound first left (standing (now entries) next kept at) ⌝ }
-    ensures { λ r. ⌜ Brought (now (book .entry)) (listDid (now (book .entry)) first left (standing (now (entries .entry)) next kept at)) (standing (now (entries .entry)) next kept at) (now (log .entry)) (now (log .exit)) (now (out .entry)) (now (out .exit)) (standing (now (entries .exit)) (r .next) (r .kept) (r .at)) ⌝ }
+    requires { ⌜ ListReady (now book) (now partners) bound first left (standing step (now entries) next kept at) ⌝ }
+    ensures { λ r. ⌜ Brought (now (book .entry)) (listDid (now (book .entry)) first left (standing step (now (entries .entry)) next kept at)) (standing step (now (entries .entry)) next kept at) (now (log .entry)) (now (log .exit)) (now (out .entry)) (now (out .exit)) (standing step (now (entries .exit)) (r .next) (r .kept) (r .at)) ⌝ }
 {
     let mut place = next;
     let mut reached = Reached {
@@ -359,11 +380,7 @@ pub fn receive_messages(
         let row = entry(book, i, k, bound);
         if opens(book, partners, entries, row) {
             let held = *entries;
-            let dictionary = Dictionary {
-                entries: held,
-                next: reached.next,
-                kept: reached.kept,
-            };
+            let dictionary = Dictionary::new(held, step, reached.next, reached.kept);
             let here = Received {
                 dictionary,
                 at: reached.at,
@@ -381,6 +398,7 @@ pub fn receive_messages(
             let settled = settle(
                 book,
                 entries,
+                step,
                 reached.next,
                 reached.kept,
                 row,

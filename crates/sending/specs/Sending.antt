@@ -1,7 +1,7 @@
 -- Sending as the code does it: the atoms of a step's messages are made first, each with its NEW, then one SEND is written with the
 -- messages' images. What is made and written is `buildAll`'s and `sent`'s; of the atoms made, the first that can't be made is where making
 -- stops: "the walk stops at the first atom that can't be made, with 10 if it is taken and else 13" (document 02, [5]).
-use Prim.Native.Nat.{ℕ, _+_, _*_, _≤_}
+use Prim.Native.Nat.{ℕ, _+_, _*_, _≤_, _<_}
 use mathlib.Core.List.{List, [], _∷_, map}
 use mathlib.Core.Path.{_≡_}
 use lib.Dec.{eqb}
@@ -20,6 +20,7 @@ use Rattle.translation.specs.Long.{stepSize}
 use Rattle.translation.specs.Receive.{Event}
 use Rattle.translation.specs.Program.{sent}
 use Rattle.translation.specs.Listing.{programWords}
+use Rattle.holding.specs.Entry.{stepLimit}
 use Rattle.holding.specs.View.{rowOf, view}
 use Rattle.claims.specs.Since.{takenIn}
 use Rattle.sending.specs.declared.Made.{Made}
@@ -59,13 +60,14 @@ pub record Makes (b l : List ℕ) (k s : ℕ) (g : Making) (m : Made) (e out out
   pub stops : r .stop ≡ firstIn (againstIn l k s) s (m .stop) (g .made)
   pub size : length e ≡ 1024
 
--- what sending is handed: n messages, which stand at f in the pool, and the entries e. As many atoms as a step can make may be made, and
+-- what sending is handed: step s, whose n messages stand at f in the pool, and the entries e. As many atoms as a step can make may be made, and
 -- the place a is so low that their NEWs are counted.
-pub record SendReady (b : List ℕ) (f n : ℕ) (e : List ℕ) (a : ℕ) : Type 0 where
+pub record SendReady (b : List ℕ) (s f n : ℕ) (e : List ℕ) (a : ℕ) : Type 0 where
   pub valid : Valid b
   pub span : Span b (rows b) f n
   pub size : length e ≡ 1024
-  pub few : length (buildAll (terms (table b) (listAt b f n)) (view b e) .made) ≤ stepSize
+  pub step : s < stepLimit
+  pub few : length (buildAll s (terms (table b) (listAt b f n)) (view b e) .made) ≤ stepSize
   pub low : a + 2 * stepSize ≤ cap
 
 -- the messages were sent, the first word at a

@@ -24,6 +24,7 @@ ghost use Rattle.terms.specs.Table.{term, terms};
 ghost use Rattle.book.specs.Layout.{rows as rowsOf, table, listAt};
 ghost use Rattle.book.specs.Valid.{Valid};
 ghost use Rattle.translation.specs.Build.{build, buildAll};
+ghost use Rattle.holding.specs.Entry.{stepLimit};
 ghost use Rattle.holding.specs.View.{view};
 ghost use Rattle.book.specs.Span.{Span};
 ghost use Rattle.claims.specs.Since.{takenIn};
@@ -94,15 +95,15 @@ fn make(
     m: Made,
     out: &mut [u32],
 ) -> Made
-    requires { ⌜ Valid (now book) × (row < rowsOf (now book)) × (length (now entries) ≡ 1024) ⌝ }
-    ensures { λ r. ⌜ Makes (now (book .entry)) (now (since .entry)) mark step (making (build (term (table (now (book .entry))) row) (view (now (book .entry)) (now (entries .entry))))) m (now (entries .exit)) (now (out .entry)) (now (out .exit)) r ⌝ }
+    requires { ⌜ Valid (now book) × (row < rowsOf (now book)) × (length (now entries) ≡ 1024) × (step < stepLimit) ⌝ }
+    ensures { λ r. ⌜ Makes (now (book .entry)) (now (since .entry)) mark step (making (build step (term (table (now (book .entry))) row) (view (now (book .entry)) (now (entries .entry))))) m (now (entries .exit)) (now (out .entry)) (now (out .exit)) r ⌝ }
 {
     if Entry::held(entries[wide(row)]) {
         return m;
     }
     if row_kind(book, row) == Kind::ATOM {
-        let itself = Entry::itself();
-        entries[wide(row)] = itself;
+        let made = Entry::made(step);
+        entries[wide(row)] = made;
         let at = put2(out, m.at, Code::NEW, row);
         let before = m.stop;
         let stop = first_stop(since, mark, row, step, before);
@@ -135,8 +136,8 @@ fn make_list(
     m: Made,
     out: &mut [u32],
 ) -> Made
-    requires { ⌜ Valid (now book) × (bound ≤ rowsOf (now book)) × Span (now book) bound first left × (length (now entries) ≡ 1024) ⌝ }
-    ensures { λ r. ⌜ Makes (now (book .entry)) (now (since .entry)) mark step (allMaking (buildAll (terms (table (now (book .entry))) (listAt (now (book .entry)) first left)) (view (now (book .entry)) (now (entries .entry))))) m (now (entries .exit)) (now (out .entry)) (now (out .exit)) r ⌝ }
+    requires { ⌜ Valid (now book) × (bound ≤ rowsOf (now book)) × Span (now book) bound first left × (length (now entries) ≡ 1024) × (step < stepLimit) ⌝ }
+    ensures { λ r. ⌜ Makes (now (book .entry)) (now (since .entry)) mark step (allMaking (buildAll step (terms (table (now (book .entry))) (listAt (now (book .entry)) first left)) (view (now (book .entry)) (now (entries .entry))))) m (now (entries .exit)) (now (out .entry)) (now (out .exit)) r ⌝ }
 {
     if left == 0 {
         return m;
@@ -177,8 +178,8 @@ pub fn send(
     out: &mut [u32],
     at: usize,
 ) -> Sent
-    requires { ⌜ SendReady (now book) first n (now entries) at ⌝ }
-    ensures { λ r. ⌜ Sends (now (book .entry)) (now (since .entry)) mark step (buildAll (terms (table (now (book .entry))) (listAt (now (book .entry)) first n)) (view (now (book .entry)) (now (entries .entry)))) at (now (entries .exit)) (now (out .entry)) (now (out .exit)) r ⌝ }
+    requires { ⌜ SendReady (now book) step first n (now entries) at ⌝ }
+    ensures { λ r. ⌜ Sends (now (book .entry)) (now (since .entry)) mark step (buildAll step (terms (table (now (book .entry))) (listAt (now (book .entry)) first n)) (view (now (book .entry)) (now (entries .entry)))) at (now (entries .exit)) (now (out .entry)) (now (out .exit)) r ⌝ }
 {
     let bound = rows(book);
     let nowhere = Stop {

@@ -1,82 +1,81 @@
--- Writing a summary: a party's marks are its words, and the parties' words follow one another. Assumes nothing.
+-- Writing a summary: what a party holds in the end tells its words, and the parties' words follow one another. Assumes nothing.
 use Prim.Native.Nat.{ℕ, zero, suc, _+_, _*_, _≤_, _<_}
 use native.Mathlib.Nat.{add-zero}
 use native.Mathlib.Numerals.{add-one}
 use native.Mathlib.Omega.{arith}
 use mathlib.Core.List.{List, [], _∷_, _++_, append-nil, append-assoc}
 use mathlib.Core.Path.{_≡_, refl, sym, ap, ap₂, _∙_}
-use lib.ListN.{length, getD, take, replicate, length-replicate}
-use lib.Seq.{take-length, length-take-le, getD-take}
-use Rattle.words.specs.First.{first}
-use Rattle.words.specs.First.Laws.{first-same}
+use lib.ListN.{length, getD}
 use Rattle.words.specs.Overlay.{Wrote}
 use Rattle.words.specs.Overlay.Laws.{wrote-none, wrote-then, wrote-as}
 use Rattle.words.specs.Run.{values}
 use Rattle.words.specs.Run.Laws.{values-last}
-use Rattle.book.specs.Layout.{rows, parties, steps}
+use Rattle.book.specs.Layout.{table, rows, parties, steps}
+use Rattle.terms.specs.Table.{term}
 use Rattle.book.specs.Valid.{Valid}
-use Rattle.book.specs.Headed.Laws.{few-rows, few-parties}
 use Rattle.translation.specs.Taken.{joined}
-use Rattle.walking.specs.Marked.{holdsRow, Unmarked, Marked}
-use Rattle.walking.specs.Marked.Laws.{held-all}
+use Rattle.translation.specs.Source.{sourceOf, sinceOf}
+use Rattle.translation.specs.Steps.Laws.{before-holds}
+use Rattle.holding.specs.Entry.{heldOf}
+use Rattle.holding.specs.View.Laws.{view-row}
+use Rattle.walking.specs.Walking.{Holding}
 use Rattle.translator.specs.Ready.{Writable}
 use Rattle.book.specs.declared.Refusal.the-variants.{Room}
 use Rattle.translation.specs.Outcome.{came, Plays}
 use Rattle.translation.specs.declared.Answer.the-variants.{Written, Refused}
-use Rattle.summary.specs.Summary.{holds, heldFrom, heldWords, heldTo, summaryWords, summary, summarized}
+use Rattle.summary.specs.Summary.{heldFrom, heldWords, heldTo, summaryWords, summary, summarized}
 use Rattle.summary.specs.Summary.Written.{summary-room-came, summary-written-came}
-use Rattle.summary.specs.Summary.Laws.{holds-before}
-use Rattle.summary.specs.Writing.{PartyReady}
+use Rattle.summary.specs.Summary.Laws.{heldFrom-source}
+use Rattle.summary.specs.Writing.{sinceWords, PartyReady}
 
 -- ---- one party
--- a list whose items are f's
-values-of : (f : ℕ → ℕ) (l : List ℕ) (i : ℕ) → ((r : ℕ) → r < length l → getD l r 0 ≡ f (i + r)) → l ≡ values f i (length l)
+-- the first i rows' words were written
+pub record Dated (e : List ℕ) (z n i : ℕ) (old : List ℕ) (at : ℕ) (new : List ℕ) (next : ℕ) : Type 0 where
+  pub few : i ≤ n
+  pub wrote : Wrote (sinceWords e z i) old at new next
+
+pub dated-start : {e : List ℕ} {z n : ℕ} {old : List ℕ} {at : ℕ} → Dated e z n 0 old at old at
 unfolding values
-values-of f [] i h = refl
-values-of f (x ∷ l) i h =
-    ap₂ _∷_ (h 0 (omega arith) ∙ ap f (add-zero i))
-    (values-of f l (suc i) (λ r k. h (suc r) (omega arith) ∙ (let z : i + suc r ≡ suc i + r = omega arith in ap f z)))
+dated-start = record { few = omega arith; wrote = wrote-none }
 
--- the marks after all steps are the party's words
-pub marks-words : {b marks : List ℕ} {p : ℕ} → p < parties b → length marks ≡ rows b → Marked b p (steps b + 1) marks → marks ≡ heldWords b p
-unfolding heldFrom holdsRow
-marks-words {b} {marks} {p} l e g =
-    values-of (heldFrom b p) marks 0 (λ r h. g .each r h ∙ held-all b p r ∙ same r) ∙ ap (values (heldFrom b p) 0) e
-  where
-    same : (r : ℕ) → first (holdsRow b p r) (steps b + 1) ≡ heldFrom b p (0 + r)
-    same r =
-        let z : r ≡ 0 + r = omega arith in
-        first-same (holdsRow b p r) (holds b p r) (steps b + 1) (λ k h. one r k (omega arith)) ∙ ap (heldFrom b p) z
-      where
-        one : (r k : ℕ) → k ≤ steps b → holdsRow b p r k ≡ holds b p r k
-        one r k h = sym (holds-before b p r l k h)
-
-pub marks-wrote : {b : List ℕ} (marks : List ℕ) {new out outAfter : List ℕ} {p at next : ℕ} → p < parties b → length marks ≡ rows b
-    → length new ≡ length marks → Marked b p (steps b + 1) new → Wrote (take (length new) new) out at outAfter next
-    → Wrote (heldWords b p) out at outAfter next
-marks-wrote marks {new} l e f g w = wrote-as w (sym (take-length new ∙ marks-words l (f ∙ e) g))
-
--- so many words of a list that has one more than all steps everywhere are marked nowhere
-pub fresh-size : {b : List ℕ} {n t : ℕ} (x : ℕ) → Valid b → t ≡ rows b → n ≡ t → length (take n (replicate {A = ℕ} 1024 x)) ≡ rows b
-fresh-size {b} {n} x v dt dn =
-    let few = few-rows b v in
-    let whole = length-replicate 1024 x in
-    let size = length-take-le n (replicate {A = ℕ} 1024 x) (omega arith) in
-    omega arith
-
-everywhere : (m x r : ℕ) → r < m → getD (replicate m x) r 0 ≡ x
-everywhere zero x r h = absurd (omega arith)
-everywhere (suc m) x zero h = refl
-everywhere (suc m) x (suc r) h = everywhere m x r (omega arith)
-
-pub fresh-marks : {b : List ℕ} {n t : ℕ} (x : ℕ) → Valid b → t ≡ rows b → n ≡ t → x ≡ steps b + 1 → Unmarked b (take n (replicate 1024 x))
-fresh-marks {b} {n} x v dt dn d =
-    let few = few-rows b v in
-    let size = fresh-size {b = b} {n = n} x v dt dn in
+-- the row's entry is read at w, and x is written
+pub dated-on : {e : List ℕ} {z n i : ℕ} {old new later : List ℕ} {at next r w x : ℕ} → i < n → Dated e z n i old at new next
+    → w ≡ i → x ≡ sinceOf z (heldOf (getD e w 0)) → Wrote (x ∷ []) new next later r → Dated e z n (i + 1) old at later r
+dated-on {e} {z} {i = i} {w = w} l g dw dx put =
+    let f : ℕ → ℕ = λ r. sinceOf z (heldOf (getD e r 0)) in
     record {
       few = omega arith;
-      each = λ r h. getD-take n (replicate 1024 x) r 0 (omega arith) ∙ everywhere 1024 x r (omega arith) ∙ d;
+      wrote = wrote-as (wrote-then (g .wrote) put)
+          (ap (values f 0) (add-one i) ∙ values-last f 0 i
+          ∙ ap (λ y. sinceWords e z i ++ y ∷ []) (sym (dx ∙ (let k : w ≡ 0 + i = omega arith in ap f k))));
     }
+
+pub dated-end : {e : List ℕ} {z n i : ℕ} {old new : List ℕ} {at next : ℕ} → n ≤ i → Dated e z n i old at new next
+    → Wrote (sinceWords e z n) old at new next
+dated-end {n = n} {i = i} l g = let few = g .few in let k : i ≡ n = omega arith in rw k at (g .wrote)
+
+-- what the party holds in the end tells its words
+same-values : (f g : ℕ → ℕ) (i n : ℕ) → ((r : ℕ) → r < n → f (i + r) ≡ g (i + r)) → values f i n ≡ values g i n
+unfolding values
+same-values f g i zero h = refl
+same-values f g i (suc n) h =
+    let here : i + 0 ≡ i = add-zero i in
+    ap₂ _∷_ (rw here at (h 0 (omega arith)))
+    (same-values f g (suc i) n (λ r l. (let z : i + suc r ≡ suc i + r = omega arith in rw z at (h (suc r) (omega arith)))))
+
+pub held-wrote : {b e out outAfter : List ℕ} {p n z at next : ℕ} → Valid b → p < parties b → Holding b p e → n ≡ rows b → z ≡ steps b + 1
+    → Wrote (sinceWords e z n) out at outAfter next → Wrote (heldWords b p) out at outAfter next
+unfolding sourceOf
+held-wrote {b} {e} {p = p} {n = n} {z = z} v h g dn dz w = wrote-as w (sym (rw (dn, dz) same))
+  where
+    each : (r : ℕ) → r < rows b → sinceOf (steps b + 1) (heldOf (getD e (0 + r) 0)) ≡ heldFrom b p (0 + r)
+    each r l =
+        let k : r ≡ 0 + r = omega arith in
+        let same = g .holds ∙ sym (before-holds b p h (steps b) (omega arith)) in
+        rw (← k) (ap (sinceOf (steps b + 1)) (sym (view-row b v e r l) ∙ ap (λ δ. δ (term (table b) r)) same) ∙ sym (heldFrom-source b p r h))
+
+    same : sinceWords e (steps b + 1) (rows b) ≡ heldWords b p
+    same = same-values _ (heldFrom b p) 0 (rows b) each
 
 -- ---- all parties
 joined-append : (ls : List (List ℕ)) (l : List ℕ) → joined (ls ++ l ∷ []) ≡ joined ls ++ l

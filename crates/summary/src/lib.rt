@@ -8,27 +8,27 @@ use book::Refusal;
 use book::parties;
 use book::rows;
 use book::steps;
+use holding::Entry;
 use translation::Answer;
 use translator::survey;
-use walking::since_when;
-use words::put_all;
+use walking::hold;
+use words::put;
 use words::put3;
 use words::wide;
 ghost use mathlib.Core.Path.{_≡_};
 ghost use mathlib.Core.List.{[], _∷_};
 ghost use mathlib.Core.Bool.{not};
-ghost use Prim.Native.Nat.{_+_, _*_};
+ghost use Prim.Native.Nat.{_+_, _*_, _≤_};
 ghost use lib.Dec.{leb, eqb};
-ghost use lib.ListN.{length, getD};
+ghost use lib.ListN.{getD};
 ghost use Rattle.words.specs.Choice.{pick};
 ghost use Rattle.words.specs.Overlay.{Wrote};
-ghost use Rattle.book.specs.Layout.{rows as rowsOf, parties as partiesOf};
+ghost use Rattle.book.specs.Layout.{parties as partiesOf};
 ghost use Rattle.book.specs.Said.{said};
 ghost use Rattle.translation.specs.Outcome.{came, Plays};
-ghost use Rattle.walking.specs.Marked.{Unmarked};
 ghost use Rattle.translator.specs.Ready.{Writable};
 ghost use Rattle.summary.specs.Summary.{heldWords, heldTo, summarized, asked};
-ghost use Rattle.summary.specs.Writing.{PartyReady};
+ghost use Rattle.summary.specs.Writing.{sinceWords, PartyReady};
 ghost use Rattle.summary.specs.Found.{Finds};
 ghost use Rattle.summary.specs.Reply.{replySays};
 
@@ -132,24 +132,22 @@ pub fn ask(summary: &[u32], party: u32, row: u32, step: u32) -> Reply
     }
 }
 
-// Since when a party holds each row, marked first and then written.
-fn write_marks(
-    book: &[u32],
-    since: &ByRow,
-    partners: &ByRow,
-    party: u32,
-    marks: &mut [u32],
-    out: &mut [u32],
-    at: usize,
-) -> usize
-    requires { ⌜ PartyReady (now book) (now since) (now partners) party × Unmarked (now book) (now marks) × (length (now marks) ≡ rowsOf (now book)) ⌝ }
-    ensures { λ r. ⌜ Wrote (heldWords (now (book .entry)) party) (now (out .entry)) at (now (out .exit)) r × (length (now (marks .exit)) ≡ length (now (marks .entry))) ⌝ }
+// After how many steps each of the first rows is first held, by its entry, and `never` where it is not.
+fn write_since(entries: &ByRow, rows: u32, never: u32, out: &mut [u32], at: usize) -> usize
+    requires { ⌜ rows ≤ 1024 ⌝ }
+    ensures { λ r. ⌜ Wrote (sinceWords (now (entries .entry)) never rows) (now (out .entry)) at (now (out .exit)) r ⌝ }
 {
-    since_when(book, since, partners, party, marks);
-    put_all(out, at, marks, marks.len())
+    let mut next = at;
+    let mut row = 0;
+    while row < rows {
+        let since = Entry::since(entries[wide(row)], never);
+        next = put(out, next, since);
+        row += 1;
+    }
+    next
 }
 
-// The words of one party.
+// The words of one party, read off what it holds in the end.
 fn write_party(
     book: &[u32],
     since: &ByRow,
@@ -161,10 +159,9 @@ fn write_party(
     requires { ⌜ PartyReady (now book) (now since) (now partners) party ⌝ }
     ensures { λ r. ⌜ Wrote (heldWords (now (book .entry)) party) (now (out .entry)) at (now (out .exit)) r ⌝ }
 {
+    let entries = hold(book, since, partners, party);
     let never = steps(book) + 1;
-    let mut marks = [never; 1024];
-    let n = wide(rows(book));
-    write_marks(book, since, partners, party, &mut marks[..n], out, at)
+    write_since(&entries, rows(book), never, out, at)
 }
 
 // The words of all parties, in their order.

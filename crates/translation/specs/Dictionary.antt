@@ -1,6 +1,7 @@
 -- What a party holds. Document 01: "For each party a dictionary sends rows to images. It starts with each known row as itself."
--- A dictionary is a map on terms, and says how a term is held; the image follows: the term itself, or its placeholder. (An entry
--- is never any other image: a row is entered as known or made, "as itself", or as stored, "its image is the placeholder".)
+-- A dictionary is a map on terms, and says how a term is held. Document 02, [6]: "Whatever tells the translator that a row is held must
+-- now tell how: given at the start, made at step s, or stored at step s." The image follows: what is given or made is the term itself,
+-- what is stored is its placeholder.
 use Prim.Native.Nat.{ℕ}
 use mathlib.Core.Bool.{Bool, true, false}
 use mathlib.Core.List.{List, [], _∷_}
@@ -13,25 +14,30 @@ pub mod Laws
 pub data Held : Type 0 where
   -- not in the dictionary
   free : Held
-  itself : Held
-  placeholder : ℕ → Held
+  -- at the start
+  given : Held
+  -- at step s
+  made : ℕ → Held
+  -- at step s, under placeholder x
+  stored : ℕ → ℕ → Held
 
 abbrev pub Dictionary : Type 0
 Dictionary = Term → Held
 
 abbrev pub isHeld : Held → Bool
 isHeld free = false
-isHeld itself = true
-isHeld (placeholder x) = true
+isHeld given = true
+isHeld (made s) = true
+isHeld (stored s x) = true
 
 -- the dictionary with one term entered
 unfoldable pub enter : Dictionary → Term → Held → Dictionary
 enter δ t h u = choose (same t u) h (δ u)
 
--- each known term as itself
+-- each known term as given
 unfoldable pub start : List Term → Dictionary
 start [] = λ t. free
-start (t ∷ ts) = enter (start ts) t itself
+start (t ∷ ts) = enter (start ts) t given
 
 -- "Buildable means: the row is in the dictionary; or it isn't an atom and all its parts are buildable. (An operation without
 -- arguments always is.)"
@@ -72,8 +78,9 @@ Buildable δ t = Derives nobody δ t
 -- "The image of a row in the dictionary is the entry there; else it is the same form over its parts' images."
 unfoldable pub imageOr : Held → Term → Image → Image
 imageOr free t i = i
-imageOr itself t i = Image.itself t
-imageOr (placeholder x) t i = Image.placeholder x
+imageOr given t i = Image.itself t
+imageOr (made s) t i = Image.itself t
+imageOr (stored s x) t i = Image.placeholder x
 
 -- an atom that is not held has no image, and none is asked for: it would be the atom itself
 unfoldable mutual

@@ -85,7 +85,7 @@ pub writes-always-caught : (ws : List ℕ) → Caught (writes-always ws)
 unfolding computed trials book-at lent-at writes-always first-value
 writes-always-caught ws h =
     let d : length ws ≡ 5 = ap first-value (h (book-at 0) (lent-at 0)) in
-    let e : length ws ≡ 51 = ap first-value (h (book-at 2) (lent-at 2)) in
+    let e : length ws ≡ 52 = ap first-value (h (book-at 2) (lent-at 2)) in
     omega arith
 
 pub writes-nothing-caught : (f : Translator) → WritesNothing f → Caught f
@@ -96,7 +96,7 @@ writes-nothing-caught f n h =
 
 pub skips-steps-caught : Caught skips-steps
 unfolding computed trials book-at lent-at skips-steps firstListing firstStep first-value
-skips-steps-caught h = let e : _≡_ {A = ℕ} 22 51 = ap first-value (h (book-at 2) (lent-at 2)) in omega arith
+skips-steps-caught h = let e : _≡_ {A = ℕ} 23 52 = ap first-value (h (book-at 2) (lent-at 2)) in omega arith
 
 -- a book that is refused 13, and the same with that party's mark 1 (the first two of the trials of marks)
 marked-at : ℕ → List ℕ
@@ -120,10 +120,10 @@ pub constant-on-acceptance-caught : (ws : List ℕ) → Caught (refuses-rightly 
 unfolding computed trials book-at lent-at refuses-rightly writes-always first-value
 constant-on-acceptance-caught ws h =
     let d : length ws ≡ 5 = ap first-value (h (book-at 0) (lent-at 0)) in
-    let e : length ws ≡ 51 = ap first-value (h (book-at 2) (lent-at 2)) in
+    let e : length ws ≡ 52 = ap first-value (h (book-at 2) (lent-at 2)) in
     omega arith
 
 -- on acceptance, the listing of the first step only
 pub first-step-on-acceptance-caught : Caught (refuses-rightly skips-steps)
 unfolding computed trials book-at lent-at refuses-rightly skips-steps firstListing firstStep first-value
-first-step-on-acceptance-caught h = let e : _≡_ {A = ℕ} 22 51 = ap first-value (h (book-at 2) (lent-at 2)) in omega arith
+first-step-on-acceptance-caught h = let e : _≡_ {A = ℕ} 23 52 = ap first-value (h (book-at 2) (lent-at 2)) in omega arith

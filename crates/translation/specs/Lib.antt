@@ -14,6 +14,7 @@ pub mod Places
 pub mod Spelling
 pub mod Long
 pub mod Low
+pub mod Source
 pub mod Sized
 pub mod Outcome
 pub mod Spelled

@@ -8,15 +8,16 @@ use Rattle.terms.specs.Term.{Term}
 use Rattle.terms.specs.Image.{countImages, words, wordsOf}
 use Rattle.terms.specs.Table.{number}
 use Rattle.book.specs.Layout.{table, rows, parties}
-use Rattle.translation.specs.Receive.{Event}
+use Rattle.translation.specs.Receive.{Event, Stored}
 use Rattle.translation.specs.Narration.{narration, programOf}
 pub mod Laws
 
 -- `row` gives the row of a term
 module _ (row : Term → ℕ) where
-  unfoldable pub pairWords : List (Term × ℕ) → List ℕ
-  pairWords [] = []
-  pairWords (p ∷ ps) = row (p .0) ∷ p .1 ∷ pairWords ps
+  -- "triples of row, placeholder, step"
+  unfoldable pub tripleWords : List Stored → List ℕ
+  tripleWords [] = []
+  tripleWords (p ∷ ps) = row (p .0) ∷ p .1 ∷ p .2 ∷ tripleWords ps
 
   unfoldable pub eventWords : Event → List ℕ
   eventWords (Event.new r) = 1 ∷ r ∷ []
@@ -24,7 +25,7 @@ module _ (row : Term → ℕ) where
   eventWords (Event.receives s f n) = 3 ∷ s ∷ f ∷ n ∷ []
   eventWords (Event.checks x i) = 4 ∷ x ∷ words row i
   eventWords (Event.opens x f n k) = 5 ∷ x ∷ f ∷ n ∷ words row k
-  eventWords (Event.ends ps) = 6 ∷ length ps ∷ pairWords ps
+  eventWords (Event.ends ps) = 6 ∷ length ps ∷ tripleWords ps
 
   unfoldable pub programWords : List Event → List ℕ
   programWords [] = []

@@ -23,13 +23,13 @@ mostPlaceholders = 524288
 abbrev pub mostEvents : ℕ
 mostEvents = 1048832
 
--- the words of a party's program: its events, 2 of the END and 2 for each stored term
+-- the words of a party's program: its events, 2 of the END and 3 for each stored term, of which there are no more than rows
 abbrev pub mostPart : ℕ
-mostPart = 2097410
+mostPart = 1051906
 
 -- the words of a listing: 1, and for each of 16 parties 2 and its program
 abbrev pub mostListing : ℕ
-mostListing = 33558593
+mostListing = 16830529
 
 -- what receiving terms of the size z does, where c placeholders were given to the terms themselves
 pub record Small (row : Term → ℕ) (c z : ℕ) (d : Did) : Type 0 where

@@ -6,7 +6,7 @@ use Rattle.words.specs.Run.{All}
 use Rattle.terms.specs.Term.{Term, Terms, count}
 use Rattle.translation.specs.Dictionary.{Held, Dictionary}
 use Rattle.translation.specs.Receive.{Did}
-use Rattle.translation.specs.Listing.{pairWords, programWords}
+use Rattle.translation.specs.Listing.{tripleWords, programWords}
 pub mod Laws
 
 -- 2 to the 32
@@ -19,8 +19,9 @@ Low ws = All (λ w. w < wordLimit) ws
 -- every placeholder of a dictionary
 abbrev pub HeldLow : Held → Type 0
 HeldLow Held.free = Unit {0}
-HeldLow Held.itself = Unit {0}
-HeldLow (Held.placeholder x) = x < wordLimit
+HeldLow Held.given = Unit {0}
+HeldLow (Held.made s) = Unit {0}
+HeldLow (Held.stored s x) = x < wordLimit
 
 abbrev pub HoldsLow : Dictionary → Type 0
 HoldsLow δ = (t : Term) → HeldLow (δ t)
@@ -42,4 +43,4 @@ mutual
 pub record DidLow (row : Term → ℕ) (d : Did) : Type 0 where
   pub holds : HoldsLow (d .dictionary)
   pub words : Low (programWords row (d .events))
-  pub pairs : Low (pairWords row (d .stored))
+  pub triples : Low (tripleWords row (d .stored))

@@ -37,8 +37,8 @@ abbrev pub arrived : ℕ → Terms → Dictionary → ℕ → Did
 arrived i ts δ n = record { dictionary = δ; given = listed ts; events = Event.receives i n (count ts) ∷ []; stored = [] }
 
 unfoldable pub act : Act → Dictionary → ℕ → Did
-act (Act.sends i ts) δ n = sent i (buildAll ts δ)
-act (Act.receives i ts) δ n = followed (arrived i ts δ n) (receiveAll ts n δ (n + count ts))
+act (Act.sends i ts) δ n = sent i (buildAll i ts δ)
+act (Act.receives i ts) δ n = followed (arrived i ts δ n) (receiveAll i ts n δ (n + count ts))
 
 unfoldable pub walk : List Act → Dictionary → ℕ → Did
 walk [] δ n = nothing δ

@@ -13,23 +13,27 @@ use Rattle.translation.specs.Dictionary.{Held, Dictionary, enter, builda
 pub mod Laws
 
 -- ---- events
+-- a term that was stored: the placeholder, and the step
+abbrev pub Stored : Type 0
+Stored = Term × ℕ × ℕ
+
 -- "NEW 1, row. SEND 2, step, n, n images. RECEIVE 3, step, first placeholder, n. CHECK 4, placeholder, image. OPEN 5, placeholder,
--- first new placeholder, n, key image. END 6, m, then m pairs of row and placeholder"
+-- first new placeholder, n, key image. END 6, m, then m" triples "of row, placeholder, step" (document 02, [6])
 pub data Event : Type 0 where
   new : ℕ → Event
   sends : ℕ → Images → Event
   receives : ℕ → ℕ → ℕ → Event
   checks : ℕ → Image → Event
   opens : ℕ → ℕ → ℕ → Image → Event
-  ends : List (Term × ℕ) → Event
+  ends : List Stored → Event
 
 -- What a party's doing adds: the dictionary afterwards; the narration's terms for the placeholders that were handed out, so that
--- their number is its length; the events; and what was stored under which placeholder, in the order of storing.
+-- their number is its length; the events; and what was stored under which placeholder at which step, in the order of storing.
 pub record Did : Type 0 where
   pub dictionary : Dictionary
   pub given : List Term
   pub events : List Event
-  pub stored : List (Term × ℕ)
+  pub stored : List Stored
 
 abbrev pub nothing : Dictionary → Did
 nothing δ = record { dictionary = δ; given = []; events = []; stored = [] }
@@ -71,28 +75,28 @@ byRule store c o s = s
 abbrev pub compared : Term → ℕ → Dictionary → Did
 compared t p δ = record { dictionary = δ; given = []; events = Event.checks p (image δ t) ∷ []; stored = [] }
 
-abbrev pub kept : Term → ℕ → Dictionary → Did
-kept t p δ = record { dictionary = enter δ t (Held.placeholder p); given = []; events = []; stored = (t, p) ∷ [] }
+abbrev pub kept : ℕ → Term → ℕ → Dictionary → Did
+kept s t p δ = record { dictionary = enter δ t (Held.stored s p); given = []; events = []; stored = (t, p, s) ∷ [] }
 
 -- a cipher under the key k is opened, and its contents get the placeholders from n on
 abbrev pub opened : Term → Terms → ℕ → Dictionary → ℕ → Did
 opened k ts p δ n = record { dictionary = δ; given = listed ts; events = Event.opens p n (count ts) (image δ (partner k)) ∷ []; stored = [] }
 
--- ---- receiving: the term at placeholder p, where n is the next placeholder. "the contents get the next placeholders and are
+-- ---- receiving at step s: the term at placeholder p, where n is the next placeholder. "the contents get the next placeholders and are
 -- received in turn". Only a cipher is ever opened
 unfoldable mutual
-  pub receive : Term → ℕ → Dictionary → ℕ → Did
-  receive (Term.atom r) p δ n = byRule (rule δ (Term.atom r)) (compared (Term.atom r) p δ) (nothing δ) (kept (Term.atom r) p δ)
-  receive (Term.operation g ts) p δ n =
-      byRule (rule δ (Term.operation g ts)) (compared (Term.operation g ts) p δ) (nothing δ) (kept (Term.operation g ts) p δ)
-  receive (Term.cipher k ts) p δ n =
+  pub receive : ℕ → Term → ℕ → Dictionary → ℕ → Did
+  receive s (Term.atom r) p δ n = byRule (rule δ (Term.atom r)) (compared (Term.atom r) p δ) (nothing δ) (kept s (Term.atom r) p δ)
+  receive s (Term.operation g ts) p δ n =
+      byRule (rule δ (Term.operation g ts)) (compared (Term.operation g ts) p δ) (nothing δ) (kept s (Term.operation g ts) p δ)
+  receive s (Term.cipher k ts) p δ n =
       byRule (rule δ (Term.cipher k ts)) (compared (Term.cipher k ts) p δ)
-      (followed (opened k ts p δ n) (receiveAll ts n δ (n + count ts))) (kept (Term.cipher k ts) p δ)
-  receive (Term.public t) p δ n = byRule (rule δ (Term.public t)) (compared (Term.public t) p δ) (nothing δ) (kept (Term.public t) p δ)
-  receive (Term.private t) p δ n = byRule (rule δ (Term.private t)) (compared (Term.private t) p δ) (nothing δ) (kept (Term.private t) p δ)
+      (followed (opened k ts p δ n) (receiveAll s ts n δ (n + count ts))) (kept s (Term.cipher k ts) p δ)
+  receive s (Term.public t) p δ n = byRule (rule δ (Term.public t)) (compared (Term.public t) p δ) (nothing δ) (kept s (Term.public t) p δ)
+  receive s (Term.private t) p δ n = byRule (rule δ (Term.private t)) (compared (Term.private t) p δ) (nothing δ) (kept s (Term.private t) p δ)
 
   -- the terms at placeholders p, p + 1, ..
-  pub receiveAll : Terms → ℕ → Dictionary → ℕ → Did
-  receiveAll Terms.nil p δ n = nothing δ
-  receiveAll (Terms.cons t ts) p δ n =
-      let d = receive t p δ n in followed d (receiveAll ts (suc p) (d .dictionary) (n + length (d .given)))
+  pub receiveAll : ℕ → Terms → ℕ → Dictionary → ℕ → Did
+  receiveAll s Terms.nil p δ n = nothing δ
+  receiveAll s (Terms.cons t ts) p δ n =
+      let d = receive s t p δ n in followed d (receiveAll s ts (suc p) (d .dictionary) (n + length (d .given)))

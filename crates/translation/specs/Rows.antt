@@ -3,7 +3,7 @@ use Prim.Native.Nat.{ℕ}
 use mathlib.Core.List.{List, [], _∷_}
 use Rattle.terms.specs.Term.{Term}
 use Rattle.terms.specs.Image.{Image, Images}
-use Rattle.translation.specs.Receive.{Event}
+use Rattle.translation.specs.Receive.{Event, Stored}
 pub mod Laws
 
 -- P holds of each term that the image has as itself
@@ -21,7 +21,7 @@ mutual
     cons : {i : Image} {is : Images} → Names P i → NamesAll P is → NamesAll P (Images.cons i is)
 
 -- and of each that was stored
-abbrev pub StoredAll : (Term → Type 0) → List (Term × ℕ) → Type 0
+abbrev pub StoredAll : (Term → Type 0) → List Stored → Type 0
 StoredAll P [] = Unit {0}
 StoredAll P (p ∷ ps) = P (p .0) × StoredAll P ps
 

@@ -9,7 +9,7 @@ use Rattle.terms.specs.Term.{Term, Terms}
 use Rattle.terms.specs.Image.{Image, Images, words}
 use Rattle.terms.specs.Table.{term, terms, rowSize, number}
 use Rattle.book.specs.Layout.{table, rows, messages, steps}
-use Rattle.translation.specs.Receive.{Event}
+use Rattle.translation.specs.Receive.{Event, Stored}
 pub mod Laws
 
 -- placeholder x was handed out for the term t, where those from 0 on were handed out for these terms
@@ -36,7 +36,7 @@ pub data EventSized (b : List ℕ) (given : List Term) : Event → Type 0 where
   receives : {s f n : ℕ} → EventSized b given (Event.receives s f n)
   checks : {x : ℕ} {i : Image} {t : Term} → GivenAt given x t → Sized b t i → EventSized b given (Event.checks x i)
   opens : {x f n : ℕ} {i : Image} {k : Term} {ts : Terms} → GivenAt given x (Term.cipher k ts) → Sized b k i → EventSized b given (Event.opens x f n i)
-  ends : {ps : List (Term × ℕ)} → EventSized b given (Event.ends ps)
+  ends : {ps : List Stored} → EventSized b given (Event.ends ps)
 
 pub data ProgramSized (b : List ℕ) (given : List Term) : List Event → Type 0 where
   nil : ProgramSized b given []

@@ -9,7 +9,7 @@ use Rattle.words.specs.Choice.{then}
 use Rattle.words.specs.Run.{run}
 use Rattle.terms.specs.Term.{Term}
 use Rattle.terms.specs.Image.{Image, Images}
-use Rattle.translation.specs.Receive.{Event}
+use Rattle.translation.specs.Receive.{Event, Stored}
 pub mod Laws
 
 -- what was read, and the words behind it
@@ -41,12 +41,13 @@ module _ (term : ℕ → Term) where
     readImages (suc f) zero w = some (Images.nil, w)
     readImages (suc f) (suc n) w = then (readImage f w) (λ k. then (readImages f n (k .1)) (λ p. some (Images.cons (k .0) (p .0), p .1)))
 
-  -- m pairs of row and placeholder
-  unfoldable pub readPairs : ℕ → List ℕ → Read (List (Term × ℕ))
-  readPairs zero w = some ([], w)
-  readPairs (suc m) [] = none
-  readPairs (suc m) (r ∷ []) = none
-  readPairs (suc m) (r ∷ x ∷ w) = then (readPairs m w) (λ p. some ((term r, x) ∷ p .0, p .1))
+  -- m triples of row, placeholder and step
+  unfoldable pub readTriples : ℕ → List ℕ → Read (List Stored)
+  readTriples zero w = some ([], w)
+  readTriples (suc m) [] = none
+  readTriples (suc m) (r ∷ []) = none
+  readTriples (suc m) (r ∷ x ∷ []) = none
+  readTriples (suc m) (r ∷ x ∷ s ∷ w) = then (readTriples m w) (λ p. some ((term r, x, s) ∷ p .0, p .1))
 
   unfoldable pub readEvent : ℕ → List ℕ → Read Event
   readEvent f [] = none
@@ -67,7 +68,7 @@ module _ (term : ℕ → Term) where
   readEvent f (suc (suc (suc (suc (suc zero)))) ∷ x ∷ y ∷ []) = none
   readEvent f (suc (suc (suc (suc (suc zero)))) ∷ x ∷ y ∷ n ∷ w) = then (readImage f w) (λ p. some (Event.opens x y n (p .0), p .1))
   readEvent f (suc (suc (suc (suc (suc (suc zero))))) ∷ []) = none
-  readEvent f (suc (suc (suc (suc (suc (suc zero))))) ∷ m ∷ w) = then (readPairs m w) (λ p. some (Event.ends (p .0), p .1))
+  readEvent f (suc (suc (suc (suc (suc (suc zero))))) ∷ m ∷ w) = then (readTriples m w) (λ p. some (Event.ends (p .0), p .1))
   readEvent f (suc (suc (suc (suc (suc (suc (suc c)))))) ∷ w) = none
 
   -- events to the end of the words, at most n of them

@@ -55,7 +55,7 @@ holdsBefore N p s = walked (knownTo N p) (actsOf p 0 (take s (N .says))) .dictio
 
 -- the atoms that step s makes its sender make, in building order
 unfoldable pub madeAt : Narration → ℕ → List ℕ
-madeAt N s = buildAll (stepOf N s .messages) (holdsBefore N (stepOf N s .sender) s) .made
+madeAt N s = buildAll s (stepOf N s .messages) (holdsBefore N (stepOf N s .sender) s) .made
 
 -- the sender of step s may make atoms
 unfoldable pub senderMakes : Narration → ℕ → Bool

@@ -22,7 +22,7 @@ use Rattle.translation.specs.Receive.{canOpen, rule, byRule, receive}
 use Rattle.translation.specs.Program.{actsOf, act, walk, walked, program}
 use Rattle.translation.specs.Narration.{stepAt, narration, knownTo, mayMake, programOf}
 use Rattle.translation.specs.Taken.{joined, allMessages, claimed, occursInOne, taken, stepOf, holdsBefore, madeAt, senderMakes, unmakeable, stopsAt, unplayable, stopRow, stopNumber}
-use Rattle.translation.specs.Listing.{pairWords, eventWords, programWords, heads, bodies, framed, partWords, listing}
+use Rattle.translation.specs.Listing.{tripleWords, eventWords, programWords, heads, bodies, framed, partWords, listing}
 use Rattle.translation.specs.Outcome.{Outcome, stopLine, roomLine, translationSays, outcome}
 
 pub record Trial : Type 0 where
@@ -47,10 +47,10 @@ trials =
     trial (5 ∷ 8 ∷ 2 ∷ 28 ∷ 2 ∷ 36 ∷ 11 ∷ 44 ∷ 0 ∷ 0 ∷ 0 ∷ 0 ∷ 0 ∷ 0 ∷ 0 ∷ 0 ∷ 0 ∷ 0 ∷ 0 ∷ 0 ∷ 0 ∷ 0 ∷ 0
     ∷ 0 ∷ 2 ∷ 0 ∷ 0 ∷ 3 ∷ 0 ∷ 3 ∷ 3 ∷ 1 ∷ 1 ∷ 6 ∷ 3 ∷ 1 ∷ 1 ∷ 0 ∷ 9 ∷ 1 ∷ 0 ∷ 1 ∷ 10 ∷ 1 ∷ 2 ∷ 3 ∷ 1 ∷ 0
     ∷ 1 ∷ 2 ∷ 0 ∷ 1 ∷ 2 ∷ 3 ∷ 4 ∷ [])
-    (replicate 54 9) 0 (51 ∷ [])
-    (2 ∷ 5 ∷ 19 ∷ 24 ∷ 27 ∷ 3 ∷ 0 ∷ 0 ∷ 1 ∷ 2 ∷ 1 ∷ 1 ∷ 3 ∷ 2 ∷ 0 ∷ 2 ∷ 1 ∷ 0 ∷ 0 ∷ 1 ∷ 6 ∷ 1 ∷ 3 ∷ 0
-    ∷ 1 ∷ 3 ∷ 2 ∷ 0 ∷ 1 ∷ 0 ∷ 3 ∷ 3 ∷ 1 ∷ 0 ∷ 1 ∷ 5 ∷ 0 ∷ 1 ∷ 2 ∷ 0 ∷ 2 ∷ 4 ∷ 1 ∷ 0 ∷ 3 ∷ 4 ∷ 2
-    ∷ 0 ∷ 1 ∷ 6 ∷ 0 ∷ replicate 3 9)
+    (replicate 54 9) 0 (52 ∷ [])
+    (2 ∷ 5 ∷ 20 ∷ 25 ∷ 27 ∷ 3 ∷ 0 ∷ 0 ∷ 1 ∷ 2 ∷ 1 ∷ 1 ∷ 3 ∷ 2 ∷ 0 ∷ 2 ∷ 1 ∷ 0 ∷ 0 ∷ 1 ∷ 6 ∷ 1 ∷ 3 ∷ 0 ∷ 0
+    ∷ 1 ∷ 3 ∷ 2 ∷ 0 ∷ 1 ∷ 0 ∷ 3 ∷ 3 ∷ 1 ∷ 0 ∷ 1 ∷ 5 ∷ 0 ∷ 1 ∷ 2 ∷ 0 ∷ 2 ∷ 4 ∷ 1 ∷ 0 ∷ 3 ∷ 4 ∷ 2 ∷ 0 ∷ 1 ∷ 6
+    ∷ 0 ∷ replicate 2 9)
     ∷  -- A sends B a cipher of a fresh N under a key B lacks, then B sends N
     trial (5 ∷ 8 ∷ 2 ∷ 28 ∷ 2 ∷ 36 ∷ 9 ∷ 44 ∷ 0 ∷ 0 ∷ 0 ∷ 0 ∷ 0 ∷ 0 ∷ 0 ∷ 0 ∷ 0 ∷ 0 ∷ 0 ∷ 0 ∷ 0 ∷ 0 ∷ 0
     ∷ 0 ∷ 2 ∷ 0 ∷ 0 ∷ 2 ∷ 0 ∷ 2 ∷ 3 ∷ 1 ∷ 1 ∷ 5 ∷ 2 ∷ 1 ∷ 0 ∷ 1 ∷ 7 ∷ 1 ∷ 1 ∷ 0 ∷ 8 ∷ 1 ∷ 2 ∷ 3 ∷ 0 ∷ 1
@@ -60,21 +60,21 @@ trials =
     ∷  -- A sends the public half of a free K
     trial (4 ∷ 8 ∷ 2 ∷ 24 ∷ 1 ∷ 32 ∷ 6 ∷ 36 ∷ 0 ∷ 0 ∷ 0 ∷ 0 ∷ 0 ∷ 0 ∷ 0 ∷ 0 ∷ 0 ∷ 0 ∷ 0 ∷ 0 ∷ 3 ∷ 0 ∷ 0
     ∷ 1 ∷ 0 ∷ 1 ∷ 2 ∷ 1 ∷ 1 ∷ 3 ∷ 2 ∷ 1 ∷ 0 ∷ 1 ∷ 5 ∷ 1 ∷ 2 ∷ 0 ∷ 1 ∷ 0 ∷ 1 ∷ 3 ∷ [])
-    (replicate 24 9) 0 (23 ∷ [])
-    (2 ∷ 5 ∷ 10 ∷ 15 ∷ 8 ∷ 1 ∷ 2 ∷ 2 ∷ 0 ∷ 1 ∷ 4 ∷ 0 ∷ 2 ∷ 6 ∷ 0 ∷ 3 ∷ 0 ∷ 0 ∷ 1 ∷ 6 ∷ 1 ∷ 3 ∷ 0 ∷ replicate 1 9)
+    (replicate 24 9) 0 (24 ∷ [])
+    (2 ∷ 5 ∷ 10 ∷ 15 ∷ 9 ∷ 1 ∷ 2 ∷ 2 ∷ 0 ∷ 1 ∷ 4 ∷ 0 ∷ 2 ∷ 6 ∷ 0 ∷ 3 ∷ 0 ∷ 0 ∷ 1 ∷ 6 ∷ 1 ∷ 3 ∷ 0 ∷ 0 ∷ replicate 0 9)
     ∷  -- A holds K, and receives a cipher of an unknown N under K+, with no row for K-
     trial (6 ∷ 8 ∷ 2 ∷ 32 ∷ 1 ∷ 40 ∷ 10 ∷ 44 ∷ 0 ∷ 0 ∷ 0 ∷ 0 ∷ 0 ∷ 0 ∷ 0 ∷ 0 ∷ 0 ∷ 0 ∷ 0 ∷ 0 ∷ 0 ∷ 0 ∷ 0
     ∷ 0 ∷ 3 ∷ 0 ∷ 0 ∷ 1 ∷ 2 ∷ 0 ∷ 1 ∷ 2 ∷ 0 ∷ 3 ∷ 3 ∷ 1 ∷ 1 ∷ 6 ∷ 3 ∷ 1 ∷ 1 ∷ 0 ∷ 9 ∷ 1 ∷ 2 ∷ 4 ∷ 3 ∷ 0
     ∷ 1 ∷ 2 ∷ 0 ∷ 1 ∷ 4 ∷ 5 ∷ [])
-    (replicate 33 9) 0 (33 ∷ [])
-    (2 ∷ 5 ∷ 15 ∷ 20 ∷ 13 ∷ 3 ∷ 0 ∷ 0 ∷ 1 ∷ 5 ∷ 0 ∷ 1 ∷ 1 ∷ 5 ∷ 0 ∷ 2 ∷ 6 ∷ 1 ∷ 3 ∷ 1 ∷ 1 ∷ 3 ∷ 2 ∷ 0
+    (replicate 34 9) 0 (34 ∷ [])
+    (2 ∷ 5 ∷ 16 ∷ 21 ∷ 13 ∷ 3 ∷ 0 ∷ 0 ∷ 1 ∷ 5 ∷ 0 ∷ 1 ∷ 1 ∷ 5 ∷ 0 ∷ 2 ∷ 6 ∷ 1 ∷ 3 ∷ 1 ∷ 0 ∷ 1 ∷ 3 ∷ 2 ∷ 0
     ∷ 1 ∷ 3 ∷ 1 ∷ 0 ∷ 4 ∷ 0 ∷ 3 ∷ 6 ∷ 0 ∷ replicate 0 9)
     ∷  -- the operation over an unknown N arrives and is sent on
     trial (4 ∷ 8 ∷ 2 ∷ 24 ∷ 2 ∷ 32 ∷ 7 ∷ 40 ∷ 0 ∷ 0 ∷ 0 ∷ 0 ∷ 0 ∷ 0 ∷ 0 ∷ 0 ∷ 0 ∷ 0 ∷ 0 ∷ 0 ∷ 1 ∷ 7 ∷ 0
     ∷ 1 ∷ 0 ∷ 1 ∷ 2 ∷ 1 ∷ 1 ∷ 3 ∷ 2 ∷ 1 ∷ 0 ∷ 1 ∷ 5 ∷ 1 ∷ 1 ∷ 0 ∷ 6 ∷ 1 ∷ 2 ∷ 0 ∷ 1 ∷ 0 ∷ 1 ∷ 3 ∷ 3 ∷ [])
-    (replicate 41 9) 0 (41 ∷ [])
-    (2 ∷ 5 ∷ 23 ∷ 28 ∷ 13 ∷ 1 ∷ 2 ∷ 2 ∷ 0 ∷ 1 ∷ 2 ∷ 7 ∷ 1 ∷ 0 ∷ 2 ∷ 3 ∷ 1 ∷ 0 ∷ 1 ∷ 4 ∷ 0 ∷ 2 ∷ 7 ∷ 1
-    ∷ 0 ∷ 2 ∷ 6 ∷ 0 ∷ 3 ∷ 0 ∷ 0 ∷ 1 ∷ 2 ∷ 1 ∷ 1 ∷ 1 ∷ 0 ∷ 6 ∷ 1 ∷ 3 ∷ 0 ∷ replicate 0 9)
+    (replicate 42 9) 0 (42 ∷ [])
+    (2 ∷ 5 ∷ 23 ∷ 28 ∷ 14 ∷ 1 ∷ 2 ∷ 2 ∷ 0 ∷ 1 ∷ 2 ∷ 7 ∷ 1 ∷ 0 ∷ 2 ∷ 3 ∷ 1 ∷ 0 ∷ 1 ∷ 4 ∷ 0 ∷ 2 ∷ 7 ∷ 1 ∷ 0
+    ∷ 2 ∷ 6 ∷ 0 ∷ 3 ∷ 0 ∷ 0 ∷ 1 ∷ 2 ∷ 1 ∷ 1 ∷ 1 ∷ 0 ∷ 6 ∷ 1 ∷ 3 ∷ 0 ∷ 0 ∷ replicate 0 9)
     ∷  -- sending N itself
     trial (4 ∷ 8 ∷ 2 ∷ 24 ∷ 2 ∷ 32 ∷ 7 ∷ 40 ∷ 0 ∷ 0 ∷ 0 ∷ 0 ∷ 0 ∷ 0 ∷ 0 ∷ 0 ∷ 0 ∷ 0 ∷ 0 ∷ 0 ∷ 1 ∷ 7 ∷ 0
     ∷ 1 ∷ 0 ∷ 1 ∷ 2 ∷ 1 ∷ 1 ∷ 3 ∷ 2 ∷ 1 ∷ 0 ∷ 1 ∷ 5 ∷ 1 ∷ 1 ∷ 0 ∷ 6 ∷ 1 ∷ 2 ∷ 0 ∷ 1 ∷ 0 ∷ 1 ∷ 3 ∷ 2 ∷ [])
@@ -94,7 +94,7 @@ trials =
 
 -- what the definitions say of each
 unfoldable pub computed : List Trial → List Outcome
-unfolding ℕ-discrete pick choose first firstFrom any run values sameWords sum same count listed gathered partner size occurs words countImages level unfold-by form term terms total rowSize number offset table oneOf outside differs countBreaks stated offsetBreaks listBreaks rowBreaks sizeBreaks alike repeats nameBreaks partyBreaks stepBreaks totalBreaks applies gives firstOf readingTable enter start buildable imageOr image builtOr build canOpen rule byRule receive actsOf act walk walked program stepAt narration knownTo mayMake programOf joined allMessages claimed occursInOne taken stepOf holdsBefore madeAt senderMakes unmakeable stopsAt unplayable stopRow stopNumber pairWords eventWords programWords heads bodies framed partWords listing stopLine roomLine translationSays outcome
+unfolding ℕ-discrete pick choose first firstFrom any run values sameWords sum same count listed gathered partner size occurs words countImages level unfold-by form term terms total rowSize number offset table oneOf outside differs countBreaks stated offsetBreaks listBreaks rowBreaks sizeBreaks alike repeats nameBreaks partyBreaks stepBreaks totalBreaks applies gives firstOf readingTable enter start buildable imageOr image builtOr build canOpen rule byRule receive actsOf act walk walked program stepAt narration knownTo mayMake programOf joined allMessages claimed occursInOne taken stepOf holdsBefore madeAt senderMakes unmakeable stopsAt unplayable stopRow stopNumber tripleWords eventWords programWords heads bodies framed partWords listing stopLine roomLine translationSays outcome
 computed [] = []
 computed (t ∷ ts) = outcome (t .book) (t .lent) ∷ computed ts
 
@@ -113,9 +113,9 @@ storing =
     trial (6 ∷ 8 ∷ 2 ∷ 32 ∷ 1 ∷ 40 ∷ 12 ∷ 44 ∷ 0 ∷ 0 ∷ 0 ∷ 0 ∷ 0 ∷ 0 ∷ 0 ∷ 0 ∷ 0 ∷ 0 ∷ 0 ∷ 0 ∷ 0 ∷ 0 ∷ 0
     ∷ 0 ∷ 0 ∷ 0 ∷ 0 ∷ 0 ∷ 2 ∷ 0 ∷ 0 ∷ 2 ∷ 0 ∷ 2 ∷ 3 ∷ 1 ∷ 1 ∷ 5 ∷ 5 ∷ 1 ∷ 1 ∷ 0 ∷ 10 ∷ 2 ∷ 2 ∷ 3 ∷ 0 ∷ 1
     ∷ 2 ∷ 0 ∷ 1 ∷ 2 ∷ 3 ∷ 4 ∷ 5 ∷ 4 ∷ [])
-    (replicate 34 9) 0 (34 ∷ [])
-    (2 ∷ 5 ∷ 16 ∷ 21 ∷ 13 ∷ 3 ∷ 0 ∷ 0 ∷ 2 ∷ 5 ∷ 0 ∷ 2 ∷ 1 ∷ 0 ∷ 2 ∷ 6 ∷ 2 ∷ 3 ∷ 2 ∷ 4 ∷ 1 ∷ 2 ∷ 0 ∷ 2
-    ∷ 3 ∷ 1 ∷ 0 ∷ 2 ∷ 0 ∷ 3 ∷ 0 ∷ 4 ∷ 6 ∷ 0 ∷ [])
+    (replicate 36 9) 0 (36 ∷ [])
+    (2 ∷ 5 ∷ 18 ∷ 23 ∷ 13 ∷ 3 ∷ 0 ∷ 0 ∷ 2 ∷ 5 ∷ 0 ∷ 2 ∷ 1 ∷ 0 ∷ 2 ∷ 6 ∷ 2 ∷ 3 ∷ 2 ∷ 0 ∷ 4 ∷ 1 ∷ 0 ∷ 2 ∷ 0
+    ∷ 2 ∷ 3 ∷ 1 ∷ 0 ∷ 2 ∷ 0 ∷ 3 ∷ 0 ∷ 4 ∷ 6 ∷ 0 ∷ [])
     ∷ []
 
 pub storing-holds : computed storing ≡ expected storing
@@ -130,11 +130,10 @@ sides =
     trial (5 ∷ 8 ∷ 2 ∷ 28 ∷ 4 ∷ 36 ∷ 11 ∷ 52 ∷ 0 ∷ 0 ∷ 0 ∷ 0 ∷ 0 ∷ 0 ∷ 0 ∷ 0 ∷ 0 ∷ 0 ∷ 0 ∷ 0 ∷ 0 ∷ 0 ∷ 0
     ∷ 0 ∷ 2 ∷ 0 ∷ 0 ∷ 2 ∷ 0 ∷ 2 ∷ 3 ∷ 1 ∷ 1 ∷ 5 ∷ 2 ∷ 1 ∷ 0 ∷ 1 ∷ 7 ∷ 1 ∷ 0 ∷ 1 ∷ 8 ∷ 1 ∷ 0 ∷ 1 ∷ 9 ∷ 1
     ∷ 1 ∷ 0 ∷ 10 ∷ 1 ∷ 2 ∷ 3 ∷ 0 ∷ 1 ∷ 2 ∷ 0 ∷ 1 ∷ 4 ∷ 2 ∷ 4 ∷ 3 ∷ [])
-    (replicate 72 9) 0 (71 ∷ [])
-    (2 ∷ 5 ∷ 35 ∷ 40 ∷ 31 ∷ 1 ∷ 3 ∷ 2 ∷ 0 ∷ 1 ∷ 3 ∷ 1 ∷ 0 ∷ 2 ∷ 0 ∷ 3 ∷ 2 ∷ 1 ∷ 1 ∷ 0 ∷ 2 ∷ 2 ∷ 2
-    ∷ 1 ∷ 3 ∷ 1 ∷ 0 ∷ 2 ∷ 0 ∷ 3 ∷ 3 ∷ 3 ∷ 0 ∷ 1 ∷ 4 ∷ 0 ∷ 0 ∷ 3 ∷ 6 ∷ 0 ∷ 3 ∷ 0 ∷ 0 ∷ 1 ∷ 3 ∷ 1
-    ∷ 1 ∷ 1 ∷ 3 ∷ 2 ∷ 2 ∷ 1 ∷ 5 ∷ 2 ∷ 3 ∷ 1 ∷ 1 ∷ 1 ∷ 2 ∷ 3 ∷ 1 ∷ 1 ∷ 3 ∷ 6 ∷ 3 ∷ 4 ∷ 0 ∷ 2 ∷ 1
-    ∷ 3 ∷ 3 ∷ replicate 1 9)
+    (replicate 74 9) 0 (74 ∷ [])
+    (2 ∷ 5 ∷ 35 ∷ 40 ∷ 34 ∷ 1 ∷ 3 ∷ 2 ∷ 0 ∷ 1 ∷ 3 ∷ 1 ∷ 0 ∷ 2 ∷ 0 ∷ 3 ∷ 2 ∷ 1 ∷ 1 ∷ 0 ∷ 2 ∷ 2 ∷ 2 ∷ 1 ∷ 3
+    ∷ 1 ∷ 0 ∷ 2 ∷ 0 ∷ 3 ∷ 3 ∷ 3 ∷ 0 ∷ 1 ∷ 4 ∷ 0 ∷ 0 ∷ 3 ∷ 6 ∷ 0 ∷ 3 ∷ 0 ∷ 0 ∷ 1 ∷ 3 ∷ 1 ∷ 1 ∷ 1 ∷ 3 ∷ 2 ∷ 2
+    ∷ 1 ∷ 5 ∷ 2 ∷ 3 ∷ 1 ∷ 1 ∷ 1 ∷ 2 ∷ 3 ∷ 1 ∷ 1 ∷ 3 ∷ 6 ∷ 3 ∷ 4 ∷ 0 ∷ 0 ∷ 2 ∷ 1 ∷ 1 ∷ 3 ∷ 3 ∷ 2 ∷ replicate 0 9)
     ∷  -- A receives the cipher of K- under L, then L, then the cipher again, and has K- of it; so the cipher of N under K+ is opened and
     -- not stored, and to send it A would have to make K
     trial (9 ∷ 8 ∷ 2 ∷ 44 ∷ 5 ∷ 52 ∷ 13 ∷ 72 ∷ 0 ∷ 0 ∷ 0 ∷ 0 ∷ 0 ∷ 0 ∷ 0 ∷ 0 ∷ 0 ∷ 0 ∷ 0 ∷ 0 ∷ 0 ∷ 0 ∷ 0
@@ -182,13 +181,13 @@ marks =
     ∷  -- the same party marked 1 makes it
     trial (3 ∷ 8 ∷ 2 ∷ 20 ∷ 1 ∷ 28 ∷ 5 ∷ 32 ∷ 0 ∷ 0 ∷ 0 ∷ 0 ∷ 0 ∷ 0 ∷ 0 ∷ 0 ∷ 0 ∷ 0 ∷ 0 ∷ 0 ∷ 0 ∷ 0 ∷ 2
     ∷ 1 ∷ 1 ∷ 2 ∷ 2 ∷ 1 ∷ 0 ∷ 1 ∷ 4 ∷ 1 ∷ 0 ∷ 1 ∷ 0 ∷ 1 ∷ 2 ∷ [])
-    (replicate 23 9) 0 (22 ∷ [])
-    (2 ∷ 5 ∷ 9 ∷ 14 ∷ 8 ∷ 1 ∷ 2 ∷ 2 ∷ 0 ∷ 1 ∷ 0 ∷ 2 ∷ 6 ∷ 0 ∷ 3 ∷ 0 ∷ 0 ∷ 1 ∷ 6 ∷ 1 ∷ 2 ∷ 0 ∷ replicate 1 9)
+    (replicate 23 9) 0 (23 ∷ [])
+    (2 ∷ 5 ∷ 9 ∷ 14 ∷ 9 ∷ 1 ∷ 2 ∷ 2 ∷ 0 ∷ 1 ∷ 0 ∷ 2 ∷ 6 ∷ 0 ∷ 3 ∷ 0 ∷ 0 ∷ 1 ∷ 6 ∷ 1 ∷ 2 ∷ 0 ∷ 0 ∷ replicate 0 9)
     ∷  -- marked 0 it may send what it holds, and receive
     trial (3 ∷ 8 ∷ 2 ∷ 20 ∷ 1 ∷ 28 ∷ 6 ∷ 32 ∷ 0 ∷ 0 ∷ 0 ∷ 0 ∷ 0 ∷ 0 ∷ 0 ∷ 0 ∷ 0 ∷ 0 ∷ 0 ∷ 0 ∷ 0 ∷ 0 ∷ 3
     ∷ 0 ∷ 1 ∷ 3 ∷ 2 ∷ 0 ∷ 0 ∷ 1 ∷ 5 ∷ 1 ∷ 0 ∷ 1 ∷ 2 ∷ 0 ∷ 1 ∷ 2 ∷ [])
-    (replicate 21 9) 0 (20 ∷ [])
-    (2 ∷ 5 ∷ 7 ∷ 12 ∷ 8 ∷ 2 ∷ 0 ∷ 1 ∷ 0 ∷ 2 ∷ 6 ∷ 0 ∷ 3 ∷ 0 ∷ 0 ∷ 1 ∷ 6 ∷ 1 ∷ 2 ∷ 0 ∷ replicate 1 9)
+    (replicate 21 9) 0 (21 ∷ [])
+    (2 ∷ 5 ∷ 7 ∷ 12 ∷ 9 ∷ 2 ∷ 0 ∷ 1 ∷ 0 ∷ 2 ∷ 6 ∷ 0 ∷ 3 ∷ 0 ∷ 0 ∷ 1 ∷ 6 ∷ 1 ∷ 2 ∷ 0 ∷ 0 ∷ replicate 0 9)
     ∷  -- it would make N, which is nobody's, and then M, which B knows: the first decides
     trial (4 ∷ 8 ∷ 2 ∷ 24 ∷ 1 ∷ 32 ∷ 7 ∷ 36 ∷ 0 ∷ 0 ∷ 0 ∷ 0 ∷ 0 ∷ 0 ∷ 0 ∷ 0 ∷ 0 ∷ 0 ∷ 0 ∷ 0 ∷ 0 ∷ 0 ∷ 0
     ∷ 0 ∷ 0 ∷ 0 ∷ 2 ∷ 0 ∷ 1 ∷ 2 ∷ 3 ∷ 1 ∷ 0 ∷ 1 ∷ 5 ∷ 2 ∷ 0 ∷ 1 ∷ 0 ∷ 1 ∷ 3 ∷ 2 ∷ 3 ∷ [])

@@ -3,29 +3,29 @@
 use Prim.Native.Nat.{ℕ, _+_, _-_, _*_, _/_, _≤_, _<_}
 use native.Mathlib.Nat.{add-zero}
 use native.Mathlib.Omega.{arith}
-use mathlib.Core.List.{List, [], _∷_, _++_, map}
+use mathlib.Core.List.{List, [], _∷_, map}
 use mathlib.Core.Path.{_≡_, refl, sym, ap, _∙_}
 use lib.ListN.{length, length-map, length-append}
 use borrow.Author.Tests.{eq-eqb, ne-eqb}
 use Rattle.words.specs.Choice.Laws.{pick-true, pick-false}
-use Rattle.words.specs.Run.{run}
 use Rattle.words.specs.Run.Laws.{run-length}
 use Rattle.words.specs.Overlay.{Wrote}
 use Rattle.words.specs.Overlay.Laws.{wrote-none, wrote-as}
-use Rattle.terms.specs.Term.{count, gathered, listed}
+use Rattle.terms.specs.Term.{count, listed}
 use Rattle.terms.specs.Term.Laws.{count-gathered, count-listed}
 use Rattle.terms.specs.Table.{term, terms}
 use Rattle.book.specs.Layout.{table, rows, parties, mark, sender, receiver, stepFirst, stepCount, messages, listAt}
 use Rattle.book.specs.Span.Laws.{span-step, messages-at}
+use Rattle.book.specs.Headed.Laws.{few-steps}
 use Rattle.translation.specs.Build.{buildAll}
 use Rattle.translation.specs.Build.Laws.{buildAll-made}
 use Rattle.translation.specs.Receive.{Did, Event, followed, receiveAll}
 use Rattle.translation.specs.Receive.Laws.{receiveAll-settles}
 use Rattle.translation.specs.Program.{sent}
-use Rattle.translation.specs.Listing.{programWords, pairWords, eventWords}
+use Rattle.translation.specs.Listing.{programWords, tripleWords, eventWords}
 use Rattle.translation.specs.Steps.Laws.{step-sends, step-receives, step-idle}
 use Rattle.translation.specs.Long.{stepSize}
-use Rattle.translation.specs.Long.Laws.{step-sizes, step-within, pairs-length}
+use Rattle.translation.specs.Long.Laws.{step-sizes, step-within, triples-length}
 use Rattle.holding.specs.View.{rowOf, view}
 use Rattle.holding.specs.Doing.Laws.{doing-none, doing-then, doing-as}
 use Rattle.sending.specs.Sending.{SendReady, Sends}
@@ -44,43 +44,44 @@ sender-party {s = s} ready dz e = let few = ready .valid .stepsKeep s (ready .st
 
 module _ {b ps : List ℕ} {p s : ℕ} {x : Received} {f n : ℕ} (ready : ActReady b ps p s x) (df : f ≡ stepFirst b s) (dn : n ≡ stepCount b s) where
   -- a step makes few atoms
-  pub send-ready : SendReady b f n (x .dictionary .entries) (x .at)
+  pub send-ready : SendReady b s f n (x .dictionary .entries) (x .at)
   send-ready =
       let δ = view b (x .dictionary .entries) in
-      let made = buildAll-made (terms (table b) (messages b s)) δ in
+      let made = buildAll-made s (terms (table b) (messages b s)) δ in
       let sizes = step-sizes b (ready .valid) s (ready .step) in
-      let same = ap (λ ts. length (buildAll ts δ .made)) (messages-at b s f n df dn) in
+      let same = ap (λ ts. length (buildAll s ts δ .made)) (messages-at b s f n df dn) in
       let low = ready .low in
       record {
         valid = ready .valid;
         span = span-step b (ready .valid) f n s (ready .step) df dn;
         size = ready .size;
+        step = let few = few-steps b (ready .valid) in let in-book = ready .step in omega arith;
         few = omega arith;
         low = omega arith;
       }
 
   pub few-made : {l : List ℕ} {k : ℕ} {e out outAfter : List ℕ} {m : Sent}
-      → Sends b l k s (buildAll (terms (table b) (listAt b f n)) (view b (x .dictionary .entries))) (x .at) e out outAfter m → m .made ≤ stepSize
+      → Sends b l k s (buildAll s (terms (table b) (listAt b f n)) (view b (x .dictionary .entries))) (x .at) e out outAfter m → m .made ≤ stepSize
   few-made w = let made = w .made in let few = send-ready .few in omega arith
 
   pub acts-send : {l : List ℕ} {k z : ℕ} {e out outAfter log : List ℕ} {m : Sent} → z ≡ sender b s → z ≡ p → k ≡ mark b p
-      → Sends b l k s (buildAll (terms (table b) (listAt b f n)) (view b (x .dictionary .entries))) (x .at) e out outAfter m
-      → Acting b l p s x log log out outAfter (standing e (x .dictionary .next) (x .dictionary .kept) (m .at)) (m .made) (m .made + 1) (m .stop)
-  unfolding pairWords stopsIn
+      → Sends b l k s (buildAll s (terms (table b) (listAt b f n)) (view b (x .dictionary .entries))) (x .at) e out outAfter m
+      → Acting b l p s x log log out outAfter (standing s e (x .dictionary .next) (x .dictionary .kept) (m .at)) (m .made) (m .made + 1) (m .stop)
+  unfolding tripleWords stopsIn
   acts-send {m = m} dz e dk w =
       let same = messages-at b s _ _ df dn in
       let δ = view b (x .dictionary .entries) in
       let is : sender b s ≡ p = sym dz ∙ e in
-      let g = buildAll (terms (table b) (messages b s)) δ in
+      let g = buildAll s (terms (table b) (messages b s)) δ in
       let news = length-append (map Event.new (g .made)) (Event.sends s (g .images) ∷ []) in
       let count = length-map (g .made) Event.new in
-      let made : m .made ≡ length (g .made) = w .made ∙ ap (λ ts. length (buildAll ts δ .made)) same in
+      let made : m .made ≡ length (g .made) = w .made ∙ ap (λ ts. length (buildAll s ts δ .made)) same in
       let did = ap (λ (d : Did). length (d .events)) (step-sends b p s δ (x .dictionary .next) is) in
       record {
         doing = doing-as (record {
-          holds = w .holds ∙ ap (λ ts. buildAll ts δ .dictionary) same;
+          holds = w .holds ∙ ap (λ ts. buildAll s ts δ .dictionary) same;
           goes = sym (add-zero _);
-          wrote = wrote-as (w .wrote) (ap (λ ts. programWords (rowOf b) (sent s (buildAll ts δ) .events)) (sym same));
+          wrote = wrote-as (w .wrote) (ap (λ ts. programWords (rowOf b) (sent s (buildAll s ts δ) .events)) (sym same));
           keeps = wrote-none;
         }) (step-sends b p s δ (x .dictionary .next) is);
         events = omega arith;
@@ -105,16 +106,16 @@ module _ (b : List ℕ) (p s : ℕ) {f n z y : ℕ} (df : f ≡ stepFirst b s) (
       count-gathered (map (term (table b)) (messages b s)) ∙ length-map (messages b s) (term (table b))
       ∙ run-length b _ (stepCount b s) ∙ sym dn
 
-  step-turns : (x : Received) → actDid b p s x ≡ followed (announced b s n x) (listDid b f n x)
+  step-turns : (x : Received) → x .dictionary .step ≡ s → actDid b p s x ≡ followed (announced b s n x) (listDid b f n x)
   unfolding inTurn
-  step-turns x =
+  step-turns x now =
       step-receives b p s (view b (x .dictionary .entries)) (x .dictionary .next) (λ q. e (dz ∙ q)) (sym dy ∙ h)
-      ∙ rw (messages-at b s f n df dn, many)
+      ∙ rw (messages-at b s f n df dn, many, now)
 
--- what n messages took that stand at f in the pool, to the placeholder `next` and the place `kept`: two words of the log a stored term,
+-- what n messages took that stand at f in the pool, to the placeholder `next` and the place `kept`: three words of the log a stored term,
 -- and a placeholder for each that was compared, opened or stored
 pub record Took (b : List ℕ) (f n : ℕ) (x : Received) (next kept : ℕ) : Type 0 where
-  pub to-kept : kept ≡ x .dictionary .kept + 2 * length (listDid b f n x .stored)
+  pub to-kept : kept ≡ x .dictionary .kept + 3 * length (listDid b f n x .stored)
   pub to-next : next ≡ x .dictionary .next + (length (listDid b f n x .events) + length (listDid b f n x .stored))
   pub given : length (listDid b f n x .events) + length (listDid b f n x .stored) ≤ stepSize
 
@@ -127,9 +128,10 @@ module _ {b : List ℕ} {p s : ℕ} {x : Received} {f n z y : ℕ} where
         valid = ready .valid;
         partners = ready .partners;
         bounded = omega arith;
+        timely = let few = few-steps b (ready .valid) in let in-book = ready .step in let now = ready .now in omega arith;
         size = ready .size;
         span = rw dd (span-step b (ready .valid) f n s (ready .step) df dn);
-        fits = let fits = ready .fits in let same = ap (λ (g : Did). length (g .given)) (step-turns b p s df dn dz e dy h x) in omega arith;
+        fits = let fits = ready .fits in let same = ap (λ (g : Did). length (g .given)) (step-turns b p s df dn dz e dy h x (ready .now)) in omega arith;
       }
 
   pub took : {ps log logAfter middle outAfter : List ℕ} {a : ℕ} {r : Received} → ActReady b ps p s x → f ≡ stepFirst b s → n ≡ stepCount b s
@@ -141,7 +143,7 @@ module _ {b : List ℕ} {p s : ℕ} {x : Received} {f n z y : ℕ} where
       let ts = terms (table b) (listAt b f n) in
       let k = x .dictionary .next in
       let δ = view b (x .dictionary .entries) in
-      let did = step-turns b p s df dn dz e dy h x in
+      let did = step-turns b p s df dn dz e dy h x (ready .now) in
       let within = step-within b (ready .valid) (rowOf b) p s (ready .step) δ k in
       let given = within .given in
       let stored = within .stored in
@@ -149,9 +151,9 @@ module _ {b : List ℕ} {p s : ℕ} {x : Received} {f n z y : ℕ} where
       let same-stored = ap (λ (d : Did). length (d .stored)) did in
       let goes = t .led .goes in
       let keeps = t .led .keeps .next in
-      let pairs = pairs-length (rowOf b) (listDid b f n x .stored) in
-      let settles = receiveAll-settles ts k δ (k + count ts) in
-      let all = length-append (listed ts) (receiveAll ts k δ (k + count ts) .given) in
+      let triples = triples-length (rowOf b) (listDid b f n x .stored) in
+      let settles = receiveAll-settles (x .dictionary .step) ts k δ (k + count ts) in
+      let all = length-append (listed ts) (receiveAll (x .dictionary .step) ts k δ (k + count ts) .given) in
       let counted = count-listed ts in
       let room = ready .room in
       record { to-kept = omega arith; to-next = omega arith; given = omega arith }
@@ -160,13 +162,13 @@ module _ {b : List ℕ} {p s : ℕ} {x : Received} {f n z y : ℕ} where
       → ActReady b ps p s x → f ≡ stepFirst b s → n ≡ stepCount b s → z ≡ sender b s → (z ≡ p → ⊥) → y ≡ receiver b s → y ≡ p
       → c ≡ n → Wrote (3 ∷ s ∷ x .dictionary .next ∷ c ∷ []) out (x .at) middle a
       → Brought b (listDid b f n x) (record { dictionary = x .dictionary; at = a }) log logAfter middle outAfter r
-      → m ≡ (r .dictionary .kept - x .dictionary .kept) / 2
+      → m ≡ (r .dictionary .kept - x .dictionary .kept) / 3
       → Acting b l p s x log logAfter out outAfter r 0 (1 + (r .dictionary .next - x .dictionary .next) - m) (nowhere s)
-  unfolding pairWords programWords eventWords stopsIn
+  unfolding tripleWords programWords eventWords stopsIn
   acts-receive {log = log} {out = out} {middle = middle} {a = a} ready df dn dz e dy h dc w t dm =
       let head : Led b (announced b s n x) x log log out middle (record { dictionary = x .dictionary; at = a }) =
       record { holds = refl; goes = sym (add-zero _); wrote = wrote-as w (rw dc); keeps = wrote-none } in
-      let did = step-turns b p s df dn dz e dy h x in
+      let did = step-turns b p s df dn dz e dy h x (ready .now) in
       let many = ap (λ (d : Did). length (d .events)) did in
       let takes = took ready df dn dz e dy h t in
       let kept = takes .to-kept in

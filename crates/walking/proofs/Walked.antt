@@ -1,24 +1,22 @@
 -- The walk, step by step: `Walked` says how far it got, and its laws are the loop's. Assumes nothing.
 use Prim.Native.Nat.{ℕ, _+_, _≤_, _<_}
 use native.Mathlib.Omega.{arith}
-use mathlib.Core.List.{List, map}
+use mathlib.Core.List.{List}
 use mathlib.Core.Path.{_≡_, refl, sym, ap, _∙_}
 use lib.ListN.{length, length-append}
 use Rattle.words.specs.Choice.{pick}
 use Rattle.words.specs.Overlay.Laws.{wrote-length}
-use Rattle.terms.specs.Table.{term}
-use Rattle.book.specs.Layout.{table, rows, steps, known, sender, receiver}
-use Rattle.book.specs.Valid.{Valid}
+use Rattle.book.specs.Layout.{steps, sender, receiver}
+use Rattle.book.specs.Headed.Laws.{few-steps}
 use Rattle.book.specs.Stop.{nowhere}
 use Rattle.book.specs.declared.Stop.{Stop}
-use Rattle.translation.specs.Dictionary.{start}
 use Rattle.translation.specs.Receive.{Did}
 use Rattle.translation.specs.Places.{placesOf}
 use Rattle.translation.specs.Steps.{before}
 use Rattle.translation.specs.Steps.Laws.{before-none}
 use Rattle.translation.specs.Long.{mostEvents}
-use Rattle.translation.specs.Long.Laws.{all-within}
-use Rattle.holding.specs.View.{rowOf, view}
+use Rattle.translation.specs.Long.Laws.{before-within, all-within}
+use Rattle.holding.specs.View.{rowOf}
 use Rattle.holding.specs.Doing.Laws.{doing-none, doing-as}
 use Rattle.receiving.specs.declared.Received.{Received}
 use Rattle.receiving.specs.Receiving.{standing}
@@ -29,58 +27,48 @@ use Rattle.walking.specs.Stops.Laws.{stops-exact, stops-here, unrefused-
 use Rattle.walking.specs.Placed.Laws.{send-place, receive-place, few-events}
 use Rattle.walking.specs.Noted.{NotedStep, StepsNoted}
 use Rattle.walking.specs.Noted.Laws.{noted-lengths, noted-start, noted-on, noted-skip}
-use Rattle.walking.specs.Marked.{Marks, Unmarked, Marked}
-use Rattle.walking.specs.Marked.Laws.{marked-none, marked-on, marked-skip}
-use Rattle.walking.specs.Walking.{actDid, ActReady, Acting, WalkReady, Along, Walking}
+use Rattle.walking.specs.Walking.{actDid, ActReady, Acting, WalkReady, Started, Along, Walking}
 use Rattle.walking.specs.Walking.Laws.{along-fits, along-more, along-on}
 use Rattle.walking.proofs.Lengths.{ends-at, ends-kept}
 
 -- party p came through the first i steps, with the place a at the start; it had e events and noted their places, and none of the steps is
 -- refused for it
 pub record Walked (b : List ℕ) (p i : ℕ) (log₀ log : List ℕ) (a : ℕ) (out₀ out : List ℕ) (x : Received) (e : ℕ)
-    (sends₀ sends receives₀ receives marks₀ marks : List ℕ) : Type 0 where
+    (sends₀ sends receives₀ receives : List ℕ) : Type 0 where
   pub within : i ≤ steps b
-  pub along : Along b p i log₀ log a out₀ out x
+  pub along : Along b p i log₀ log a out₀ out (x .dictionary .entries) (x .dictionary .next) (x .dictionary .kept) (x .at)
+  pub now : x .dictionary .step ≡ i
   pub size : length (x .dictionary .entries) ≡ 1024
   pub events : e ≡ length (before b p i .events)
   pub noted : StepsNoted b p i sends₀ sends receives₀ receives
-  pub marked : Marked b p (i + 1) marks
-  pub marks-size : length marks ≡ length marks₀
-  pub few : length marks ≤ rows b
   pub unrefused : Unrefused b p i
 
 -- steps in which the party has no part add nothing
-walked-skip : {b : List ℕ} {p i j a e : ℕ} {log₀ log out₀ out sends₀ sends receives₀ receives marks₀ marks : List ℕ} {x : Received}
-    → IdleUntil b p i j → Along b p i log₀ log a out₀ out x → length (x .dictionary .entries) ≡ 1024 → e ≡ length (before b p i .events)
-    → StepsNoted b p i sends₀ sends receives₀ receives → Marked b p (i + 1) marks → length marks ≡ length marks₀
-    → length marks ≤ rows b → Unrefused b p i
-    → Walked b p j log₀ log a out₀ out x e sends₀ sends receives₀ receives marks₀ marks
-walked-skip {b} {p} w g l d n m z f u =
+walked-skip : {b : List ℕ} {p i j a e n k z : ℕ} {log₀ log out₀ out held sends₀ sends receives₀ receives : List ℕ}
+    → IdleUntil b p i j → Along b p i log₀ log a out₀ out held n k z → length held ≡ 1024 → e ≡ length (before b p i .events)
+    → StepsNoted b p i sends₀ sends receives₀ receives → Unrefused b p i
+    → Walked b p j log₀ log a out₀ out (standing j held n k z) e sends₀ sends receives₀ receives
+walked-skip {b} {p} w g l d n u =
     let same = before-skip b p w in
     record {
       within = w .within;
       along = doing-as g same;
+      now = refl;
       size = l;
       events = d ∙ ap (λ (k : Did). length (k .events)) (sym same);
       noted = noted-skip n w;
-      marked = marked-skip w m;
-      marks-size = z;
-      few = f;
       unrefused = unrefused-skip w u;
     }
 
 -- ---- at the start the party holds what it knows, and has had no event
-pub walked-start : {b : List ℕ} {p i a k : ℕ} {log out e sends receives marks₀ marks : List ℕ} → Valid b
-    → length e ≡ 1024 → view b e ≡ start (map (term (table b)) (known b p)) → Unmarked b marks₀ → Marks e 0 marks₀ marks
-    → IdleUntil b p 0 i → k ≡ 0 → Walked b p i log log a out out (standing e 0 0 a) k sends sends receives receives marks marks
-walked-start {b} {p} {e = e} v l h fresh m idle none =
-    walked-skip idle (doing-as (rw (← h) (doing-none {b = b} {x = e})) (before-none b p)) l
-    (none ∙ sym (ap (λ (k : Did). length (k .events)) (before-none b p))) noted-start
-    (marked-on v (fresh .few) (omega arith) (h ∙ sym (ap (λ (k : Did). k .dictionary) (before-none b p))) (marked-none fresh) m) refl
-    (let size = m .size in let few = fresh .few in omega arith) (λ k l. absurd (omega arith))
+pub walked-start : {b : List ℕ} {p i a k : ℕ} {log out e sends receives : List ℕ} → Started b p e → IdleUntil b p 0 i → k ≡ 0
+    → Walked b p i log log a out out (standing i e 0 0 a) k sends sends receives receives
+walked-start {b} {p} {e = e} started idle none =
+    walked-skip idle (doing-as (rw (← started .holds) (doing-none {b = b} {x = e})) (before-none b p)) (started .size)
+    (none ∙ sym (ap (λ (k : Did). length (k .events)) (before-none b p))) noted-start (λ k l. absurd (omega arith))
 
-module _ {b l ps : List ℕ} {p upto i a e : ℕ} {log₀ log out₀ out sends₀ sends receives₀ receives marks₀ marks : List ℕ} {x : Received}
-    (ready : WalkReady b l ps p upto a) (h : i < upto) (g : Walked b p i log₀ log a out₀ out x e sends₀ sends receives₀ receives marks₀ marks) where
+module _ {b l ps : List ℕ} {p upto i a e : ℕ} {log₀ log out₀ out sends₀ sends receives₀ receives : List ℕ} {x : Received}
+    (ready : WalkReady b l ps p upto a) (h : i < upto) (g : Walked b p i log₀ log a out₀ out x e sends₀ sends receives₀ receives) where
   pub in-book : i < steps b
   in-book = let u = ready .within in omega arith
 
@@ -89,14 +77,16 @@ module _ {b l ps : List ℕ} {p upto i a e : ℕ} {log₀ log out₀ out sends�
   walked-ready =
       let at = ends-at (ready .valid) p (g .within) (ready .low) (g .along) in
       let kept = ends-kept (ready .valid) p (g .within) (g .along) in
-      let few = all-within b (ready .valid) (rowOf b) p i (g .within) in
-      let words = few .words in
-      let stored = few .stored in
+      let words = before-within b (ready .valid) (rowOf b) p i (g .within) .words in
+      let steps = few-steps b (ready .valid) in
+      let there = in-book in
+      let stored = all-within b (ready .valid) (rowOf b) p i (g .within) .stored in
       let low = ready .low in
       record {
         valid = ready .valid;
         partners = ready .partners;
         step = in-book;
+        now = g .now;
         size = g .size;
         fits = along-fits b p i (g .along) (ready .valid) in-book;
         low = omega arith;
@@ -104,7 +94,7 @@ module _ {b l ps : List ℕ} {p upto i a e : ℕ} {log₀ log out₀ out sends�
       }
 
   module _ {logAfter outAfter : List ℕ} {y : Received} {ahead more : ℕ} {t : Stop} (w : Acting b l p i x log logAfter out outAfter y ahead more t) where
-    further : Along b p (i + 1) log₀ logAfter a out₀ outAfter y
+    further : Along b p (i + 1) log₀ logAfter a out₀ outAfter (y .dictionary .entries) (y .dictionary .next) (y .dictionary .kept) (y .at)
     further = along-on b p i (g .along) (w .doing)
 
     -- ---- the events so far
@@ -140,19 +130,15 @@ module _ {b l ps : List ℕ} {p upto i a e : ℕ} {log₀ log out₀ out sends�
     exact : t ≡ pick (refusedFor b p i) (stopOf b i) (nowhere i)
     exact = w .stops ∙ stops-exact b i in-book l p _ (ready .claims) (ready .party) (g .along .holds)
 
-    module _ {sendsAfter receivesAfter marksAfter : List ℕ} (n : NotedStep b p i (e + ahead) sends sendsAfter receives receivesAfter)
-        {word : ℕ} (m : Marks (y .dictionary .entries) word marks marksAfter) (after : word ≡ i + 1) where
-      marked : Marked b p (i + 1 + 1) marksAfter
-      marked = let j = in-book in marked-on (ready .valid) (g .few) (omega arith) (further .holds) (g .marked) (rw after at m)
-
+    module _ {sendsAfter receivesAfter : List ℕ} (n : NotedStep b p i (e + ahead) sends sendsAfter receives receivesAfter) where
       noted : StepsNoted b p (i + 1) sends₀ sendsAfter receives₀ receivesAfter
       noted = noted-on (g .noted) n send-there receive-there
 
       -- ---- a step at which it stops is the last
-      pub walked-stops : {before : List ℕ} → length marksAfter ≡ length before → (t .number ≡ 0 → ⊥)
-          → Walking b p upto (y .dictionary .entries) log₀ logAfter a out₀ outAfter sends₀ sendsAfter receives₀ receivesAfter before marksAfter
+      pub walked-stops : (t .number ≡ 0 → ⊥)
+          → Walking b p upto (y .dictionary .entries) log₀ logAfter a out₀ outAfter sends₀ sendsAfter receives₀ receivesAfter
           (record { kept = y .dictionary .kept; at = y .at; events = e + more; stop = t })
-      walked-stops same z =
+      walked-stops z =
           let j = in-book in
           record {
             far = i + 1;
@@ -162,21 +148,20 @@ module _ {b l ps : List ℕ} {p upto i a e : ℕ} {log₀ log out₀ out sends�
             size = w .size;
             events = counted;
             noted = noted;
-            marked = marked;
-            marks-size = same;
             stops = stops-here b p i t exact h (g .unrefused) z;
             whole = λ q m. absurd (z q);
           }
 
       -- ---- else the walk goes on to the party's next step
       pub walked-on : {j : ℕ} → t .number ≡ 0 → IdleUntil b p (i + 1) j
-          → Walked b p j log₀ logAfter a out₀ outAfter y (e + more) sends₀ sendsAfter receives₀ receivesAfter marks₀ marksAfter
-      walked-on z idle = walked-skip idle further (w .size) counted noted marked (m .size ∙ g .marks-size)
-          (let size = m .size in let few = g .few in omega arith) (unrefused-on b p i t exact (g .unrefused) z)
+          → Walked b p j log₀ logAfter a out₀ outAfter
+          (standing j (y .dictionary .entries) (y .dictionary .next) (y .dictionary .kept) (y .at))
+          (e + more) sends₀ sendsAfter receives₀ receivesAfter
+      walked-on z idle = walked-skip idle further (w .size) counted noted (unrefused-on b p i t exact (g .unrefused) z)
 
 -- ---- what was lent keeps its length
-module _ {b l : List ℕ} {p i a e : ℕ} {log₀ log logAfter out₀ out outAfter sends₀ sends receives₀ receives marks₀ marks : List ℕ}
-    {x y : Received} {ahead more : ℕ} {t : Stop} (g : Walked b p i log₀ log a out₀ out x e sends₀ sends receives₀ receives marks₀ marks)
+module _ {b l : List ℕ} {p i a e : ℕ} {log₀ log logAfter out₀ out outAfter sends₀ sends receives₀ receives : List ℕ}
+    {x y : Received} {ahead more : ℕ} {t : Stop} (g : Walked b p i log₀ log a out₀ out x e sends₀ sends receives₀ receives)
     (w : Acting b l p i x log logAfter out outAfter y ahead more t) where
   pub acted-log : length logAfter ≡ length log₀
   acted-log = wrote-length (w .doing .keeps) ∙ wrote-length (g .along .keeps)
@@ -184,9 +169,9 @@ module _ {b l : List ℕ} {p i a e : ℕ} {log₀ log logAfter out₀ out outAft
   pub acted-out : length outAfter ≡ length out₀
   acted-out = wrote-length (w .doing .wrote) ∙ wrote-length (g .along .wrote)
 
-module _ {b : List ℕ} {p i a e : ℕ} {log₀ log out₀ out sends₀ sends sendsAfter receives₀ receives receivesAfter marks₀ marks : List ℕ}
+module _ {b : List ℕ} {p i a e : ℕ} {log₀ log out₀ out sends₀ sends sendsAfter receives₀ receives receivesAfter : List ℕ}
     {x : Received} {k : ℕ}
-    (g : Walked b p i log₀ log a out₀ out x e sends₀ sends receives₀ receives marks₀ marks)
+    (g : Walked b p i log₀ log a out₀ out x e sends₀ sends receives₀ receives)
     (n : NotedStep b p i k sends sendsAfter receives receivesAfter) where
   pub noted-sends : length sendsAfter ≡ length sends₀
   noted-sends = noted-lengths n .0 ∙ g .noted .sends .size
@@ -195,11 +180,11 @@ module _ {b : List ℕ} {p i a e : ℕ} {log₀ log out₀ out sends₀ sends se
   noted-receives = noted-lengths n .1 ∙ g .noted .receives .size
 
 -- ---- it stopped nowhere
-pub walked-ends : {b : List ℕ} {p upto i a e : ℕ} {log₀ log out₀ out sends₀ sends receives₀ receives marks₀ marks : List ℕ} {x : Received}
-    → Walked b p i log₀ log a out₀ out x e sends₀ sends receives₀ receives marks₀ marks → {before : List ℕ} → length marks ≡ length before
-    → upto ≤ i → Walking b p upto (x .dictionary .entries) log₀ log a out₀ out sends₀ sends receives₀ receives before marks
+pub walked-ends : {b : List ℕ} {p upto i a e : ℕ} {log₀ log out₀ out sends₀ sends receives₀ receives : List ℕ} {x : Received}
+    → Walked b p i log₀ log a out₀ out x e sends₀ sends receives₀ receives
+    → upto ≤ i → Walking b p upto (x .dictionary .entries) log₀ log a out₀ out sends₀ sends receives₀ receives
     (record { kept = x .dictionary .kept; at = x .at; events = e; stop = nowhere upto })
-walked-ends {i = i} {x = x} g same h =
+walked-ends {i = i} {x = x} g h =
     record {
       far = i;
       within = g .within;
@@ -208,8 +193,6 @@ walked-ends {i = i} {x = x} g same h =
       size = g .size;
       events = g .events;
       noted = g .noted;
-      marked = g .marked;
-      marks-size = same;
       stops = StopsBefore.none (λ k l. g .unrefused k (omega arith));
       whole = λ q z. let m = g .within in omega arith;
     }

@@ -2,5 +2,4 @@ pub mod Walk
 pub mod Stops
 pub mod Placed
 pub mod Noted
-pub mod Marked
 pub mod Walking

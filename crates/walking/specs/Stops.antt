@@ -21,7 +21,7 @@ pub mod Laws
 -- by the table l: where party p's part in step s stops, if it holds δ
 unfoldable pub stopsIn : List ℕ → List ℕ → ℕ → ℕ → Dictionary → Stop
 stopsIn b l p s δ =
-    pick (eqb (sender b s) p) (firstIn (againstIn l (mark b p) s) s (nowhere s) (buildAll (terms (table b) (messages b s)) δ .made)) (nowhere s)
+    pick (eqb (sender b s) p) (firstIn (againstIn l (mark b p) s) s (nowhere s) (buildAll s (terms (table b) (messages b s)) δ .made)) (nowhere s)
 
 -- the stop at a step that is refused
 abbrev pub stopOf : List ℕ → ℕ → Stop

@@ -1,11 +1,13 @@
 -- What a party's walk asks for, and what it leaves behind, as its code has it.
 use Prim.Native.Nat.{ℕ, _+_, _*_, _≤_, _<_}
-use mathlib.Core.List.{List}
+use mathlib.Core.List.{List, map}
 use mathlib.Core.Path.{_≡_}
 use lib.ListN.{length}
 use Rattle.words.specs.Overlay.{cap}
-use Rattle.book.specs.Layout.{parties, steps, sender, receiver}
+use Rattle.terms.specs.Table.{term}
+use Rattle.book.specs.Layout.{table, parties, steps, known, sender, receiver}
 use Rattle.book.specs.Valid.{Valid}
+use Rattle.translation.specs.Dictionary.{start}
 use Rattle.translation.specs.Receive.{Did}
 use Rattle.translation.specs.Steps.{stepDid, before}
 use Rattle.translation.specs.Listing.{partWords}
@@ -15,13 +17,12 @@ use Rattle.holding.specs.Partners.{Partners}
 use Rattle.holding.specs.Doing.{Doing}
 use Rattle.claims.specs.Claims.{Claims}
 use Rattle.receiving.specs.declared.Received.{Received}
-use Rattle.receiving.specs.Receiving.{standing, Fits, Led}
+use Rattle.receiving.specs.Receiving.{Fits, Led}
 use Rattle.walking.specs.declared.Passed.{Passed}
 use Rattle.walking.specs.declared.Measured.{Measured}
 use Rattle.book.specs.declared.Stop.{Stop}
 use Rattle.walking.specs.Stops.{stopsIn, StopsBefore}
 use Rattle.walking.specs.Noted.{StepsNoted, PartyNoted}
-use Rattle.walking.specs.Marked.{Marked}
 pub mod Laws
 
 -- ---- one step
@@ -34,10 +35,11 @@ pub record ActReady (b ps : List ℕ) (p s : ℕ) (x : Received) : Type 0 where
   pub valid : Valid b
   pub partners : Partners b ps
   pub step : s < steps b
+  pub now : x .dictionary .step ≡ s
   pub size : length (x .dictionary .entries) ≡ 1024
   pub fits : Fits x (actDid b p s x)
   pub low : x .at + stepWords ≤ cap
-  pub room : x .dictionary .kept + 2 * stepSize ≤ cap
+  pub room : x .dictionary .kept + 3 * stepSize ≤ cap
 
 -- party p's part in step s led from x to y by e events, h of them ahead of the step's SEND or RECEIVE, and stopped at t. The SEND is the
 -- last event of its step, the RECEIVE the first.
@@ -61,24 +63,26 @@ pub record WalkReady (b l ps : List ℕ) (p upto a : ℕ) : Type 0 where
   pub within : upto ≤ steps b
   pub low : a + mostPart ≤ cap
 
--- the first i steps of party p, with the place a at the start
-abbrev pub Along : List ℕ → ℕ → ℕ → List ℕ → List ℕ → ℕ → List ℕ → List ℕ → Received → Type 0
-Along b p i log logAfter a out outAfter y =
-    Doing b (before b p i) 0 0 log logAfter a out outAfter (y .dictionary .entries) (y .dictionary .next) (y .dictionary .kept) (y .at)
+-- the entries are what party p holds at the start
+pub record Started (b : List ℕ) (p : ℕ) (entries : List ℕ) : Type 0 where
+  pub holds : view b entries ≡ start (map (term (table b)) (known b p))
+  pub size : length entries ≡ 1024
+
+-- the first i steps of party p, with the place a at the start; behind them the entries are e, n is the next placeholder, and k and z are
+-- the places
+abbrev pub Along : List ℕ → ℕ → ℕ → List ℕ → List ℕ → ℕ → List ℕ → List ℕ → List ℕ → ℕ → ℕ → ℕ → Type 0
+Along b p i log logAfter a out outAfter e n k z = Doing b (before b p i) 0 0 log logAfter a out outAfter e n k z
 
 -- party p's walk through the steps before `upto`: the steps that it came through, at most all of them, what it holds behind them, and where
--- it stopped. x and y are the lists of SENDs and RECEIVEs, m that of marks. Where it looked at all steps and did not stop, it came through all.
-pub record Walking (b : List ℕ) (p upto : ℕ) (entries log logAfter : List ℕ) (a : ℕ) (out outAfter x xAfter y yAfter m mAfter : List ℕ)
-    (r : Passed) : Type 0 where
+-- it stopped. x and y are the lists of SENDs and RECEIVEs. Where it looked at all steps and did not stop, it came through all.
+pub record Walking (b : List ℕ) (p upto : ℕ) (entries log logAfter : List ℕ) (a : ℕ) (out outAfter x xAfter y yAfter : List ℕ) (r : Passed) : Type 0 where
   pub far : ℕ
   pub within : far ≤ steps b
   pub next : ℕ
-  pub along : Along b p far log logAfter a out outAfter (standing entries next (r .kept) (r .at))
+  pub along : Along b p far log logAfter a out outAfter entries next (r .kept) (r .at)
   pub size : length entries ≡ 1024
   pub events : r .events ≡ length (before b p far .events)
   pub noted : StepsNoted b p far x xAfter y yAfter
-  pub marked : Marked b p (far + 1) mAfter
-  pub marks-size : length mAfter ≡ length m
   pub stops : StopsBefore b p upto (r .stop)
   pub whole : r .stop .number ≡ 0 → upto ≡ steps b → far ≡ steps b
 
@@ -90,3 +94,8 @@ pub record Measures (b : List ℕ) (p upto : ℕ) (x xAfter y yAfter : List ℕ)
   pub sends-size : length xAfter ≡ length x
   pub receives-size : length yAfter ≡ length y
   pub stops : StopsBefore b p upto (r .stop)
+
+-- the entries are what party p holds after all steps
+pub record Holding (b : List ℕ) (p : ℕ) (entries : List ℕ) : Type 0 where
+  pub holds : view b entries ≡ before b p (steps b) .dictionary
+  pub size : length entries ≡ 1024

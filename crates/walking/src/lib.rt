@@ -1,10 +1,11 @@
 // A party's way through its own steps of a valid book, by the tables of claims and of partners. There is one walk, and it leaves all that
-// can be asked of a party: what it holds, its events' words, what it stores, where its SENDs and RECEIVEs stand, and since when it holds
-// each row. Who wants less lends less: `measure` counts the words and notes the places, `write_program` writes the words, `since_when`
-// marks the rows. `act` and `next_own` are the walk's parts: one step, and the way to the next.
+// can be asked of a party: its events' words, what it stores, where its SENDs and RECEIVEs stand, and what it holds and how. Who wants less
+// lends less: `measure` counts the words and notes the places, `write_program` writes the words, `hold` leaves what is held in the end.
+// `act` and `next_own` are the walk's parts: one step, and the way to the next.
 use book::ByRow;
 use book::Code;
 use book::Stop;
+use book::Triple;
 use book::party_mark;
 use book::rows;
 use book::step_count;
@@ -12,7 +13,6 @@ use book::step_first;
 use book::step_receiver;
 use book::step_sender;
 use book::steps;
-use holding::Entry;
 use holding::start;
 use receiving::receive_messages;
 use sending::send;
@@ -24,7 +24,6 @@ use words::put4;
 use words::wide;
 ghost use mathlib.Core.Path.{_≡_};
 ghost use Prim.Native.Nat.{_+_, _≤_, _<_};
-ghost use lib.ListN.{length};
 ghost use Rattle.words.specs.Overlay.{Wrote};
 ghost use Rattle.book.specs.Layout.{steps as stepsOf};
 ghost use Rattle.book.specs.Valid.{Valid};
@@ -32,10 +31,9 @@ ghost use Rattle.translation.specs.Listing.{partWords};
 ghost use Rattle.receiving.specs.Receiving.{standing};
 ghost use Rattle.walking.specs.Walk.{Unrefused, IdleUntil};
 ghost use Rattle.walking.specs.Noted.{notedBy, NotedStep};
-ghost use Rattle.walking.specs.Marked.{markOf, Marks, Unmarked, Marked};
-ghost use Rattle.walking.specs.Walking.{ActReady, Acting, WalkReady, Walking, Measures};
+ghost use Rattle.walking.specs.Walking.{ActReady, Acting, WalkReady, Started, Walking, Measures, Holding};
 
-// What a step left: the next placeholder, the places of the next stored pair and of the next word, the events ahead of its SEND or
+// What a step left: the next placeholder, the places of what is stored next and of the next word, the events ahead of its SEND or
 // RECEIVE and all its events, and where it stops.
 pub struct Acted {
     pub next: u32,
@@ -46,7 +44,7 @@ pub struct Acted {
     pub stop: Stop,
 }
 
-// What the steps left: the places of the next stored pair and of the next word, the number of events, and where the walk stopped.
+// What the steps left: the places of what is stored next and of the next word, the number of events, and where the walk stopped.
 pub struct Passed {
     pub kept: usize,
     pub at: usize,
@@ -68,8 +66,8 @@ pub fn act(
     out: &mut [u32],
     at: usize,
 ) -> Acted
-    requires { ⌜ ActReady (now book) (now partners) party step (standing (now entries) next kept at) ⌝ }
-    ensures { λ r. ⌜ Acting (now (book .entry)) (now (since .entry)) party step (standing (now (entries .entry)) next kept at) (now (log .entry)) (now (log .exit)) (now (out .entry)) (now (out .exit)) (standing (now (entries .exit)) (r .next) (r .kept) (r .at)) (r .ahead) (r .events) (r .stop) ⌝ }
+    requires { ⌜ ActReady (now book) (now partners) party step (standing step (now entries) next kept at) ⌝ }
+    ensures { λ r. ⌜ Acting (now (book .entry)) (now (since .entry)) party step (standing step (now (entries .entry)) next kept at) (now (log .entry)) (now (log .exit)) (now (out .entry)) (now (out .exit)) (standing step (now (entries .exit)) (r .next) (r .kept) (r .at)) (r .ahead) (r .events) (r .stop) ⌝ }
 {
     let first = step_first(book, step);
     let n = step_count(book, step);
@@ -97,6 +95,7 @@ pub fn act(
             book,
             partners,
             entries,
+            step,
             next,
             kept,
             rows(book),
@@ -106,7 +105,7 @@ pub fn act(
             out,
             last,
         );
-        let stored = narrow((there.kept - kept) / 2);
+        let stored = narrow((there.kept - kept) / Triple::WORDS);
         return Acted {
             next: there.next,
             kept: there.kept,
@@ -167,35 +166,9 @@ pub fn next_own(book: &[u32], party: u32, from: u32) -> u32
     i
 }
 
-// A row's mark, where `word` marks what is held: the smaller of the two.
-fn sooner(entry: u32, word: u32, mark: u32) -> u32
-    ensures { λ r. ⌜ r ≡ markOf entry word mark ⌝ }
-{
-    if !Entry::held(entry) {
-        return mark;
-    }
-    if word < mark {
-        return word;
-    }
-    mark
-}
-
-// Marks each row that is held.
-fn mark(entries: &ByRow, word: u32, marks: &mut [u32])
-    requires { ⌜ length (now marks) ≤ 1024 ⌝ }
-    ensures { λ r. ⌜ Marks (now (entries .entry)) word (now (marks .entry)) (now (marks .exit)) ⌝ }
-{
-    let mut row = 0;
-    while row < marks.len() {
-        marks[row] = sooner(entries[row], word, marks[row]);
-        row += 1;
-    }
-}
-
-// The steps before `upto`, for one party: what it holds is in `entries`, whatever was there before; its events' words go to `out`, what it
-// stores to `log`, the places of its SENDs and RECEIVEs to `sends` and `receives`, by step, and since when it holds each row to `marks`,
-// which has one more than all steps everywhere before. The walk stops with the first step at which the party would have to make an atom
-// that it can't, for such a book is refused.
+// The steps before `upto`, for one party: what it holds is in `entries`, at first what it knows; its events' words go to `out`, what it
+// stores to `log`, and the places of its SENDs and RECEIVEs to `sends` and `receives`, by step. The walk stops with the first step at which
+// the party would have to make an atom that it can't, for such a book is refused.
 pub fn walk(
     book: &[u32],
     since: &ByRow,
@@ -208,13 +181,10 @@ pub fn walk(
     at: usize,
     sends: &mut [u32],
     receives: &mut [u32],
-    marks: &mut [u32],
 ) -> Passed
-    requires { ⌜ WalkReady (now book) (now since) (now partners) party upto at × Unmarked (now book) (now marks) ⌝ }
-    ensures { λ r. ⌜ Walking (now (book .entry)) party upto (now (entries .exit)) (now (log .entry)) (now (log .exit)) at (now (out .entry)) (now (out .exit)) (now (sends .entry)) (now (sends .exit)) (now (receives .entry)) (now (receives .exit)) (now (marks .entry)) (now (marks .exit)) r ⌝ }
+    requires { ⌜ WalkReady (now book) (now since) (now partners) party upto at × Started (now book) party (now entries) ⌝ }
+    ensures { λ r. ⌜ Walking (now (book .entry)) party upto (now (entries .exit)) (now (log .entry)) (now (log .exit)) at (now (out .entry)) (now (out .exit)) (now (sends .entry)) (now (sends .exit)) (now (receives .entry)) (now (receives .exit)) r ⌝ }
 {
-    *entries = start(book, party);
-    mark(entries, 0, marks);
     let mut next = 0;
     let mut kept = 0;
     let mut last = at;
@@ -235,7 +205,6 @@ pub fn walk(
             last,
         );
         note(book, party, i, events + acted.ahead, sends, receives);
-        mark(entries, i + 1, marks);
         next = acted.next;
         kept = acted.kept;
         last = acted.at;
@@ -285,10 +254,9 @@ pub fn measure(
     requires { ⌜ WalkReady (now book) (now since) (now partners) party upto 0 ⌝ }
     ensures { λ r. ⌜ Measures (now (book .entry)) party upto (now (sends .entry)) (now (sends .exit)) (now (receives .entry)) (now (receives .exit)) r ⌝ }
 {
-    let mut entries = [0u32; 1024];
+    let mut entries = start(book, party);
     let mut log = [0u32; 1];
     let mut out = [0u32; 1];
-    let mut marks = [0u32; 1];
     let passed = walk(
         book,
         since,
@@ -301,7 +269,6 @@ pub fn measure(
         0,
         sends,
         receives,
-        &mut marks[0..0],
     );
     let stop = passed.stop;
     Measured {
@@ -324,11 +291,10 @@ pub fn write_program(
     requires { ⌜ WalkReady (now book) (now since) (now partners) party (stepsOf (now book)) at × Unrefused (now book) party (stepsOf (now book)) ⌝ }
     ensures { λ r. ⌜ Wrote (partWords (now (book .entry)) party) (now (out .entry)) at (now (out .exit)) r ⌝ }
 {
-    let mut entries = [0u32; 1024];
-    let mut log = [0u32; 2048];
+    let mut entries = start(book, party);
+    let mut log = [0u32; Triple::ALL];
     let mut sends = [0u32; 1];
     let mut receives = [0u32; 1];
-    let mut marks = [0u32; 1];
     let events = walk(
         book,
         since,
@@ -341,19 +307,18 @@ pub fn write_program(
         at,
         &mut sends[0..0],
         &mut receives[0..0],
-        &mut marks[0..0],
     );
     let stored = events.kept;
-    let pairs = put2(out, events.at, Code::END, narrow(stored / 2));
-    put_all(out, pairs, &log, stored)
+    let triples = put2(out, events.at, Code::END, narrow(stored / Triple::WORDS));
+    put_all(out, triples, &log, stored)
 }
 
-// Since when a party whose walk stops nowhere holds each row: the number of steps after which it is first held, or one more than all.
-pub fn since_when(book: &[u32], since: &ByRow, partners: &ByRow, party: u32, marks: &mut [u32])
-    requires { ⌜ WalkReady (now book) (now since) (now partners) party (stepsOf (now book)) 0 × Unrefused (now book) party (stepsOf (now book)) × Unmarked (now book) (now marks) ⌝ }
-    ensures { λ r. ⌜ Marked (now (book .entry)) party (stepsOf (now (book .entry)) + 1) (now (marks .exit)) × (length (now (marks .exit)) ≡ length (now (marks .entry))) ⌝ }
+// What a party whose walk stops nowhere holds in the end, and how.
+pub fn hold(book: &[u32], since: &ByRow, partners: &ByRow, party: u32) -> ByRow
+    requires { ⌜ WalkReady (now book) (now since) (now partners) party (stepsOf (now book)) 0 × Unrefused (now book) party (stepsOf (now book)) ⌝ }
+    ensures { λ r. ⌜ Holding (now (book .entry)) party r ⌝ }
 {
-    let mut entries = [0u32; 1024];
+    let mut entries = start(book, party);
     let mut log = [0u32; 1];
     let mut out = [0u32; 1];
     let mut sends = [0u32; 1];
@@ -370,6 +335,6 @@ pub fn since_when(book: &[u32], since: &ByRow, partners: &ByRow, party: u32, mar
         0,
         &mut sends[0..0],
         &mut receives[0..0],
-        marks,
     );
+    entries
 }

@@ -317,7 +317,7 @@ mod tests {
             assert!(!group.cases.is_empty(), "{}", group.name);
             let refusal = match group.name.as_str() {
                 "refused at step 0" => Some(Refusal::new(10, &[0, 2])),
-                "the same, 204 deep" => Some(Refusal::new(12, &[1_048_007])),
+                "the same, 204 deep" => Some(Refusal::new(12, &[1_048_008])),
                 _ => None,
             };
             for case in &group.cases {

@@ -31,8 +31,10 @@ pub struct Walk<'w, const N: usize> {
     finished: usize,
     /// The next placeholder.
     next: u32,
-    /// What the party has stored so far, row and placeholder; a row is stored once at most.
-    stored: [[u32; 2]; N],
+    /// The step that is received.
+    step: u32,
+    /// What the party has stored so far, row, placeholder and step; a row is stored once at most.
+    stored: [[u32; 3]; N],
     stored_rows: usize,
     /// The party's events of the step so far.
     so_far: u32,
@@ -61,7 +63,8 @@ impl<'w, const N: usize> Walk<'w, N> {
             begins: [0; N],
             finished: 0,
             next: 0,
-            stored: [[0; 2]; N],
+            step: 0,
+            stored: [[0; 3]; N],
             stored_rows: 0,
             so_far: 0,
             words,
@@ -154,13 +157,14 @@ impl<'w, const N: usize> Walk<'w, N> {
     fn receive<const WRITE: bool>(&mut self, step: u32) -> Result<(), Stop> {
         let [_, _, first, count] = self.book.steps[step as usize];
         let placeholder = self.placeholders(count);
+        self.step = step;
         self.event::<WRITE>(&[3, step, placeholder, count], self.images.len(), 0);
         self.receive_all::<WRITE>(self.book.list(first, count), placeholder);
         Ok(())
     }
 
     fn end<const WRITE: bool>(&mut self) {
-        let stored = &self.stored.as_flattened()[..2 * self.stored_rows];
+        let stored = &self.stored.as_flattened()[..3 * self.stored_rows];
         if WRITE {
             self.words.extend_from_slice(&[6, self.stored_rows as u32]);
             self.words.extend_from_slice(stored);
@@ -216,7 +220,7 @@ impl<'w, const N: usize> Walk<'w, N> {
             0 => {
                 self.images.truncate(self.finished);
                 self.states[row as usize % N] = self.stamp | placeholder;
-                self.stored[self.stored_rows % N] = [row, placeholder];
+                self.stored[self.stored_rows % N] = [row, placeholder, self.step];
                 self.stored_rows += 1;
             }
             length => self.event::<WRITE>(&[4, placeholder], begins, length),

@@ -44,10 +44,13 @@ fn write_event(event: &Event, texts: &Texts, out: &mut String) {
         }
         Event::End { stored } => {
             out.push_str("end: ");
-            let pair = |(row, number): &(u32, u32)| format!("{} = {}", texts.row(*row), placeholder(*number));
-            let pairs: Vec<String> = stored.iter().map(pair).collect();
-            out.push_str(&pairs.join(", "));
-            nothing_if(pairs.is_empty(), out);
+            let known = |[row, number, step]: &[u32; 3]| {
+                let (row, holder) = (texts.row(*row), placeholder(*number));
+                format!("{row} = {holder}, step {step}")
+            };
+            let all: Vec<String> = stored.iter().map(known).collect();
+            out.push_str(&all.join("; "));
+            nothing_if(all.is_empty(), out);
         }
     }
 }

@@ -18,11 +18,11 @@ pub const EXAMPLE_1: [u32; 55] = [
     2, 3, 1, 0, 1, 2, 0, 1, 2, 3, 4,
 ];
 
-/// Its listing, worked out by hand: document 01's, but that B opens the cipher (document 02). "B's part grows from 23
-/// words to 27 and the output to 51."
-pub const LISTING_1: [u32; 51] = [
-    2, 5, 19, 24, 27, //
-    3, 0, 0, 1, 2, 1, 1, 3, 2, 0, 2, 1, 0, 0, 1, 6, 1, 3, 0, //
+/// Its listing, worked out by hand: document 01's, but that B opens the cipher, so that "B's part grows from 23 words to
+/// 27", and that A's END tells the step in which N was stored, so that A's grows from 19 to 20 (document 02).
+pub const LISTING_1: [u32; 52] = [
+    2, 5, 20, 25, 27, //
+    3, 0, 0, 1, 2, 1, 1, 3, 2, 0, 2, 1, 0, 0, 1, 6, 1, 3, 0, 0, //
     1, 3, 2, 0, 1, 0, 3, 3, 1, 0, 1, 5, 0, 1, 2, 0, 2, 4, 1, 0, 3, 4, 2, 0, 1, 6, 0,
 ];
 

@@ -22,7 +22,7 @@ use Rattle.agreement.specs.Agree.{meant, Narrated, Bound, Faithful, Ends
 use Rattle.agreement.specs.Sound.{sightOf}
 use Rattle.agreement.specs.Sound.Laws.{at-append, at-seam}
 use Rattle.agreement.specs.Safe.{Safe}
-use Rattle.agreement.specs.Safe.Laws.{pair-at, safe-begins}
+use Rattle.agreement.specs.Safe.Laws.{stored-at, safe-begins}
 use Rattle.agreement.specs.Going.{Goes, Going}
 
 -- ---- binding what comes next adds to the list
@@ -187,7 +187,7 @@ module _ (N : Narration) where
   -- ---- what END names
   pub going-ends : (S : System) → Going N S → EndsBound S
   unfolding sightOf
-  going-ends S g p ps es l t x m =
+  going-ends S g p ps es l t x s m =
       let h = g .parties p in
       let k = subst (λ e. Safe N (meant N p) e (h .holding) (h .bound)) l (h .safe) in
-      ap (λ (v : Sight). v .placeholders x) (h .sees) ∙ pair-at (h .bound) ps (k .0) t x m
+      ap (λ (v : Sight). v .placeholders x) (h .sees) ∙ stored-at (h .bound) ps (k .0) t x s m

@@ -49,14 +49,14 @@ unfolding news
 news-new [] s is = refl
 news-new (r ∷ rs) s is = ap (λ l. r ∷ l) (news-new rs s is)
 
-news-sends : (s : ℕ) (ts : Terms) (δ : Dictionary) (n : ℕ) → news (walk (Act.sends s ts ∷ []) δ n .events) ≡ buildAll ts δ .made
+news-sends : (s : ℕ) (ts : Terms) (δ : Dictionary) (n : ℕ) → news (walk (Act.sends s ts ∷ []) δ n .events) ≡ buildAll s ts δ .made
 unfolding walk act
 news-sends s ts δ n =
-    let b = buildAll ts δ in ap news (append-nil (map Event.new (b .made) ++ Event.sends s (b .images) ∷ [])) ∙ news-new (b .made) s (b .images)
+    let b = buildAll s ts δ in ap news (append-nil (map Event.new (b .made) ++ Event.sends s (b .images) ∷ [])) ∙ news-new (b .made) s (b .images)
 
 news-receives : (s : ℕ) (ts : Terms) (δ : Dictionary) (n : ℕ) → news (walk (Act.receives s ts ∷ []) δ n .events) ≡ []
 unfolding walk act news
-news-receives s ts δ n = let d = receiveAll ts n δ (n + count ts) in ap news (append-nil (d .events)) ∙ news-quiet (receiveAll-quiet ts n δ (n + count ts))
+news-receives s ts δ n = let d = receiveAll s ts n δ (n + count ts) in ap news (append-nil (d .events)) ∙ news-quiet (receiveAll-quiet s ts n δ (n + count ts))
 
 news-idle : (δ : Dictionary) (n : ℕ) → news (walk [] δ n .events) ≡ []
 unfolding walk news
@@ -105,10 +105,10 @@ module _ (N : Narration) (p : ℕ) where
       (λ d. subst (MadeHere before) (sym (news-idle (B .dictionary) n)) MadeHere.idles))
     where
       made : stepOf N (length before) ≡ a → stepOf N (length before) .sender ≡ p
-          → madeAt N (length before) ≡ buildAll (a .messages) (doneBefore before .dictionary) .made
+          → madeAt N (length before) ≡ buildAll (length before) (a .messages) (doneBefore before .dictionary) .made
       made z q =
           unfold madeAt in
-          ap₂ (λ (b : Step) (h : Dictionary). buildAll (b .messages) h .made) z
+          ap₂ (λ (b : Step) (h : Dictionary). buildAll (length before) (b .messages) h .made) z
           (ap (λ r. holdsBefore N r (length before)) q ∙ holds-before before (a ∷ later) e)
 
   here-then : {before : List Step} {rs qs : List ℕ} → length before < length (N .says) → MadeHere before rs → MadeFrom N p (suc (length before)) qs
@@ -192,15 +192,15 @@ module _ (N : Narration) where
   module _ (plays : (s : ℕ) → s < length (N .says) → Playable N s) where
     made-free : (s r : ℕ) → s < length (N .says) → List·Memᴰ r (madeAt N s) → Nobodys N s r
     unfolding madeAt
-    made-free s r l m = derivesAll-free (Makeable N s) (stepOf N s .messages) _ (plays s l) r m .nobodys
+    made-free s r l m = derivesAll-free (Makeable N s) s (stepOf N s .messages) _ (plays s l) r m .nobodys
 
     made-occurs : (s r : ℕ) → List·Memᴰ r (madeAt N s) → OccursIn r (stepOf N s .messages)
     unfolding madeAt
-    made-occurs s r m = buildAll-makes (stepOf N s .messages) _ .within r m
+    made-occurs s r m = buildAll-makes s (stepOf N s .messages) _ .within r m
 
     made-once : (s : ℕ) → NoRepeat (madeAt N s)
     unfolding madeAt
-    made-once s = buildAll-makes (stepOf N s .messages) _ .once
+    made-once s = buildAll-makes s (stepOf N s .messages) _ .once
 
     two-steps : (s t r : ℕ) → s < t → t < length (N .says) → List·Memᴰ r (madeAt N s) → List·Memᴰ r (madeAt N t) → ⊥
     two-steps s t r b l m n = made-free t r l n (taken-after s t r b (omega arith) (made-occurs s r m))

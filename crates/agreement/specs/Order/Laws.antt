@@ -48,13 +48,13 @@ module _ (N : Narration) (p : ℕ) where
   walk-rising fs h ActsFrom.nil δ n = h _
   walk-rising {low} fs h (ActsFrom.sends {s = s} {ts = ts} l w e r) δ n =
       let d = act (Act.sends s ts) δ n in
-      let b = buildAll ts δ in
+      let b = buildAll s ts δ in
       subst (Rising N p low) (sym (append-assoc (d .events) _ fs))
       (news-rising (b .made) (Event.sends s (b .images) ∷ []) _ (Rising.sends l e (walk-rising fs h r (d .dictionary) (n + length (d .given)))))
   walk-rising {low} fs h (ActsFrom.receives {s = s} {ts = ts} l w e r) δ n =
       let d = act (Act.receives s ts) δ n in
       subst (Rising N p low) (sym (append-assoc (d .events) _ fs))
-      (Rising.receives l (w .within) e (quiet-rising (receiveAll-quiet ts n δ _) (walk-rising fs h r (d .dictionary) (n + length (d .given)))))
+      (Rising.receives l (w .within) e (quiet-rising (receiveAll-quiet s ts n δ _) (walk-rising fs h r (d .dictionary) (n + length (d .given)))))
 
   pub program-rising : Rising N p 0 (programOf N p)
   unfolding programOf program walked
@@ -135,7 +135,7 @@ walk-toSend [] δ n m = absurd (List·Memᴰ·not-nil m)
 walk-toSend {s} {ts} (a ∷ acts) δ n m =
     let d = act a δ n in
     let rest = walk-toSend acts (d .dictionary) (n + length (d .given)) in
-    ⊎-elim (λ e. toSend-left _ (subst (λ b. ToSend s (act b δ n .events)) e (toSend-right (map Event.new (buildAll ts δ .made)) ToSend.here)))
+    ⊎-elim (λ e. toSend-left _ (subst (λ b. ToSend s (act b δ n .events)) e (toSend-right (map Event.new (buildAll s ts δ .made)) ToSend.here)))
     (λ k. toSend-right (d .events) (rest k)) (List·Memᴰ·cases-cons m)
 
 pub program-toSend : (N : Narration) (s : ℕ) → s < length (N .says) → ToSend s (programOf N (stepOf N s .sender))

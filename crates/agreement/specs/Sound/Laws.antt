@@ -39,13 +39,15 @@ holds-more u hs t h = choose-ind (λ x. x ≡ true) (same u t) true (holds hs t)
 -- ---- Right and Sound
 right-append : (l : List Term) {hs ns : List Term} {t : Term} {h : Held} → Right hs ns t h → Right hs (ns ++ l) t h
 right-append l Right.free = Right.free
-right-append l (Right.itself e) = Right.itself e
-right-append l {ns = ns} (Right.placeholder {x = x} e) = Right.placeholder (at-append l ns x e)
+right-append l (Right.given e) = Right.given e
+right-append l (Right.made e) = Right.made e
+right-append l {ns = ns} (Right.stored {x = x} e) = Right.stored (at-append l ns x e)
 
 right-more : (u : Term) {hs ns : List Term} {t : Term} {h : Held} → Right hs ns t h → Right (u ∷ hs) ns t h
 right-more u Right.free = Right.free
-right-more u {hs} {t = t} (Right.itself e) = Right.itself (holds-more u hs t e)
-right-more u (Right.placeholder e) = Right.placeholder e
+right-more u {hs} {t = t} (Right.given e) = Right.given (holds-more u hs t e)
+right-more u {hs} {t = t} (Right.made e) = Right.made (holds-more u hs t e)
+right-more u (Right.stored e) = Right.stored e
 
 pub sound-append : (l : List Term) {δ : Dictionary} {hs ns : List Term} → Sound δ hs ns → Sound δ hs (ns ++ l)
 sound-append l s t = right-append l (s t)
@@ -59,7 +61,7 @@ sound-enter δ t h {hs} {ns} r s u = enter-ind (Right hs ns u) δ t h u (λ e. s
 pub start-sound : (known : List Term) → Sound (start known) known []
 unfolding start
 start-sound [] = λ t. Right.free
-start-sound (t ∷ ts) = sound-enter (start ts) t Held.itself (Right.itself (holds-head t ts)) (sound-more t (start-sound ts))
+start-sound (t ∷ ts) = sound-enter (start ts) t Held.given (Right.given (holds-head t ts)) (sound-more t (start-sound ts))
 
 -- ---- image
 module _ (hs ns : List Term) where
@@ -71,8 +73,9 @@ module _ (hs ns : List Term) where
       → value (sightOf hs ns) (imageOr h t i) ≡ some t
   unfolding imageOr value sightOf
   or-value i Right.free f = f refl
-  or-value {t = t} i (Right.itself e) f = holds-value t e
-  or-value i (Right.placeholder e) f = e
+  or-value {t = t} i (Right.given e) f = holds-value t e
+  or-value {t = t} i (Right.made e) f = holds-value t e
+  or-value i (Right.stored e) f = e
 
   module _ (δ : Dictionary) (s : Sound δ hs ns) where
     held-free : {h : Held} {C : Type 0} → isHeld h ≡ true → h ≡ Held.free → C
@@ -120,9 +123,9 @@ plus-append (r ∷ a) b hs = plus-append a b (Term.atom r ∷ hs)
 
 module _ (ns : List Term) where
   -- whoever holds what the dictionary says afterwards finds the terms behind the images
-  pub buildAll-value : (ts : Terms) (δ : Dictionary) (hs : List Term) → Sound ((buildAll ts δ) .dictionary) hs ns
-      → valueAll (sightOf hs ns) ((buildAll ts δ) .images) ≡ some ts
-  buildAll-value ts δ hs s = rw (buildAll-images ts δ) (images-value hs ns ((buildAll ts δ) .dictionary) s ts (buildAll-buildable ts δ))
+  pub buildAll-value : (i : ℕ) (ts : Terms) (δ : Dictionary) (hs : List Term) → Sound ((buildAll i ts δ) .dictionary) hs ns
+      → valueAll (sightOf hs ns) ((buildAll i ts δ) .images) ≡ some ts
+  buildAll-value i ts δ hs s = rw (buildAll-images i ts δ) (images-value hs ns ((buildAll i ts δ) .dictionary) s ts (buildAll-buildable i ts δ))
 
   -- and with the atoms made the party holds what the dictionary says afterwards
   abbrev BuiltSound : Dictionary → Built → Type 0
@@ -135,19 +138,19 @@ module _ (ns : List Term) where
   mutual
     unfolding build plus
 
-    build-sound : (t : Term) (δ : Dictionary) → BuiltSound δ (build t δ)
-    build-sound (Term.atom r) δ =
-        or-sound _ _ δ _ (λ hs s. sound-enter δ (Term.atom r) Held.itself (Right.itself (holds-head (Term.atom r) hs)) (sound-more (Term.atom r) s))
-    build-sound (Term.operation g ts) δ = or-sound _ _ δ _ (buildAll-sound ts δ)
-    build-sound (Term.cipher k ts) δ =
-        or-sound _ _ δ _ (λ hs s. rw (plus-append ((build k δ) .made) ((buildAll ts ((build k δ) .dictionary)) .made) hs)
-        (buildAll-sound ts ((build k δ) .dictionary) _ (build-sound k δ hs s)))
-    build-sound (Term.public t) δ = or-sound _ _ δ _ (build-sound t δ)
-    build-sound (Term.private t) δ = or-sound _ _ δ _ (build-sound t δ)
+    build-sound : (i : ℕ) (t : Term) (δ : Dictionary) → BuiltSound δ (build i t δ)
+    build-sound i (Term.atom r) δ =
+        or-sound _ _ δ _ (λ hs s. sound-enter δ (Term.atom r) (Held.made i) (Right.made (holds-head (Term.atom r) hs)) (sound-more (Term.atom r) s))
+    build-sound i (Term.operation g ts) δ = or-sound _ _ δ _ (buildAll-sound i ts δ)
+    build-sound i (Term.cipher k ts) δ =
+        or-sound _ _ δ _ (λ hs s. rw (plus-append ((build i k δ) .made) ((buildAll i ts ((build i k δ) .dictionary)) .made) hs)
+        (buildAll-sound i ts ((build i k δ) .dictionary) _ (build-sound i k δ hs s)))
+    build-sound i (Term.public t) δ = or-sound _ _ δ _ (build-sound i t δ)
+    build-sound i (Term.private t) δ = or-sound _ _ δ _ (build-sound i t δ)
 
-    pub buildAll-sound : (ts : Terms) (δ : Dictionary) (hs : List Term) → Sound δ hs ns
-        → Sound ((buildAll ts δ) .dictionary) (plus ((buildAll ts δ) .made) hs) ns
-    buildAll-sound Terms.nil δ = λ hs s. s
-    buildAll-sound (Terms.cons t ts) δ =
-        λ hs s. rw (plus-append ((build t δ) .made) ((buildAll ts ((build t δ) .dictionary)) .made) hs)
-        (buildAll-sound ts ((build t δ) .dictionary) _ (build-sound t δ hs s))
+    pub buildAll-sound : (i : ℕ) (ts : Terms) (δ : Dictionary) (hs : List Term) → Sound δ hs ns
+        → Sound ((buildAll i ts δ) .dictionary) (plus ((buildAll i ts δ) .made) hs) ns
+    buildAll-sound i Terms.nil δ = λ hs s. s
+    buildAll-sound i (Terms.cons t ts) δ =
+        λ hs s. rw (plus-append ((build i t δ) .made) ((buildAll i ts ((build i t δ) .dictionary)) .made) hs)
+        (buildAll-sound i ts ((build i t δ) .dictionary) _ (build-sound i t δ hs s))

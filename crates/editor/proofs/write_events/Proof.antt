@@ -12,11 +12,13 @@ use Rattle.editor.proofs.write_events.Statement.{statement}
 use Rattle.editor.proofs.write_events.Tie as tie
 
 abbrev Inv-loop : tie.InvT-loop
-Inv-loop book since partners party log₀ out₀ at step₀ n held₀ next₀ i₀ log out step held next i =
-    Flushed book party i log₀ log out₀ at out next held step
+Inv-loop book since partners party log₀ out₀ at step₀ n entries₀ given₀ kept₀ next₀ i₀
+    log out step entries given kept next i =
+    Flushed book party i log₀ log out₀ at out next entries given kept step
 
 abbrev μ-loop : tie.MeasureT-loop
-μ-loop book since partners party log₀ out₀ at step₀ n held₀ next₀ i₀ log out step held next i = n - i
+μ-loop book since partners party log₀ out₀ at step₀ n entries₀ given₀ kept₀ next₀ i₀
+    log out step entries given kept next i = n - i
 
 -- a place or a need, by its name
 abbrev in-events : (tie.InvT-loop → tie.MeasureT-loop → Type 0) → Type 0
@@ -25,11 +27,9 @@ in-events P = P Inv-loop μ-loop
 -- before its first step the party holds what it knows
 loop-holds : in-events tie.Need-loop-holds
 loop-holds c =
-    let after-new : in-events tie.After-new = search in
     let after-start : in-events tie.After-start = search in
     let start : in-events tie.Start = search in
-    flushed-start (start .pre .valid) (search needs) (after-start .start .ensures) (after-new .new .ensures)
-    (c .next-own .ensures) refl
+    flushed-start (start .pre .valid) (search needs) (after-start .start .ensures) (c .next-own .ensures) refl
 
 -- the loop runs while there are steps
 module _ (c : in-events tie.In-loop) where
@@ -89,7 +89,6 @@ write-events-spec =
     μ-loop
     (λ c κs. search valid-headed)  -- steps-requires
     (λ c κs. search needs)  -- start-requires
-    (λ c κs. search needs)  -- new-requires
     (λ c κs. search needs)  -- next-own-requires
     loop-holds
     (λ c. search (flushed-size, needs))  -- slice-aggregate-act

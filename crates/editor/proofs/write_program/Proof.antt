@@ -1,17 +1,17 @@
--- `editor::write_program` meets its contract: the events' bytes, END's first words', and the pairs' that the log has.
+-- `editor::write_program` meets its contract: the events' bytes, END's first words', and the triples' that the log has.
 -- Assumes nothing.
 use Prim.Native.Nat.{_≤_}
 use mathlib.Core.Path.{refl}
 use native.Mathlib.Omega.{arith}
 use borrow.Author.Needs.{needs}
 use Rattle.words.specs.Overlay.Laws.{wrote-length}
-use Rattle.editor.proofs.Parts.{few-pairs, programmed}
+use Rattle.editor.proofs.Parts.{few-triples, programmed}
 use Rattle.editor.proofs.write_program.Statement.{statement}
 use Rattle.editor.proofs.write_program.Tie as tie
 
--- the pairs are few
-few : (c : tie.After-write-events) → c .write-events .result .kept ≤ 2048
-few c = let start : tie.Start = search in few-pairs (start .pre) (c .write-events .ensures)
+-- the triples are few
+few : (c : tie.After-write-events) → c .write-events .result .kept ≤ 3072
+few c = let start : tie.Start = search in few-triples (start .pre) (c .write-events .ensures)
 
 -- and the log is as long as it was
 put-words-requires-2 : tie.Need-put-words-requires-2
@@ -20,17 +20,17 @@ put-words-requires-2 c κs =
     let size = wrote-length (after-write-events .write-events .ensures .keeps) in
     omega (arith, few after-write-events)
 
--- END has half as many pairs as words were stored
+-- END has a third as many triples as words were stored
 returns : tie.Need-returns
 returns c =
-    let after-pairs : tie.After-put-words2 = search in
+    let after-triples : tie.After-put-words2 = search in
     let after-end : tie.After-put-words = search in
     let after-put2 : tie.After-put2 = search in
     let after-narrow : tie.After-narrow = search in
     let after-write-events : tie.After-write-events = search in
     let start : tie.Start = search in
     programmed (start .pre) refl refl (after-write-events .write-events .ensures) (after-narrow .narrow .ensures)
-    (after-put2 .put2 .ensures) (after-end .put-words .ensures) (after-pairs .put-words2 .ensures)
+    (after-put2 .put2 .ensures) (after-end .put-words .ensures) (after-triples .put-words2 .ensures)
 
 pub write-program-spec : {M : Type 1} → statement M
 write-program-spec =

@@ -1,8 +1,6 @@
 -- `holding::put_entry` meets its contract: itself or its placeholder. Assumes nothing.
 use borrow.Author.Needs.{needs}
 use Rattle.words.specs.Overlay.Laws.{wrote-as}
-use native.Mathlib.Omega.{arith}
-use Rattle.holding.specs.Entry.Laws.{held-one, held-word, held-else}
 use Rattle.holding.specs.AtRow.Laws.{entry-itself, entry-placeholder}
 use Rattle.holding.proofs.put_entry.Statement.{statement}
 use Rattle.holding.proofs.put_entry.Tie as tie
@@ -11,21 +9,14 @@ returns : tie.Need-returns
 returns c =
     let after-put2 : tie.After-put2 = search in
     let then1 : tie.Then1 = search in
-    wrote-as (after-put2 .put2 .ensures) (entry-itself _ (held-one _ (then1 .if1 .taken)))
+    let start : tie.Start = search in
+    wrote-as (after-put2 .put2 .ensures) (entry-itself _ _ (start .pre) (then1 .if1 .taken))
 
 returns-2 : tie.Need-returns-2
 returns-2 c =
     let after-put22 : tie.After-put22 = search in
     let else1 : tie.Else1 = search in
-    let start : tie.Start = search in
-    wrote-as (after-put22 .put22 .ensures) (entry-placeholder _ _ (held-else _ (start .pre) (else1 .if1 .left)))
-
--- what is held, and not as itself, is at least 2
-sub-put2 : tie.Need-sub-put2
-sub-put2 c =
-    let start : tie.Start = search in
-    let some = held-word _ (start .pre) in
-    omega arith
+    wrote-as (after-put22 .put22 .ensures) (entry-placeholder _ _ (else1 .if1 .left))
 
 pub put-entry-spec : {M : Type 1} → statement M
 put-entry-spec =
@@ -34,7 +25,6 @@ put-entry-spec =
     (λ c κs. search needs)  -- put2-requires
     (λ c. search needs)  -- same-length
     returns
-    sub-put2
     (λ c κs. search needs)  -- put2-requires-2
     (λ c. search needs)  -- same-length-2
     returns-2)

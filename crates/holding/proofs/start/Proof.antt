@@ -25,7 +25,7 @@ module _ (c : tie.After-pooled Inv-loop μ-loop) where
 -- the last row that is left is entered
 loop-again : tie.Need-loop-again Inv-loop μ-loop
 loop-again c =
-    let after-itself : tie.After-itself Inv-loop μ-loop = search in
+    let after-given : tie.After-given Inv-loop μ-loop = search in
     let after-wide : tie.After-wide Inv-loop μ-loop = search in
     let after-pooled : tie.After-pooled Inv-loop μ-loop = search in
     let in-loop : tie.In-loop Inv-loop μ-loop = search in
@@ -34,7 +34,7 @@ loop-again c =
     let here : tie.Start Inv-loop μ-loop = search in
     let (valid, inside) = here .pre in
     starting-on _ valid inside (first .party-first .ensures .0) (at-loop .loop .inv) (in-loop .loop-test .taken)
-    (after-pooled .pooled .ensures) (after-itself .itself .ensures) (after-wide .wide .ensures .0)
+    (after-pooled .pooled .ensures) (after-given .given .ensures) (after-wide .wide .ensures .0)
 
 pub start-spec : {M : Type 1} → statement M
 start-spec =
@@ -47,7 +47,7 @@ start-spec =
     (λ c κs. search needs)  -- free-requires
     (λ c. search starting-start)  -- loop-holds
     (λ c. search needs)  -- sub-left
-    (λ c κs. search needs)  -- itself-requires
+    (λ c κs. search needs)  -- given-requires
     (λ c κs. (search valid-headed, search known-inside))  -- pooled-requires
     (λ c κs. search needs)  -- wide-requires
     (λ c. omega (arith, few-rows, row (search)))  -- mul-entries

@@ -1,7 +1,8 @@
 -- Laws of rows: buildable and the image's words, by the row's kind. Assumes nothing.
-use Prim.Native.Nat.{ℕ, zero, suc, _+_, _-_, _≤_, _<_}
+use Prim.Native.Nat.{ℕ, zero, suc, _+_, _-_, _/_, _≤_, _<_}
 use mathlib.Core.Bool.{Bool, true, false}
 use mathlib.Core.List.{List, [], _∷_, _++_, map, map-map, append-nil}
+use mathlib.Core.Logic.{⊎-elim}
 use mathlib.Core.Path.{_≡_, refl, ap, _∙_}
 use native.Mathlib.Omega.{arith}
 use native.Mathlib.Decide.{ℕ-discrete}
@@ -24,6 +25,7 @@ use Rattle.translation.specs.Dictionary.{Held, Dictionary, isHeld, buildable, a
 use Rattle.book.specs.Span.{entry}
 use Rattle.book.specs.Span.Laws.{list-none, list-more}
 use Rattle.holding.specs.Entry.{heldOf}
+use Rattle.holding.specs.Entry.Laws.{held-low, held-high}
 use Rattle.holding.specs.View.{rowOf, view}
 use Rattle.holding.specs.View.Laws.{view-row, row-of}
 use Rattle.holding.specs.AtRow.{canAt, allTrue, imageAt, concat, imagesAt, headOf, headWords, entryWords}
@@ -68,8 +70,9 @@ module _ (row : Term → ℕ) (δ : Dictionary) where
   words-held : (h : Held) (t : Term) (i : Image) (ws : List ℕ) → words row i ≡ ws → words row (imageOr h t i) ≡ shown h (row t) ws
   unfolding words imageOr entryWords pick
   words-held Held.free t i ws e = e
-  words-held Held.itself t i ws e = refl
-  words-held (Held.placeholder x) t i ws e = refl
+  words-held Held.given t i ws e = refl
+  words-held (Held.made s) t i ws e = refl
+  words-held (Held.stored s x) t i ws e = refl
 
   pub words-all : (ts : List Term) → wordsOf row (images δ (gathered ts)) ≡ concat (map (λ t. words row (image δ t)) ts)
   unfolding gathered image words concat
@@ -175,10 +178,10 @@ module _ (b : List ℕ) (r k : ℕ) (e : k ≡ kind b r) where
     unfolding headOf
     head-atom z = rw (o .code, ← e, z)
 
-pub entry-itself : (r : ℕ) {h : Held} → h ≡ Held.itself → entryWords r h ≡ 0 ∷ r ∷ []
+pub entry-itself : (r x : ℕ) → isHeld (heldOf x) ≡ true → x < 128 → entryWords r (heldOf x) ≡ 0 ∷ r ∷ []
 unfolding entryWords
-entry-itself r d = rw d
+entry-itself r x h l = ⊎-elim (λ e. rw e) (λ y. ap (entryWords r) (y .1)) (held-low x h l)
 
-pub entry-placeholder : (r x : ℕ) {h : Held} → h ≡ Held.placeholder x → entryWords r h ≡ 1 ∷ x ∷ []
+pub entry-placeholder : (r x : ℕ) → 128 ≤ x → entryWords r (heldOf x) ≡ 1 ∷ ((x - 128) / 64) ∷ []
 unfolding entryWords
-entry-placeholder r x d = rw d
+entry-placeholder r x l = rw (held-high x l)

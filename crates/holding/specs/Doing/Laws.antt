@@ -6,8 +6,8 @@ use mathlib.Core.Path.{_≡_, refl}
 use lib.ListN.{length-append}
 use Rattle.words.specs.Overlay.Laws.{wrote-then, wrote-none, wrote-as}
 use Rattle.translation.specs.Receive.{Did, nothing, followed}
-use Rattle.translation.specs.Listing.{programWords, pairWords}
-use Rattle.translation.specs.Listing.Laws.{program-append, pairs-append}
+use Rattle.translation.specs.Listing.{programWords, tripleWords}
+use Rattle.translation.specs.Listing.Laws.{program-append, triples-append}
 use Rattle.holding.specs.View.{rowOf, view}
 use Rattle.holding.specs.Doing.{Doing}
 
@@ -17,7 +17,7 @@ pub doing-as : {b : List ℕ} {d e : Did} {n k : ℕ} {l m : List ℕ} {a : ℕ}
 doing-as f e = rw e f
 
 pub doing-none : {b : List ℕ} {n k : ℕ} {l : List ℕ} {a : ℕ} {o x : List ℕ} → Doing b (nothing (view b x)) n k l l a o o x n k a
-unfolding programWords pairWords
+unfolding programWords tripleWords
 doing-none = record { holds = refl; goes = omega arith; wrote = wrote-none; keeps = wrote-none }
 
 -- one after another
@@ -28,5 +28,5 @@ doing-then b d e f g =
       holds = g .holds;
       goes = let u = f .goes in let v = g .goes in let w = length-append (d .given) (e .given) in omega arith;
       wrote = wrote-as (wrote-then (f .wrote) (g .wrote)) (program-append (rowOf b) (d .events) (e .events));
-      keeps = wrote-as (wrote-then (f .keeps) (g .keeps)) (pairs-append (rowOf b) (d .stored) (e .stored));
+      keeps = wrote-as (wrote-then (f .keeps) (g .keeps)) (triples-append (rowOf b) (d .stored) (e .stored));
     }

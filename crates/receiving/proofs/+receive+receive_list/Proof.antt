@@ -105,6 +105,7 @@ receive-list-receive-requires t c κs =
         partners = ready .partners;
         row = omega arith;
         low = omega arith;
+        timely = rw (at-loop .loop .inv .same) (ready .timely);
         size = at-loop .loop .inv .size;
         fits = going-fits (at-loop .loop .inv) _ (in-loop .loop-test .taken) (after-entry .entry .ensures .0);
       },
@@ -136,7 +137,7 @@ receive-receive-list-requires t c κs =
     let row = ready .row in
     let going = after-begin .begin .ensures in
     let few = going .span .few in
-    (omega arith, going-ready going (ready .valid) (ready .partners) (omega arith))
+    (omega arith, going-ready going (ready .timely) (ready .valid) (ready .partners) (omega arith))
 
 receive-returns : (t : ℕ) → in-receive receive-lts.Need-returns t
 receive-returns t c =

@@ -80,6 +80,7 @@ settle-requires c κs =
       valid = ready .valid;
       row = ready .row;
       low = ready .low;
+      timely = ready .timely;
       shut = sym (after-opens .opens .ensures) ∙ else1 .if1 .left;
       size = ready .size;
     }

@@ -6,17 +6,17 @@ use native.Mathlib.Omega.{arith}
 use borrow.Author.Needs.{needs}
 use Rattle.book.specs.Headed.Laws.{small-pool}
 use Rattle.receiving.specs.Receiving.{standing, listDid, Going}
-use Rattle.receiving.proofs.Going.{going-start, going-fits, going-on, going-end}
+use Rattle.receiving.proofs.Going.{fresh-ready, fresh-brought, going-start, going-fits, going-on, going-end}
 use Rattle.receiving.proofs.receive_messages.Statement.{statement}
 use Rattle.receiving.proofs.receive_messages.Tie as tie
 
 abbrev Inv-loop : tie.InvT-loop
-Inv-loop b ps e₀ next kept bound first left l₀ o₀ at place₀ reached₀ i₀ k₀ e l o place reached i k =
-    Going b bound (listDid b first left (standing e₀ next kept at)) (standing e₀ next kept at) l₀ o₀ i k place
-    (standing e (reached .next) (reached .kept) (reached .at)) l o
+Inv-loop b ps e₀ step next kept bound first left l₀ o₀ at place₀ reached₀ i₀ k₀ e l o place reached i k =
+    Going b bound (listDid b first left (standing step e₀ next kept at)) (standing step e₀ next kept at) l₀ o₀ i k place
+    (standing step e (reached .next) (reached .kept) (reached .at)) l o
 
 abbrev μ-loop : tie.MeasureT-loop
-μ-loop b ps e₀ next kept bound first left l₀ o₀ at place₀ reached₀ i₀ k₀ e l o place reached i k = k
+μ-loop b ps e₀ step next kept bound first left l₀ o₀ at place₀ reached₀ i₀ k₀ e l o place reached i k = k
 
 -- a place or a need, by its name
 abbrev in-messages : (tie.InvT-loop → tie.MeasureT-loop → Type 0) → Type 0
@@ -41,14 +41,16 @@ receive-requires c κs =
     let below = after-entry .entry .ensures .1 in
     let low = at-loop .loop .inv .low in
     let fits = at-loop .loop .inv .fits in
-    record {
+    let after-new : in-messages tie.After-new = search in
+    fresh-ready (after-new .new .ensures) (record {
       valid = ready .valid;
       partners = ready .partners;
       row = omega arith;
       low = omega arith;
+      timely = ready .timely;
       size = at-loop .loop .inv .size;
       fits = going-fits (at-loop .loop .inv) _ (in-loop .loop-test .taken) (after-entry .entry .ensures .0);
-    }
+    })
 
 -- it doesn't
 settle-requires : in-messages tie.Need-settle-requires
@@ -69,6 +71,7 @@ settle-requires c κs =
       row = omega arith;
       low = omega arith;
       shut = sym (after-opens .opens .ensures) ∙ else1 .if1 .left;
+      timely = ready .timely;
       size = at-loop .loop .inv .size;
     }
 
@@ -81,8 +84,26 @@ loop-again c =
     let more = in-loop .loop-test .taken in
     let read = after-entry .entry .ensures .0 in
     elim (c .if1 .came) [
-      | inl (if1, held, arg, arg2, received, log1, known3, out1, known4, after, holds, dentries, dlog, dout, dreached) ↦
-          rw (dentries, dlog, dout, dreached) (going-on (at-loop .loop .inv) more read (received .ensures))
+      | inl (
+        if1,
+        held,
+        new,
+        arg,
+        arg2,
+        received,
+        log1,
+        known3,
+        out1,
+        known4,
+        after,
+        holds,
+        dentries,
+        dlog,
+        dout,
+        dreached,
+      ) ↦
+          rw (dentries, dlog, dout, dreached)
+          (going-on (at-loop .loop .inv) more read (fresh-brought _ _ (new .ensures) (received .ensures)))
       | inr (if1, arg, arg2, arg3, settled, log2, known5, out2, known6, dentries, dlog, dout, dreached) ↦
           rw (dentries, dlog, dout, dreached) (going-on (at-loop .loop .inv) more read (settled .ensures))
     ]
@@ -105,6 +126,7 @@ receive-messages-spec =
     loop-holds
     (λ c κs. search needs)  -- entry-requires
     (λ c κs. (search needs, search needs, omega arith))  -- opens-requires
+    (λ c κs. search needs)  -- new-requires
     receive-requires
     settle-requires
     (λ c. search needs)  -- add-place

@@ -17,17 +17,17 @@ returns c =
     settle-compare (here .pre) (after-buildable .buildable .ensures) (then1 .if1 .taken)
     (after-put-check .put-check .ensures)
 
--- it isn't: it is stored, and entered as its placeholder
+-- it isn't: it is stored, and entered so
 returns-2 : tie.Need-returns-2
 returns-2 c =
-    let after-put2 : tie.After-put2 = search in
+    let after-put3 : tie.After-put3 = search in
     let after-wide : tie.After-wide = search in
-    let after-placeholder : tie.After-placeholder = search in
+    let after-stored : tie.After-stored = search in
     let else1 : tie.Else1 = search in
     let after-buildable : tie.After-buildable = search in
     let here : tie.Start = search in
     settle-store (here .pre) (after-buildable .buildable .ensures) _ (else1 .if1 .left) (after-wide .wide .ensures .0)
-    (after-placeholder .placeholder .ensures) (after-put2 .put2 .ensures)
+    (after-stored .stored .ensures) (after-put3 .put3 .ensures)
 
 pub settle-spec : {M : Type 1} → statement M
 settle-spec =
@@ -37,10 +37,10 @@ settle-spec =
     (λ c κs. search needs)  -- put-check-requires
     (λ c. search needs)  -- same-length
     returns
-    (λ c κs. omega (arith, few-rows))  -- placeholder-requires
+    (λ c κs. (search needs, omega (arith, few-rows)))  -- stored-requires
     (λ c κs. search needs)  -- wide-requires
     (λ c. omega (arith, few-rows))  -- mul-entries
     (λ c. omega (arith, few-rows))  -- element-write-entries
-    (λ c κs. search needs)  -- put2-requires
+    (λ c κs. search needs)  -- put3-requires
     (λ c. search needs)  -- same-length-2
     returns-2)

@@ -10,12 +10,12 @@ use Rattle.receiving.proofs.settle_run.Statement.{statement}
 use Rattle.receiving.proofs.settle_run.Tie as tie
 
 abbrev Inv-loop : tie.InvT-loop
-Inv-loop b ps e₀ next kept bound first left from l₀ o₀ at stored₀ last₀ place₀ i₀ k₀ e l o stored last place i k =
-    Going b bound (restDid b first left from (standing e₀ next kept at)) (standing e₀ next kept at) l₀ o₀ i k place
-    (standing e next stored last) l o
+Inv-loop b ps e₀ step next kept bound first left from l₀ o₀ at stored₀ last₀ place₀ i₀ k₀ e l o stored last place i k =
+    Going b bound (restDid b first left from (standing step e₀ next kept at)) (standing step e₀ next kept at)
+    l₀ o₀ i k place (standing step e next stored last) l o
 
 abbrev μ-loop : tie.MeasureT-loop
-μ-loop b ps e₀ next kept bound first left from l₀ o₀ at stored₀ last₀ place₀ i₀ k₀ e l o stored last place i k = k
+μ-loop b ps e₀ step next kept bound first left from l₀ o₀ at stored₀ last₀ place₀ i₀ k₀ e l o stored last place i k = k
 
 -- a place or a need, by its name
 abbrev in-run : (tie.InvT-loop → tie.MeasureT-loop → Type 0) → Type 0
@@ -42,6 +42,7 @@ settle-requires c κs =
       valid = start .pre .valid;
       row = omega arith;
       low = omega arith;
+      timely = start .pre .timely;
       shut = sym (after-opens .opens .ensures) ∙ else1 .if1 .left;
       size = at-loop .loop .inv .size;
     }

@@ -21,27 +21,27 @@ use Rattle.book.specs.Span.Laws.{list-none, list-more, some-part}
 use Rattle.receiving.specs.Turn.{inTurn, unlocked, contentsOf}
 
 -- ---- receive, by the rule: opened, and then the contents in turn; compared; kept
-by-turn : (t : Term) (p : ℕ) (δ : Dictionary) (n : ℕ) → opening t p δ n ≡ followed (unlocked t p δ n) (inTurn (contentsOf t) δ n)
+by-turn : (s : ℕ) (t : Term) (p : ℕ) (δ : Dictionary) (n : ℕ) → opening s t p δ n ≡ followed (unlocked t p δ n) (inTurn s (contentsOf t) δ n)
 unfolding opening unlocked inTurn contentsOf receive listed
-by-turn (Term.atom r) p δ n = refl
-by-turn (Term.operation g ts) p δ n = refl
-by-turn (Term.cipher k ts) p δ n = refl
-by-turn (Term.public t) p δ n = refl
-by-turn (Term.private t) p δ n = refl
+by-turn s (Term.atom r) p δ n = refl
+by-turn s (Term.operation g ts) p δ n = refl
+by-turn s (Term.cipher k ts) p δ n = refl
+by-turn s (Term.public t) p δ n = refl
+by-turn s (Term.private t) p δ n = refl
 
-module _ (t : Term) (p : ℕ) (δ : Dictionary) (n : ℕ) where
-  by : (r : Rule) → rule δ t ≡ r → receive t p δ n ≡ byRule r (compared t p δ) (opening t p δ n) (kept t p δ)
-  by r e = receive-rule t p δ n ∙ ap (λ r. byRule r (compared t p δ) (opening t p δ n) (kept t p δ)) e
+module _ (s : ℕ) (t : Term) (p : ℕ) (δ : Dictionary) (n : ℕ) where
+  by : (r : Rule) → rule δ t ≡ r → receive s t p δ n ≡ byRule r (compared t p δ) (opening s t p δ n) (kept s t p δ)
+  by r e = receive-rule s t p δ n ∙ ap (λ r. byRule r (compared t p δ) (opening s t p δ n) (kept s t p δ)) e
 
-  pub receive-opened : canOpen δ t ≡ true → receive t p δ n ≡ followed (unlocked t p δ n) (inTurn (contentsOf t) δ n)
+  pub receive-opened : canOpen δ t ≡ true → receive s t p δ n ≡ followed (unlocked t p δ n) (inTurn s (contentsOf t) δ n)
   unfolding byRule
-  receive-opened e = by Rule.unlock (rule-unlock δ t e) ∙ by-turn t p δ n
+  receive-opened e = by Rule.unlock (rule-unlock δ t e) ∙ by-turn s t p δ n
 
-  pub receive-compared : canOpen δ t ≡ false → buildable δ t ≡ true → receive t p δ n ≡ compared t p δ
+  pub receive-compared : canOpen δ t ≡ false → buildable δ t ≡ true → receive s t p δ n ≡ compared t p δ
   unfolding byRule
   receive-compared e f = by Rule.compare (rule-compare δ t e f)
 
-  pub receive-kept : canOpen δ t ≡ false → buildable δ t ≡ false → receive t p δ n ≡ kept t p δ
+  pub receive-kept : canOpen δ t ≡ false → buildable δ t ≡ false → receive s t p δ n ≡ kept s t p δ
   unfolding byRule
   receive-kept e f = by Rule.store (rule-store δ t e f)
 
@@ -96,13 +96,13 @@ pub terms-count : (b : List ℕ) (f n : ℕ) → count (terms (table b) (listAt 
 unfolding terms
 terms-count b f n = count-gathered (map (term (table b)) (listAt b f n)) ∙ length-map (listAt b f n) (term (table b)) ∙ run-length b (begins b 3 + f) n
 
-module _ (b : List ℕ) (f n p : ℕ) (δ : Dictionary) (m : ℕ) where
-  pub all-none : n ≤ 0 → receiveAll (terms (table b) (listAt b f n)) p δ m ≡ nothing δ
+module _ (s : ℕ) (b : List ℕ) (f n p : ℕ) (δ : Dictionary) (m : ℕ) where
+  pub all-none : n ≤ 0 → receiveAll s (terms (table b) (listAt b f n)) p δ m ≡ nothing δ
   unfolding terms gathered receive
   all-none h = rw (list-none b f n h)
 
-  pub all-more : 0 < n → receiveAll (terms (table b) (listAt b f n)) p δ m
-      ≡ (let d = receive (term (table b) (entry b f)) p δ m in
-      followed d (receiveAll (terms (table b) (listAt b (f + 1) (n - 1))) (p + 1) (d .dictionary) (m + length (d .given))))
+  pub all-more : 0 < n → receiveAll s (terms (table b) (listAt b f n)) p δ m
+      ≡ (let d = receive s (term (table b) (entry b f)) p δ m in
+      followed d (receiveAll s (terms (table b) (listAt b (f + 1) (n - 1))) (p + 1) (d .dictionary) (m + length (d .given))))
   unfolding terms gathered receive
   all-more h = let z : p + 1 ≡ suc p = omega arith in rw (list-more b f n h, z)

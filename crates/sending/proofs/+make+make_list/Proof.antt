@@ -24,7 +24,7 @@ use Rattle.sending.proofs.first_stop.Reads as first-stop-reads
 use Rattle.words.proofs.put2.Reads as put2-reads
 use Rattle.words.proofs.wide.Reads as wide-reads
 use Rattle.holding.proofs.Entry.held.Reads as held-reads
-use Rattle.holding.proofs.Entry.itself.Reads as itself-reads
+use Rattle.holding.proofs.Entry.made.Reads as made-reads
 use Rattle.sending.proofs.+make+make_list.{statement}
 use Rattle.sending.proofs.+make+make_list.Tie.{close}
 
@@ -56,8 +56,8 @@ make-calls t = (
   held-reads.Learnt,
   row-kind-reads.Asked,
   row-kind-reads.Learnt,
-  itself-reads.Asked,
-  itself-reads.Learnt,
+  made-reads.Asked,
+  made-reads.Learnt,
   put2-reads.Asked,
   put2-reads.Learnt,
   first-stop-reads.Asked,
@@ -96,7 +96,7 @@ make-returns-2 t c =
     let after-first-stop : in-make make-lts.After-first-stop t = search in
     let after-put2 : in-make make-lts.After-put2 t = search in
     let after-wide2 : in-make make-lts.After-wide2 t = search in
-    let after-itself : in-make make-lts.After-itself t = search in
+    let after-made : in-make make-lts.After-made t = search in
     let then2 : in-make make-lts.Then2 t = search in
     let after-row-kind : in-make make-lts.After-row-kind t = search in
     let else1 : in-make make-lts.Else1 t = search in
@@ -104,11 +104,11 @@ make-returns-2 t c =
     let after-wide : in-make make-lts.After-wide t = search in
     let start : in-make make-lts.Start t = search in
     let (measured, asked) = start .pre in
-    let (valid, inside, sized) = asked in
+    let (valid, inside, sized, low) = asked in
     atom-makes {l = start .args .since .now} (start .args .entries .now) {k = start .args .mark}
     {s = start .args .step} valid inside {m = start .args .m} sized _ (after-wide .wide .ensures .0)
     (after-held .held .ensures) (else1 .if1 .left) (after-row-kind .row-kind .ensures) (then2 .if2 .taken)
-    (after-itself .itself .ensures) (after-wide2 .wide2 .ensures .0) (after-put2 .put2 .ensures)
+    (after-made .made .ensures) (after-wide2 .wide2 .ensures .0) (after-put2 .put2 .ensures)
     (after-first-stop .first-stop .ensures)
 
 -- the row is held
@@ -118,7 +118,7 @@ make-returns t c =
     let after-wide : in-make make-lts.After-wide t = search in
     let start : in-make make-lts.Start t = search in
     let (measured, asked) = start .pre in
-    let (valid, inside, sized) = asked in
+    let (valid, inside, sized, low) = asked in
     held-makes (start .args .entries .now) valid inside sized
     (after-wide .wide .ensures .0) (after-held .held .ensures) (c .if1 .taken)
 
@@ -136,19 +136,20 @@ module _ (t : ℕ) (c : in-make make-lts.After-row-count t) where
 -- its parts lie below the row
 make-make-list-requires : (t : ℕ) → in-make make-lts.Need-make-list-requires t
 make-make-list-requires t c κs =
-    (omega (arith, parts t (search)), (search needs, omega arith, parts t (search), search needs))
+    (omega (arith, parts t (search)), (search needs, omega arith, parts t (search), search needs, search needs))
 
 -- no row is left
 make-list-returns : (t : ℕ) → in-make-list make-list-lts.Need-returns t
 make-list-returns t c =
     let here : in-make-list make-list-lts.Start t = search in
     let (measured, asked) = here .pre in
-    let (valid, inside, span, sized) = asked in
+    let (valid, inside, span, sized, low) = asked in
     none-makes _ sized (c .if1 .taken)
 
 -- one row less is left
 make-list-make-list-requires : (t : ℕ) → in-make-list make-list-lts.Need-make-list-requires t
-make-list-make-list-requires t c κs = (omega arith, (search needs, search needs, search span-rest, search needs))
+make-list-make-list-requires t c κs =
+    (omega arith, (search needs, search needs, search span-rest, search needs, search needs))
 
 pub +make+make-list-spec : {M : Type 1} → statement M
 +make+make-list-spec = close μ-make μ-make-list (λ t. make-lts.spec
@@ -161,7 +162,7 @@ pub +make+make-list-spec : {M : Type 1} → statement M
     (λ c κs. search needs)  -- make-held-requires
     (make-returns t)
     (λ c κs. search (valid-headed, needs))  -- make-row-kind-requires
-    (λ c κs. search needs)  -- make-itself-requires
+    (λ c κs. search needs)  -- make-made-requires
     (λ c κs. search needs)  -- make-wide-requires-2
     (λ c. omega (arith, few-rows))  -- make-mul-entries
     (λ c. omega (arith, few-rows))  -- make-element-write-entries
@@ -180,7 +181,7 @@ pub +make+make-list-spec : {M : Type 1} → statement M
     make-list.Post
     (make-list-returns t)
     (λ c κs. (search needs, search needs, omega arith))  -- make-list-entry-requires
-    (λ c κs. (omega arith, (search needs, omega arith, search needs)))  -- make-list-make-requires
+    (λ c κs. (omega arith, (search needs, omega arith, search needs, search needs)))  -- make-list-make-requires
     (λ c. omega (arith, small-pool))  -- make-list-add-make-list
     (λ c. search needs)  -- make-list-sub-make-list
     (make-list-make-list-requires t)

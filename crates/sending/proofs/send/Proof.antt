@@ -13,8 +13,8 @@ module _ (c : tie.After-make-list) where
   abbrev start : tie.Start
   start = search
 
-  words : News (start .args .book .now) (start .args .entries .now) (start .args .first) (start .args .n)
-      (start .args .at) (c .make-list .result)
+  words : News (start .args .book .now) (start .args .entries .now) (start .args .step)
+      (start .args .first) (start .args .n) (start .args .at) (c .make-list .result)
   words = news (start .pre) (c .make-list .ensures)
 
 returns : tie.Need-returns
@@ -33,7 +33,7 @@ send-spec =
     tie.close
     (tie.spec
     (λ c κs. search valid-headed)  -- rows-requires
-    (λ c κs. (search needs, omega arith, search bound-span, search needs))  -- make-list-requires
+    (λ c κs. (search needs, omega arith, search bound-span, search needs, search needs))  -- make-list-requires
     (λ c κs. search needs)  -- narrow-requires
     (λ c κs. search needs)  -- put3-requires
     (λ c κs. (search needs, omega arith, search bound-span))  -- write-images-requires

@@ -2,7 +2,7 @@
 use Prim.Native.Nat.{ℕ, zero, suc, _+_, _-_, _≤_, _<_}
 use mathlib.Core.Bool.{Bool, true, false}
 use mathlib.Core.List.{List, [], _∷_, _++_, map, map-map, append-nil}
-use mathlib.Core.Logic.{_↔_, _⊎_, inl, inr, ⊎-elim}
+use mathlib.Core.Logic.{_⊎_, inl, inr, ⊎-elim}
 use mathlib.Core.Path.{_≡_, refl, sym, ap, ap₂, _∙_}
 use native.Mathlib.Omega.{arith}
 use lib.Dec.{eqb}
@@ -42,8 +42,8 @@ use Rattle.sending.specs.Sending.{Making, making, allMaking, orStop, fir
 abbrev pub nothing : Dictionary → Making
 nothing δ = record { dictionary = δ; made = [] }
 
-abbrev pub one : ℕ → Dictionary → Making
-one r δ = record { dictionary = enter δ (Term.atom r) Held.itself; made = r ∷ [] }
+abbrev pub one : ℕ → ℕ → Dictionary → Making
+one i r δ = record { dictionary = enter δ (Term.atom r) (Held.made i); made = r ∷ [] }
 
 abbrev pub both : Making → Making → Making
 both g h = record { dictionary = h .dictionary; made = g .made ++ h .made }
@@ -54,66 +54,67 @@ both-nothing g = sym (ap (λ l. record { dictionary = g .dictionary; made = l })
 making-or : (h : Held) (t : Term) (δ : Dictionary) (b : Built) → making (builtOr h t δ b) ≡ pick (isHeld h) (nothing δ) (making b)
 unfolding builtOr pick
 making-or Held.free t δ b = refl
-making-or Held.itself t δ b = refl
-making-or (Held.placeholder x) t δ b = refl
+making-or Held.given t δ b = refl
+making-or (Held.made i) t δ b = refl
+making-or (Held.stored i x) t δ b = refl
 
 -- ---- making, of a form
-making-form : (r k g : ℕ) (ts : List Term) (δ : Dictionary) → k ≤ 4 → Shape k (length ts)
-    → making (build (form r k g (gathered ts)) δ)
-    ≡ pick (isHeld (δ (form r k g (gathered ts)))) (nothing δ) (pick (eqb k 0) (one r δ) (allMaking (buildAll (gathered ts) δ)))
+making-form : (i r k g : ℕ) (ts : List Term) (δ : Dictionary) → k ≤ 4 → Shape k (length ts)
+    → making (build i (form r k g (gathered ts)) δ)
+    ≡ pick (isHeld (δ (form r k g (gathered ts)))) (nothing δ) (pick (eqb k 0) (one i r δ) (allMaking (buildAll i (gathered ts) δ)))
 unfolding form build gathered pick
-making-form r zero g ts δ l s = making-or _ _ δ _
-making-form r (suc zero) g ts δ l s = making-or _ _ δ _
-making-form r (suc (suc zero)) g [] δ l s = absurd (omega arith)
-making-form r (suc (suc zero)) g (t ∷ ts) δ l s = making-or _ _ δ _
-making-form r (suc (suc (suc zero))) g [] δ l s = absurd (omega arith)
-making-form r (suc (suc (suc zero))) g (t ∷ []) δ l s =
-    making-or _ _ δ _ ∙ ap (pick (isHeld (δ (Term.public t))) (nothing δ)) (both-nothing (making (build t δ)))
-making-form r (suc (suc (suc zero))) g (t ∷ u ∷ ts) δ l s = absurd (omega arith)
-making-form r (suc (suc (suc (suc zero)))) g [] δ l s = absurd (omega arith)
-making-form r (suc (suc (suc (suc zero)))) g (t ∷ []) δ l s =
-    making-or _ _ δ _ ∙ ap (pick (isHeld (δ (Term.private t))) (nothing δ)) (both-nothing (making (build t δ)))
-making-form r (suc (suc (suc (suc zero)))) g (t ∷ u ∷ ts) δ l s = absurd (omega arith)
-making-form r (suc (suc (suc (suc (suc k))))) g ts δ l s = absurd (omega arith)
+making-form i r zero g ts δ l s = making-or _ _ δ _
+making-form i r (suc zero) g ts δ l s = making-or _ _ δ _
+making-form i r (suc (suc zero)) g [] δ l s = absurd (omega arith)
+making-form i r (suc (suc zero)) g (t ∷ ts) δ l s = making-or _ _ δ _
+making-form i r (suc (suc (suc zero))) g [] δ l s = absurd (omega arith)
+making-form i r (suc (suc (suc zero))) g (t ∷ []) δ l s =
+    making-or _ _ δ _ ∙ ap (pick (isHeld (δ (Term.public t))) (nothing δ)) (both-nothing (making (build i t δ)))
+making-form i r (suc (suc (suc zero))) g (t ∷ u ∷ ts) δ l s = absurd (omega arith)
+making-form i r (suc (suc (suc (suc zero)))) g [] δ l s = absurd (omega arith)
+making-form i r (suc (suc (suc (suc zero)))) g (t ∷ []) δ l s =
+    making-or _ _ δ _ ∙ ap (pick (isHeld (δ (Term.private t))) (nothing δ)) (both-nothing (making (build i t δ)))
+making-form i r (suc (suc (suc (suc zero)))) g (t ∷ u ∷ ts) δ l s = absurd (omega arith)
+making-form i r (suc (suc (suc (suc (suc k))))) g ts δ l s = absurd (omega arith)
 
 -- ---- a row of a valid book
-module _ (b e : List ℕ) (v : Valid b) (r : ℕ) (h : r < rows b) where
-  making-row : making (build (term (table b) r) (view b e))
+module _ (i : ℕ) (b e : List ℕ) (v : Valid b) (r : ℕ) (h : r < rows b) where
+  making-row : making (build i (term (table b) r) (view b e))
       ≡ pick (isHeld (heldOf (getD e r 0))) (nothing (view b e))
-      (pick (eqb (kind b r) 0) (one r (view b e)) (allMaking (buildAll (terms (table b) (parts b r)) (view b e))))
+      (pick (eqb (kind b r) 0) (one i r (view b e)) (allMaking (buildAll i (terms (table b) (parts b r)) (view b e))))
   unfolding terms
   making-row =
-      ap (λ t. making (build t (view b e))) (row-form b v r h) ∙ making-form r _ _ _ (view b e) (v .rowsKeep r h .kinded) (row-shape b v r h)
+      ap (λ t. making (build i t (view b e))) (row-form b v r h) ∙ making-form i r _ _ _ (view b e) (v .rowsKeep r h .kinded) (row-shape b v r h)
       ∙ rw (← row-form b v r h, view-row b v e r h)
 
-  pub making-held : isHeld (heldOf (getD e r 0)) ≡ true → making (build (term (table b) r) (view b e)) ≡ nothing (view b e)
+  pub making-held : isHeld (heldOf (getD e r 0)) ≡ true → making (build i (term (table b) r) (view b e)) ≡ nothing (view b e)
   unfolding pick
   making-held n = rw (making-row, n)
 
-  pub making-atom : isHeld (heldOf (getD e r 0)) ≡ false → kind b r ≡ 0 → making (build (term (table b) r) (view b e)) ≡ one r (view b e)
+  pub making-atom : isHeld (heldOf (getD e r 0)) ≡ false → kind b r ≡ 0 → making (build i (term (table b) r) (view b e)) ≡ one i r (view b e)
   unfolding pick
   making-atom n k = rw (making-row, n, eq-eqb (kind b r) 0 k)
 
   pub making-parts : isHeld (heldOf (getD e r 0)) ≡ false → (kind b r ≡ 0 → ⊥)
-      → making (build (term (table b) r) (view b e)) ≡ allMaking (buildAll (terms (table b) (parts b r)) (view b e))
+      → making (build i (term (table b) r) (view b e)) ≡ allMaking (buildAll i (terms (table b) (parts b r)) (view b e))
   unfolding pick
   making-parts n k = rw (making-row, n, ne-eqb (kind b r) 0 k)
 
   -- the made atom's entry, the word x
-  pub one-set : (x : ℕ) → heldOf x ≡ Held.itself → kind b r ≡ 0 → r < length e → view b (set e r x) ≡ one r (view b e) .dictionary
+  pub one-set : (x : ℕ) → heldOf x ≡ Held.made i → kind b r ≡ 0 → r < length e → view b (set e r x) ≡ one i r (view b e) .dictionary
   one-set x d k l = view-set b v e r x h l ∙ ap₂ (enter (view b e)) (row-atom b v r h k) d
 
 -- ---- lists of rows, one after another
-pub making-none : (b : List ℕ) (f n : ℕ) (δ : Dictionary) → n ≡ 0 → allMaking (buildAll (terms (table b) (listAt b f n)) δ) ≡ nothing δ
+pub making-none : (i : ℕ) (b : List ℕ) (f n : ℕ) (δ : Dictionary) → n ≡ 0 → allMaking (buildAll i (terms (table b) (listAt b f n)) δ) ≡ nothing δ
 unfolding build terms gathered
-making-none b f n δ z = rw (list-none b f n (omega arith))
+making-none i b f n δ z = rw (list-none b f n (omega arith))
 
-pub making-more : (b : List ℕ) (f n : ℕ) (δ : Dictionary) → 0 < n
-    → allMaking (buildAll (terms (table b) (listAt b f n)) δ)
-    ≡ both (making (build (term (table b) (entry b f)) δ))
-    (allMaking (buildAll (terms (table b) (listAt b (f + 1) (n - 1))) (build (term (table b) (entry b f)) δ .dictionary)))
+pub making-more : (i : ℕ) (b : List ℕ) (f n : ℕ) (δ : Dictionary) → 0 < n
+    → allMaking (buildAll i (terms (table b) (listAt b f n)) δ)
+    ≡ both (making (build i (term (table b) (entry b f)) δ))
+    (allMaking (buildAll i (terms (table b) (listAt b (f + 1) (n - 1))) (build i (term (table b) (entry b f)) δ .dictionary)))
 unfolding build terms gathered
-making-more b f n δ h = rw (list-more b f n h)
+making-more i b f n δ h = rw (list-more b f n h)
 
 -- ---- orStop
 pub or-stays : (x : Stop) (n s r : ℕ) → (x .number ≡ 0 → ⊥) → orStop x n s r ≡ x
@@ -228,11 +229,11 @@ send-words b e s f n =
     ∙ ap concat (map-map (λ t. words (rowOf b) (image (view b e) t)) (term (table b)) (listAt b f n)))
 
 -- a step's events: the NEWs, then the SEND with the images in the dictionary afterwards
-pub sent-words : (b e : List ℕ) (s f n : ℕ) (δ : Dictionary) → view b e ≡ buildAll (terms (table b) (listAt b f n)) δ .dictionary
-    → programWords (rowOf b) (sent s (buildAll (terms (table b) (listAt b f n)) δ) .events)
-    ≡ programWords (rowOf b) (map Event.new (buildAll (terms (table b) (listAt b f n)) δ .made)) ++ (2 ∷ s ∷ n ∷ imagesAt b e f n)
+pub sent-words : (b e : List ℕ) (s f n : ℕ) (δ : Dictionary) → view b e ≡ buildAll s (terms (table b) (listAt b f n)) δ .dictionary
+    → programWords (rowOf b) (sent s (buildAll s (terms (table b) (listAt b f n)) δ) .events)
+    ≡ programWords (rowOf b) (map Event.new (buildAll s (terms (table b) (listAt b f n)) δ .made)) ++ (2 ∷ s ∷ n ∷ imagesAt b e f n)
 sent-words b e s f n δ d =
     let ts = terms (table b) (listAt b f n) in
-    program-append (rowOf b) (map Event.new (buildAll ts δ .made)) (Event.sends s (buildAll ts δ .images) ∷ [])
-    ∙ ap (λ l. programWords (rowOf b) (map Event.new (buildAll ts δ .made)) ++ l)
-    (ap (λ i. programWords (rowOf b) (Event.sends s i ∷ [])) (buildAll-images ts δ ∙ ap (λ ε. images ε ts) (sym d)) ∙ send-words b e s f n)
+    program-append (rowOf b) (map Event.new (buildAll s ts δ .made)) (Event.sends s (buildAll s ts δ .images) ∷ [])
+    ∙ ap (λ l. programWords (rowOf b) (map Event.new (buildAll s ts δ .made)) ++ l)
+    (ap (λ i. programWords (rowOf b) (Event.sends s i ∷ [])) (buildAll-images s ts δ ∙ ap (λ ε. images ε ts) (sym d)) ∙ send-words b e s f n)

@@ -3,8 +3,8 @@
 use Prim.Native.Nat.{ℕ, zero, suc, _+_, _*_, _≤_, _<_}
 use native.Mathlib.Nat.{suc-mul, zero-mul, zero-add, mul-le-mul}
 use mathlib.Core.Bool.{Bool, true, false}
-use mathlib.Core.List.{List, [], _∷_, _++_, map, List·Memᴰ, List·Memᴰ·head, List·Memᴰ·tail, List·Memᴰ·cases-cons, List·Memᴰ·not-nil}
-use mathlib.Core.Logic.{_↔_, ⊎-elim}
+use mathlib.Core.List.{List, [], _∷_, _++_, map, List·Memᴰ}
+use mathlib.Core.Logic.{_↔_}
 use mathlib.Core.Path.{_≡_, refl, sym, ap, _∙_}
 use native.Mathlib.Omega.{arith}
 use native.Mathlib.Decide.{decLt}
@@ -16,7 +16,7 @@ use Rattle.words.specs.Choice.{pick}
 use Rattle.words.specs.Choice.Laws.{pick-true, pick-false}
 use Rattle.words.specs.First.{first}
 use Rattle.words.specs.First.Laws.{clash, first-le, first-holds, first-fails, first-end}
-use Rattle.words.specs.Run.{values, All}
+use Rattle.words.specs.Run.{values}
 use Rattle.words.specs.Run.Laws.{values-length, values-getD}
 use Rattle.terms.specs.Table.{term}
 use Rattle.book.specs.Layout.{table, rows, parties, steps, known}
@@ -24,12 +24,13 @@ use Rattle.book.specs.Said.{Said, said}
 use Rattle.book.specs.Said.Laws.{valueAt}
 use Rattle.book.specs.Headed.Laws.{valid-headed}
 use Rattle.book.specs.Valid.{Valid}
-use Rattle.book.specs.Valid.Laws.{equal-terms}
 use Rattle.translation.specs.Dictionary.{Dictionary, isHeld}
 use Rattle.translation.specs.Dictionary.Laws.{start-exact}
 use Rattle.translation.specs.Low.{wordLimit, Low}
 use Rattle.translation.specs.Low.Laws.{low-append}
 use Rattle.translation.specs.Rows.Laws.{party-known}
+use Rattle.translation.specs.Source.{sourceOf, sinceOf}
+use Rattle.translation.specs.Source.Laws.{known-term, term-known, since-first}
 use Rattle.translation.specs.Steps.{before}
 use Rattle.translation.specs.Steps.Laws.{before-none, before-grows, before-holds}
 use Rattle.translation.specs.Taken.{joined}
@@ -88,25 +89,16 @@ module _ (b : List ℕ) (p r : ℕ) (h : p < parties b) where
     λ n. sym (first-end (holds b p r) (steps b + 1) (steps b + 1) refl (λ k l. n k (omega arith))),
   )
 
+-- and it is read off how the row is held in the end
+pub heldFrom-source : (b : List ℕ) (p r : ℕ) → p < parties b → heldFrom b p r ≡ sinceOf (steps b + 1) (sourceOf b p r)
+unfolding heldFrom holds
+heldFrom-source b p r h = since-first b p h r
+
 pub heldFrom-low : (b : List ℕ) (p r : ℕ) → heldFrom b p r ≤ steps b + 1
 unfolding heldFrom
 heldFrom-low b p r = first-le (holds b p r) (steps b + 1)
 
 -- ---- "given at the start": the rows that the party knows
--- a row whose term is among those of the rows ks is among them, where these are rows
-known-term : (b : List ℕ) → Valid b → (r : ℕ) → r < rows b → (ks : List ℕ) → All (λ k. k < rows b) ks
-    → List·Memᴰ (term (table b) r) (map (term (table b)) ks) → List·Memᴰ r ks
-known-term b v r l [] a m = absurd (List·Memᴰ·not-nil m)
-known-term b v r l (k ∷ ks) a m =
-    let rest = known-term b v r l ks (a .1) in
-    ⊎-elim (λ e. List·Memᴰ·head (equal-terms b v r k l (a .0) e)) (λ n. List·Memᴰ·tail (rest n)) (List·Memᴰ·cases-cons m)
-
-term-known : (b : List ℕ) (r : ℕ) (ks : List ℕ) → List·Memᴰ r ks → List·Memᴰ (term (table b) r) (map (term (table b)) ks)
-term-known b r [] m = absurd (List·Memᴰ·not-nil m)
-term-known b r (k ∷ ks) m =
-    let rest = term-known b r ks in
-    ⊎-elim (λ e. List·Memᴰ·head (ap (term (table b)) e)) (λ n. List·Memᴰ·tail (rest n)) (List·Memᴰ·cases-cons m)
-
 pub holds-known : (b : List ℕ) → Valid b → (p r : ℕ) → p < parties b → r < rows b → (holds b p r 0 ≡ true) ↔ List·Memᴰ r (known b p)
 holds-known b v p r h l =
     let start = holds-before b p r h 0 (omega arith) ∙ ap (λ d. isHeld (d .dictionary (term (table b) r))) (before-none b p) in

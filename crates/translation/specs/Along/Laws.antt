@@ -20,12 +20,12 @@ gains-none δ = record { others = λ u p. refl; atoms = λ r h. refl }
 gains-then : {δ ε ζ : Dictionary} → Gains δ ε → Gains ε ζ → Gains δ ζ
 gains-then g h = record { others = λ u p. h .others u p ∙ g .others u p; atoms = λ r k. h .atoms r (ap isHeld (g .atoms r k) ∙ k) ∙ g .atoms r k }
 
-gains-one : (r : ℕ) (δ : Dictionary) → isHeld (δ (Term.atom r)) ≡ false → Gains δ (enter δ (Term.atom r) Held.itself)
-gains-one r δ e =
+gains-one : (s : ℕ) (r : ℕ) (δ : Dictionary) → isHeld (δ (Term.atom r)) ≡ false → Gains δ (enter δ (Term.atom r) (Held.made s))
+gains-one s r δ e =
     record {
-      others = λ u p. enter-ind (λ x. x ≡ δ u) δ (Term.atom r) Held.itself u (λ q. absurd (subst NoAtom (sym q) p)) (λ q. refl);
-      atoms = λ s h. enter-ind (λ x. x ≡ δ (Term.atom s)) δ (Term.atom r) Held.itself (Term.atom s)
-          (λ q. absurd (true≢false (sym h ∙ ap (λ t. isHeld (δ t)) (sym q) ∙ e))) (λ q. refl);
+      others = λ u p. enter-ind (λ x. x ≡ δ u) δ (Term.atom r) (Held.made s) u (λ q. absurd (subst NoAtom (sym q) p)) (λ q. refl);
+      atoms = λ q h. enter-ind (λ x. x ≡ δ (Term.atom q)) δ (Term.atom r) (Held.made s) (Term.atom q)
+          (λ p. absurd (true≢false (sym h ∙ ap (λ t. isHeld (δ t)) (sym p) ∙ e))) (λ p. refl);
     }
 
 or-gains : (t : Term) (δ : Dictionary) (b : Built) → (δ t ≡ Held.free → Gains δ (b .dictionary)) → Gains δ ((builtOr (δ t) t δ b) .dictionary)
@@ -34,16 +34,16 @@ or-gains t δ b g = built-or (λ c. Gains δ (c .dictionary)) (δ t) t δ b (λ 
 mutual
   unfolding build
 
-  pub build-gains : (t : Term) (δ : Dictionary) → Gains δ ((build t δ) .dictionary)
-  build-gains (Term.atom r) δ = or-gains (Term.atom r) δ _ (λ e. gains-one r δ (ap isHeld e))
-  build-gains (Term.operation g ts) δ = or-gains (Term.operation g ts) δ _ (λ e. buildAll-gains ts δ)
-  build-gains (Term.cipher k ts) δ = or-gains (Term.cipher k ts) δ _ (λ e. gains-then (build-gains k δ) (buildAll-gains ts ((build k δ) .dictionary)))
-  build-gains (Term.public t) δ = or-gains (Term.public t) δ _ (λ e. build-gains t δ)
-  build-gains (Term.private t) δ = or-gains (Term.private t) δ _ (λ e. build-gains t δ)
+  pub build-gains : (s : ℕ) (t : Term) (δ : Dictionary) → Gains δ ((build s t δ) .dictionary)
+  build-gains s (Term.atom r) δ = or-gains (Term.atom r) δ _ (λ e. gains-one s r δ (ap isHeld e))
+  build-gains s (Term.operation g ts) δ = or-gains (Term.operation g ts) δ _ (λ e. buildAll-gains s ts δ)
+  build-gains s (Term.cipher k ts) δ = or-gains (Term.cipher k ts) δ _ (λ e. gains-then (build-gains s k δ) (buildAll-gains s ts ((build s k δ) .dictionary)))
+  build-gains s (Term.public t) δ = or-gains (Term.public t) δ _ (λ e. build-gains s t δ)
+  build-gains s (Term.private t) δ = or-gains (Term.private t) δ _ (λ e. build-gains s t δ)
 
-  pub buildAll-gains : (ts : Terms) (δ : Dictionary) → Gains δ ((buildAll ts δ) .dictionary)
-  buildAll-gains Terms.nil δ = gains-none δ
-  buildAll-gains (Terms.cons t ts) δ = gains-then (build-gains t δ) (buildAll-gains ts ((build t δ) .dictionary))
+  pub buildAll-gains : (s : ℕ) (ts : Terms) (δ : Dictionary) → Gains δ ((buildAll s ts δ) .dictionary)
+  buildAll-gains s Terms.nil δ = gains-none δ
+  buildAll-gains s (Terms.cons t ts) δ = gains-then (build-gains s t δ) (buildAll-gains s ts ((build s t δ) .dictionary))
 
 -- ---- what is buildable stays so, and its image too
 or-more : (a x y : Bool) → (x ≡ true → y ≡ true) → pick a true x ≡ true → pick a true y ≡ true
@@ -57,8 +57,9 @@ or-rest a x e h = sym (pick-false a true x e) ∙ h
 image-or : (x : Held) (t : Term) (i j : Image) → (isHeld x ≡ false → i ≡ j) → imageOr x t i ≡ imageOr x t j
 unfolding imageOr
 image-or Held.free t i j f = f refl
-image-or Held.itself t i j f = refl
-image-or (Held.placeholder x) t i j f = refl
+image-or Held.given t i j f = refl
+image-or (Held.made s) t i j f = refl
+image-or (Held.stored s x) t i j f = refl
 
 module _ (δ ε : Dictionary) (g : Gains δ ε) where
   -- a term that is no atom is held as before
@@ -113,35 +114,35 @@ Can t c = buildable (c .dictionary) t ≡ true
 mutual
   unfolding build buildable
 
-  build-buildable : (t : Term) (δ : Dictionary) → Can t (build t δ)
-  build-buildable (Term.atom r) δ =
-      built-or (Can (Term.atom r)) (δ (Term.atom r)) (Term.atom r) δ _ (λ i h j. h) (λ e. ap isHeld (enter-same δ (Term.atom r) Held.itself))
-  build-buildable (Term.operation g ts) δ =
+  build-buildable : (s : ℕ) (t : Term) (δ : Dictionary) → Can t (build s t δ)
+  build-buildable s (Term.atom r) δ =
+      built-or (Can (Term.atom r)) (δ (Term.atom r)) (Term.atom r) δ _ (λ i h j. h) (λ e. ap isHeld (enter-same δ (Term.atom r) (Held.made s)))
+  build-buildable s (Term.operation g ts) δ =
       built-or (Can (Term.operation g ts)) (δ (Term.operation g ts)) (Term.operation g ts) δ _ (λ i h j. pick-true _ _ _ h)
-      (λ e. or-second _ _ (buildAll-buildable ts δ))
-  build-buildable (Term.cipher k ts) δ =
+      (λ e. or-second _ _ (buildAll-buildable s ts δ))
+  build-buildable s (Term.cipher k ts) δ =
       built-or (Can (Term.cipher k ts)) (δ (Term.cipher k ts)) (Term.cipher k ts) δ _ (λ i h j. pick-true _ _ _ h)
-      (λ e. or-second _ _ (both-and _ _ (buildable-gains _ _ (buildAll-gains ts ((build k δ) .dictionary)) k (build-buildable k δ))
-      (buildAll-buildable ts ((build k δ) .dictionary))))
-  build-buildable (Term.public t) δ =
-      built-or (Can (Term.public t)) (δ (Term.public t)) (Term.public t) δ _ (λ i h j. pick-true _ _ _ h) (λ e. or-second _ _ (build-buildable t δ))
-  build-buildable (Term.private t) δ =
-      built-or (Can (Term.private t)) (δ (Term.private t)) (Term.private t) δ _ (λ i h j. pick-true _ _ _ h) (λ e. or-second _ _ (build-buildable t δ))
+      (λ e. or-second _ _ (both-and _ _ (buildable-gains _ _ (buildAll-gains s ts ((build s k δ) .dictionary)) k (build-buildable s k δ))
+      (buildAll-buildable s ts ((build s k δ) .dictionary))))
+  build-buildable s (Term.public t) δ =
+      built-or (Can (Term.public t)) (δ (Term.public t)) (Term.public t) δ _ (λ i h j. pick-true _ _ _ h) (λ e. or-second _ _ (build-buildable s t δ))
+  build-buildable s (Term.private t) δ =
+      built-or (Can (Term.private t)) (δ (Term.private t)) (Term.private t) δ _ (λ i h j. pick-true _ _ _ h) (λ e. or-second _ _ (build-buildable s t δ))
 
-  pub buildAll-buildable : (ts : Terms) (δ : Dictionary) → allBuildable ((buildAll ts δ) .dictionary) ts ≡ true
-  buildAll-buildable Terms.nil δ = refl
-  buildAll-buildable (Terms.cons t ts) δ =
-      both-and _ _ (buildable-gains _ _ (buildAll-gains ts ((build t δ) .dictionary)) t (build-buildable t δ))
-      (buildAll-buildable ts ((build t δ) .dictionary))
+  pub buildAll-buildable : (s : ℕ) (ts : Terms) (δ : Dictionary) → allBuildable ((buildAll s ts δ) .dictionary) ts ≡ true
+  buildAll-buildable s Terms.nil δ = refl
+  buildAll-buildable s (Terms.cons t ts) δ =
+      both-and _ _ (buildable-gains _ _ (buildAll-gains s ts ((build s t δ) .dictionary)) t (build-buildable s t δ))
+      (buildAll-buildable s ts ((build s t δ) .dictionary))
 
 -- ---- the image on the way is the image afterwards
 free-image : (x : Held) (t : Term) (i j : Image) → x ≡ Held.free → j ≡ i → j ≡ imageOr x t i
 unfolding imageOr
 free-image x t i j e f = rw e f
 
-itself-image : (x : Held) (t : Term) (i : Image) → x ≡ Held.itself → Image.itself t ≡ imageOr x t i
+made-image : (s : ℕ) (x : Held) (t : Term) (i : Image) → x ≡ Held.made s → Image.itself t ≡ imageOr x t i
 unfolding imageOr
-itself-image x t i e = rw e
+made-image s x t i e = rw e
 
 abbrev Shows : Term → Built → Type 0
 Shows t c = c .image ≡ image (c .dictionary) t
@@ -149,35 +150,35 @@ Shows t c = c .image ≡ image (c .dictionary) t
 mutual
   unfolding build image
 
-  pub build-image : (t : Term) (δ : Dictionary) → Shows t (build t δ)
-  build-image (Term.atom r) δ =
+  pub build-image : (s : ℕ) (t : Term) (δ : Dictionary) → Shows t (build s t δ)
+  build-image s (Term.atom r) δ =
       built-or (Shows (Term.atom r)) (δ (Term.atom r)) (Term.atom r) δ _ (λ i h j. sym (j _))
-      (λ e. itself-image _ _ _ (enter-same δ (Term.atom r) Held.itself))
-  build-image (Term.operation g ts) δ =
+      (λ e. made-image s _ _ _ (enter-same δ (Term.atom r) (Held.made s)))
+  build-image s (Term.operation g ts) δ =
       built-or (Shows (Term.operation g ts)) (δ (Term.operation g ts)) (Term.operation g ts) δ _ (λ i h j. sym (j _))
-      (λ e. free-image _ _ _ _ (buildAll-gains ts δ .others (Term.operation g ts) tt ∙ e) (ap (Image.operation g) (buildAll-images ts δ)))
-  build-image (Term.cipher k ts) δ =
-      let ε = (build k δ) .dictionary in
+      (λ e. free-image _ _ _ _ (buildAll-gains s ts δ .others (Term.operation g ts) tt ∙ e) (ap (Image.operation g) (buildAll-images s ts δ)))
+  build-image s (Term.cipher k ts) δ =
+      let ε = (build s k δ) .dictionary in
       built-or (Shows (Term.cipher k ts)) (δ (Term.cipher k ts)) (Term.cipher k ts) δ _ (λ i h j. sym (j _))
-      (λ e. free-image _ _ _ _ (gains-then (build-gains k δ) (buildAll-gains ts ε) .others (Term.cipher k ts) tt ∙ e)
-      (ap₂ Image.cipher (build-image k δ ∙ sym (image-gains ε _ (buildAll-gains ts ε) k (build-buildable k δ))) (buildAll-images ts ε)))
-  build-image (Term.public t) δ =
+      (λ e. free-image _ _ _ _ (gains-then (build-gains s k δ) (buildAll-gains s ts ε) .others (Term.cipher k ts) tt ∙ e)
+      (ap₂ Image.cipher (build-image s k δ ∙ sym (image-gains ε _ (buildAll-gains s ts ε) k (build-buildable s k δ))) (buildAll-images s ts ε)))
+  build-image s (Term.public t) δ =
       built-or (Shows (Term.public t)) (δ (Term.public t)) (Term.public t) δ _ (λ i h j. sym (j _))
-      (λ e. free-image _ _ _ _ (build-gains t δ .others (Term.public t) tt ∙ e) (ap Image.public (build-image t δ)))
-  build-image (Term.private t) δ =
+      (λ e. free-image _ _ _ _ (build-gains s t δ .others (Term.public t) tt ∙ e) (ap Image.public (build-image s t δ)))
+  build-image s (Term.private t) δ =
       built-or (Shows (Term.private t)) (δ (Term.private t)) (Term.private t) δ _ (λ i h j. sym (j _))
-      (λ e. free-image _ _ _ _ (build-gains t δ .others (Term.private t) tt ∙ e) (ap Image.private (build-image t δ)))
+      (λ e. free-image _ _ _ _ (build-gains s t δ .others (Term.private t) tt ∙ e) (ap Image.private (build-image s t δ)))
 
-  pub buildAll-images : (ts : Terms) (δ : Dictionary) → (buildAll ts δ) .images ≡ images ((buildAll ts δ) .dictionary) ts
-  buildAll-images Terms.nil δ = refl
-  buildAll-images (Terms.cons t ts) δ =
-      let ε = (build t δ) .dictionary in
-      ap₂ Images.cons (build-image t δ ∙ sym (image-gains ε _ (buildAll-gains ts ε) t (build-buildable t δ))) (buildAll-images ts ε)
+  pub buildAll-images : (s : ℕ) (ts : Terms) (δ : Dictionary) → (buildAll s ts δ) .images ≡ images ((buildAll s ts δ) .dictionary) ts
+  buildAll-images s Terms.nil δ = refl
+  buildAll-images s (Terms.cons t ts) δ =
+      let ε = (build s t δ) .dictionary in
+      ap₂ Images.cons (build-image s t δ ∙ sym (image-gains ε _ (buildAll-gains s ts ε) t (build-buildable s t δ))) (buildAll-images s ts ε)
 
 -- ---- so the image that building gives is never longer than its row's size
 module _ (row : Term → ℕ) where
-  pub build-short : (t : Term) (δ : Dictionary) → length (words row (build t δ .image)) ≤ size t
-  build-short t δ = rw (build-image t δ) (image-short row (build t δ .dictionary) t)
+  pub build-short : (s : ℕ) (t : Term) (δ : Dictionary) → length (words row (build s t δ .image)) ≤ size t
+  build-short s t δ = rw (build-image s t δ) (image-short row (build s t δ .dictionary) t)
 
-  pub buildAll-short : (ts : Terms) (δ : Dictionary) → length (wordsOf row (buildAll ts δ .images)) ≤ sizes ts
-  buildAll-short ts δ = rw (buildAll-images ts δ) (images-short row (buildAll ts δ .dictionary) ts)
+  pub buildAll-short : (s : ℕ) (ts : Terms) (δ : Dictionary) → length (wordsOf row (buildAll s ts δ .images)) ≤ sizes ts
+  buildAll-short s ts δ = rw (buildAll-images s ts δ) (images-short row (buildAll s ts δ .dictionary) ts)

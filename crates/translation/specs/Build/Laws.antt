@@ -55,18 +55,18 @@ making-then {a = a} {b = b} p q =
           (λ x. inr (x .0, x .1, Memᴰ·append-right a (x .2))) (q .back u h);
     }
 
-making-one : (r : ℕ) (δ : Dictionary) → isHeld (δ (Term.atom r)) ≡ false
-    → Building δ (enter δ (Term.atom r) Held.itself) (r ∷ []) (λ q. Occurs q (Term.atom r))
-making-one r δ e =
+making-one : (s : ℕ) (r : ℕ) (δ : Dictionary) → isHeld (δ (Term.atom r)) ≡ false
+    → Building δ (enter δ (Term.atom r) (Held.made s)) (r ∷ []) (λ q. Occurs q (Term.atom r))
+making-one s r δ e =
     record {
-      grows = enter-grows δ (Term.atom r) Held.itself refl;
+      grows = enter-grows δ (Term.atom r) (Held.made s) refl;
       fresh = λ q m h. true≢false (sym h ∙ ap (λ z. isHeld (δ (Term.atom z))) (List·Memᴰ·eq-of-singleton m) ∙ e);
-      gained = λ q m. subst (λ z. Holds (enter δ (Term.atom r) Held.itself) (Term.atom z)) (sym (List·Memᴰ·eq-of-singleton m))
-          (ap isHeld (enter-same δ (Term.atom r) Held.itself));
+      gained = λ q m. subst (λ z. Holds (enter δ (Term.atom r) (Held.made s)) (Term.atom z)) (sym (List·Memᴰ·eq-of-singleton m))
+          (ap isHeld (enter-same δ (Term.atom r) (Held.made s)));
       once = (λ m. List·Memᴰ·not-nil m, tt);
       within = λ q m. subst (λ z. Occurs z (Term.atom r)) (sym (List·Memᴰ·eq-of-singleton m)) Occurs.atom;
       back = λ u. enter-ind (λ x. isHeld x ≡ true → Holds δ u ⊎ ((q : ℕ) × (u ≡ Term.atom q) × List·Memᴰ q (r ∷ []))) δ
-          (Term.atom r) Held.itself u (λ p h. inr (r, sym p, List·Memᴰ·head refl)) (λ p h. inl h);
+          (Term.atom r) (Held.made s) u (λ p h. inr (r, sym p, List·Memᴰ·head refl)) (λ p h. inl h);
     }
 
 -- a term that is held makes nothing and gives its entry; of one that is not, what is said of the rest
@@ -76,8 +76,9 @@ pub built-or : (P : Built → Type 0) (h : Held) (t : Term) (δ : Dictionary) (b
     → P (builtOr h t δ b)
 unfolding builtOr imageOr
 built-or P Held.free t δ b f g = g refl
-built-or P Held.itself t δ b f g = f _ refl (λ j. refl)
-built-or P (Held.placeholder x) t δ b f g = f _ refl (λ j. refl)
+built-or P Held.given t δ b f g = f _ refl (λ j. refl)
+built-or P (Held.made s) t δ b f g = f _ refl (λ j. refl)
+built-or P (Held.stored s x) t δ b f g = f _ refl (λ j. refl)
 
 abbrev Makes : Term → Dictionary → Built → Type 0
 Makes t δ b = Building δ (b .dictionary) (b .made) (λ r. Occurs r t)
@@ -89,19 +90,19 @@ or-makes t δ b g =
 mutual
   unfolding build
 
-  pub build-makes : (t : Term) (δ : Dictionary) → Makes t δ (build t δ)
-  build-makes (Term.atom r) δ = or-makes (Term.atom r) δ _ (λ e. making-one r δ e)
-  build-makes (Term.operation g ts) δ = or-makes (Term.operation g ts) δ _ (λ e. making-in (λ r h. Occurs.operation h) (buildAll-makes ts δ))
-  build-makes (Term.cipher k ts) δ =
-      or-makes (Term.cipher k ts) δ _ (λ e. making-then (making-in (λ r h. Occurs.key h) (build-makes k δ))
-      (making-in (λ r h. Occurs.contents h) (buildAll-makes ts _)))
-  build-makes (Term.public t) δ = or-makes (Term.public t) δ _ (λ e. making-in (λ r h. Occurs.public h) (build-makes t δ))
-  build-makes (Term.private t) δ = or-makes (Term.private t) δ _ (λ e. making-in (λ r h. Occurs.private h) (build-makes t δ))
+  pub build-makes : (s : ℕ) (t : Term) (δ : Dictionary) → Makes t δ (build s t δ)
+  build-makes s (Term.atom r) δ = or-makes (Term.atom r) δ _ (λ e. making-one s r δ e)
+  build-makes s (Term.operation g ts) δ = or-makes (Term.operation g ts) δ _ (λ e. making-in (λ r h. Occurs.operation h) (buildAll-makes s ts δ))
+  build-makes s (Term.cipher k ts) δ =
+      or-makes (Term.cipher k ts) δ _ (λ e. making-then (making-in (λ r h. Occurs.key h) (build-makes s k δ))
+      (making-in (λ r h. Occurs.contents h) (buildAll-makes s ts _)))
+  build-makes s (Term.public t) δ = or-makes (Term.public t) δ _ (λ e. making-in (λ r h. Occurs.public h) (build-makes s t δ))
+  build-makes s (Term.private t) δ = or-makes (Term.private t) δ _ (λ e. making-in (λ r h. Occurs.private h) (build-makes s t δ))
 
-  pub buildAll-makes : (ts : Terms) (δ : Dictionary) → Building δ ((buildAll ts δ) .dictionary) ((buildAll ts δ) .made) (λ r. OccursIn r ts)
-  buildAll-makes Terms.nil δ = making-none δ _
-  buildAll-makes (Terms.cons t ts) δ =
-      making-then (making-in (λ r h. OccursIn.here h) (build-makes t δ)) (making-in (λ r h. OccursIn.later h) (buildAll-makes ts _))
+  pub buildAll-makes : (s : ℕ) (ts : Terms) (δ : Dictionary) → Building δ ((buildAll s ts δ) .dictionary) ((buildAll s ts δ) .made) (λ r. OccursIn r ts)
+  buildAll-makes s Terms.nil δ = making-none δ _
+  buildAll-makes s (Terms.cons t ts) δ =
+      making-then (making-in (λ r h. OccursIn.here h) (build-makes s t δ)) (making-in (λ r h. OccursIn.later h) (buildAll-makes s ts _))
 
 -- ---- only free atoms are made ⇔ there is a derivation
 module _ (free : ℕ → Type 0) where
@@ -121,35 +122,35 @@ module _ (free : ℕ → Type 0) where
   or-free t δ b g = built-or (λ c. AllFree (c .made)) (δ t) t δ b (λ i h j r x. absurd (List·Memᴰ·not-nil x)) (λ e. g (ap isHeld e))
 
   -- what the dictionary held before is still derivable afterwards
-  kept : (t : Term) (δ : Dictionary) → (u : Term) → isHeld (δ u) ≡ true → Derives free ((build t δ) .dictionary) u
-  kept t δ u h = Derives.held (build-makes t δ .grows u h)
+  kept : (s : ℕ) (t : Term) (δ : Dictionary) → (u : Term) → isHeld (δ u) ≡ true → Derives free ((build s t δ) .dictionary) u
+  kept s t δ u h = Derives.held (build-makes s t δ .grows u h)
 
   mutual
     unfolding build
 
-    pub derives-free : (t : Term) (δ : Dictionary) → Derives free δ t → AllFree ((build t δ) .made)
-    derives-free (Term.atom r) δ (Derives.held h) = or-free (Term.atom r) δ _ (λ e. absurd (true≢false (sym h ∙ e)))
-    derives-free (Term.atom r) δ (Derives.make f) = or-free (Term.atom r) δ _ (λ e q m. subst free (sym (List·Memᴰ·eq-of-singleton m)) f)
-    derives-free (Term.operation g ts) δ (Derives.held h) = or-free (Term.operation g ts) δ _ (λ e. absurd (true≢false (sym h ∙ e)))
-    derives-free (Term.operation g ts) δ (Derives.operation h) = or-free (Term.operation g ts) δ _ (λ e. derivesAll-free ts δ h)
-    derives-free (Term.cipher k ts) δ (Derives.held h) = or-free (Term.cipher k ts) δ _ (λ e. absurd (true≢false (sym h ∙ e)))
-    derives-free (Term.cipher k ts) δ (Derives.cipher x h) =
-        or-free (Term.cipher k ts) δ _ (λ e. free-append ((build k δ) .made) _ (derives-free k δ x)
-        (derivesAll-free ts ((build k δ) .dictionary) (derivesAll-from free (kept k δ) h)))
-    derives-free (Term.public t) δ (Derives.held h) = or-free (Term.public t) δ _ (λ e. absurd (true≢false (sym h ∙ e)))
-    derives-free (Term.public t) δ (Derives.public h) = or-free (Term.public t) δ _ (λ e. derives-free t δ h)
-    derives-free (Term.private t) δ (Derives.held h) = or-free (Term.private t) δ _ (λ e. absurd (true≢false (sym h ∙ e)))
-    derives-free (Term.private t) δ (Derives.private h) = or-free (Term.private t) δ _ (λ e. derives-free t δ h)
+    pub derives-free : (s : ℕ) (t : Term) (δ : Dictionary) → Derives free δ t → AllFree ((build s t δ) .made)
+    derives-free s (Term.atom r) δ (Derives.held h) = or-free (Term.atom r) δ _ (λ e. absurd (true≢false (sym h ∙ e)))
+    derives-free s (Term.atom r) δ (Derives.make f) = or-free (Term.atom r) δ _ (λ e q m. subst free (sym (List·Memᴰ·eq-of-singleton m)) f)
+    derives-free s (Term.operation g ts) δ (Derives.held h) = or-free (Term.operation g ts) δ _ (λ e. absurd (true≢false (sym h ∙ e)))
+    derives-free s (Term.operation g ts) δ (Derives.operation h) = or-free (Term.operation g ts) δ _ (λ e. derivesAll-free s ts δ h)
+    derives-free s (Term.cipher k ts) δ (Derives.held h) = or-free (Term.cipher k ts) δ _ (λ e. absurd (true≢false (sym h ∙ e)))
+    derives-free s (Term.cipher k ts) δ (Derives.cipher x h) =
+        or-free (Term.cipher k ts) δ _ (λ e. free-append ((build s k δ) .made) _ (derives-free s k δ x)
+        (derivesAll-free s ts ((build s k δ) .dictionary) (derivesAll-from free (kept s k δ) h)))
+    derives-free s (Term.public t) δ (Derives.held h) = or-free (Term.public t) δ _ (λ e. absurd (true≢false (sym h ∙ e)))
+    derives-free s (Term.public t) δ (Derives.public h) = or-free (Term.public t) δ _ (λ e. derives-free s t δ h)
+    derives-free s (Term.private t) δ (Derives.held h) = or-free (Term.private t) δ _ (λ e. absurd (true≢false (sym h ∙ e)))
+    derives-free s (Term.private t) δ (Derives.private h) = or-free (Term.private t) δ _ (λ e. derives-free s t δ h)
 
-    pub derivesAll-free : (ts : Terms) (δ : Dictionary) → DerivesAll free δ ts → AllFree ((buildAll ts δ) .made)
-    derivesAll-free Terms.nil δ h = λ r x. absurd (List·Memᴰ·not-nil x)
-    derivesAll-free (Terms.cons t ts) δ (DerivesAll.cons x h) =
-        free-append ((build t δ) .made) _ (derives-free t δ x) (derivesAll-free ts ((build t δ) .dictionary) (derivesAll-from free (kept t δ) h))
+    pub derivesAll-free : (s : ℕ) (ts : Terms) (δ : Dictionary) → DerivesAll free δ ts → AllFree ((buildAll s ts δ) .made)
+    derivesAll-free s Terms.nil δ h = λ r x. absurd (List·Memᴰ·not-nil x)
+    derivesAll-free s (Terms.cons t ts) δ (DerivesAll.cons x h) =
+        free-append ((build s t δ) .made) _ (derives-free s t δ x) (derivesAll-free s ts ((build s t δ) .dictionary) (derivesAll-from free (kept s t δ) h))
 
   -- what the dictionary holds afterwards was derivable before
-  gave : (t : Term) (δ : Dictionary) → AllFree ((build t δ) .made) → (u : Term) → isHeld ((build t δ) .dictionary u) ≡ true → Derives free δ u
-  gave t δ a u h = ⊎-elim (λ x. Derives.held x) (λ x. subst (λ v. Derives free δ v) (sym (x .1)) (Derives.make (a (x .0) (x .2))))
-      (build-makes t δ .back u h)
+  gave : (s : ℕ) (t : Term) (δ : Dictionary) → AllFree ((build s t δ) .made) → (u : Term) → isHeld ((build s t δ) .dictionary u) ≡ true → Derives free δ u
+  gave s t δ a u h = ⊎-elim (λ x. Derives.held x) (λ x. subst (λ v. Derives free δ v) (sym (x .1)) (Derives.make (a (x .0) (x .2))))
+      (build-makes s t δ .back u h)
 
   or-derives : (t : Term) (δ : Dictionary) (b : Built) → (AllFree (b .made) → Derives free δ t) → AllFree ((builtOr (δ t) t δ b) .made)
       → Derives free δ t
@@ -158,24 +159,24 @@ module _ (free : ℕ → Type 0) where
   mutual
     unfolding build
 
-    pub free-derives : (t : Term) (δ : Dictionary) → AllFree ((build t δ) .made) → Derives free δ t
-    free-derives (Term.atom r) δ = or-derives (Term.atom r) δ _ (λ a. Derives.make (a r (List·Memᴰ·head refl)))
-    free-derives (Term.operation g ts) δ = or-derives (Term.operation g ts) δ _ (λ a. Derives.operation (freeAll-derives ts δ a))
-    free-derives (Term.cipher k ts) δ =
+    pub free-derives : (s : ℕ) (t : Term) (δ : Dictionary) → AllFree ((build s t δ) .made) → Derives free δ t
+    free-derives s (Term.atom r) δ = or-derives (Term.atom r) δ _ (λ a. Derives.make (a r (List·Memᴰ·head refl)))
+    free-derives s (Term.operation g ts) δ = or-derives (Term.operation g ts) δ _ (λ a. Derives.operation (freeAll-derives s ts δ a))
+    free-derives s (Term.cipher k ts) δ =
         or-derives (Term.cipher k ts) δ _
         (λ a.
-        let x = free-left ((build k δ) .made) _ a in
-        Derives.cipher (free-derives k δ x) (derivesAll-from free (gave k δ x)
-        (freeAll-derives ts ((build k δ) .dictionary) (free-right ((build k δ) .made) _ a))))
-    free-derives (Term.public t) δ = or-derives (Term.public t) δ _ (λ a. Derives.public (free-derives t δ a))
-    free-derives (Term.private t) δ = or-derives (Term.private t) δ _ (λ a. Derives.private (free-derives t δ a))
+        let x = free-left ((build s k δ) .made) _ a in
+        Derives.cipher (free-derives s k δ x) (derivesAll-from free (gave s k δ x)
+        (freeAll-derives s ts ((build s k δ) .dictionary) (free-right ((build s k δ) .made) _ a))))
+    free-derives s (Term.public t) δ = or-derives (Term.public t) δ _ (λ a. Derives.public (free-derives s t δ a))
+    free-derives s (Term.private t) δ = or-derives (Term.private t) δ _ (λ a. Derives.private (free-derives s t δ a))
 
-    pub freeAll-derives : (ts : Terms) (δ : Dictionary) → AllFree ((buildAll ts δ) .made) → DerivesAll free δ ts
-    freeAll-derives Terms.nil δ a = DerivesAll.nil
-    freeAll-derives (Terms.cons t ts) δ a =
-        let x = free-left ((build t δ) .made) _ a in
-        DerivesAll.cons (free-derives t δ x) (derivesAll-from free (gave t δ x)
-        (freeAll-derives ts ((build t δ) .dictionary) (free-right ((build t δ) .made) _ a)))
+    pub freeAll-derives : (s : ℕ) (ts : Terms) (δ : Dictionary) → AllFree ((buildAll s ts δ) .made) → DerivesAll free δ ts
+    freeAll-derives s Terms.nil δ a = DerivesAll.nil
+    freeAll-derives s (Terms.cons t ts) δ a =
+        let x = free-left ((build s t δ) .made) _ a in
+        DerivesAll.cons (free-derives s t δ x) (derivesAll-from free (gave s t δ x)
+        (freeAll-derives s ts ((build s t δ) .dictionary) (free-right ((build s t δ) .made) _ a)))
 
 -- ---- every atom made is in the term, and an atom's size is 2
 made-or : (h : Held) (t : Term) (δ : Dictionary) (b : Built) (z : ℕ) → 2 * length (b .made) ≤ z → 2 * length (builtOr h t δ b .made) ≤ z
@@ -184,20 +185,20 @@ made-or h t δ b z l = built-or (λ c. 2 * length (c .made) ≤ z) h t δ b (λ 
 mutual
   unfolding build size
 
-  pub build-made : (t : Term) (δ : Dictionary) → 2 * length (build t δ .made) ≤ size t
-  build-made (Term.atom r) δ = made-or (δ (Term.atom r)) (Term.atom r) δ _ _ (omega arith)
-  build-made (Term.operation g ts) δ = made-or (δ (Term.operation g ts)) (Term.operation g ts) δ _ _ (let h = buildAll-made ts δ in omega arith)
-  build-made (Term.cipher k ts) δ =
+  pub build-made : (s : ℕ) (t : Term) (δ : Dictionary) → 2 * length (build s t δ .made) ≤ size t
+  build-made s (Term.atom r) δ = made-or (δ (Term.atom r)) (Term.atom r) δ _ _ (omega arith)
+  build-made s (Term.operation g ts) δ = made-or (δ (Term.operation g ts)) (Term.operation g ts) δ _ _ (let h = buildAll-made s ts δ in omega arith)
+  build-made s (Term.cipher k ts) δ =
       made-or (δ (Term.cipher k ts)) (Term.cipher k ts) δ _ _
-      (let g = build-made k δ in
-      let h = buildAll-made ts (build k δ .dictionary) in
-      omega (arith, length-append (build k δ .made) (buildAll ts (build k δ .dictionary) .made)))
-  build-made (Term.public t) δ = made-or (δ (Term.public t)) (Term.public t) δ _ _ (let h = build-made t δ in omega arith)
-  build-made (Term.private t) δ = made-or (δ (Term.private t)) (Term.private t) δ _ _ (let h = build-made t δ in omega arith)
+      (let g = build-made s k δ in
+      let h = buildAll-made s ts (build s k δ .dictionary) in
+      omega (arith, length-append (build s k δ .made) (buildAll s ts (build s k δ .dictionary) .made)))
+  build-made s (Term.public t) δ = made-or (δ (Term.public t)) (Term.public t) δ _ _ (let h = build-made s t δ in omega arith)
+  build-made s (Term.private t) δ = made-or (δ (Term.private t)) (Term.private t) δ _ _ (let h = build-made s t δ in omega arith)
 
-  pub buildAll-made : (ts : Terms) (δ : Dictionary) → 2 * length (buildAll ts δ .made) ≤ sizes ts
-  buildAll-made Terms.nil δ = omega arith
-  buildAll-made (Terms.cons t ts) δ =
-      let g = build-made t δ in
-      let h = buildAll-made ts (build t δ .dictionary) in
-      omega (arith, length-append (build t δ .made) (buildAll ts (build t δ .dictionary) .made))
+  pub buildAll-made : (s : ℕ) (ts : Terms) (δ : Dictionary) → 2 * length (buildAll s ts δ .made) ≤ sizes ts
+  buildAll-made s Terms.nil δ = omega arith
+  buildAll-made s (Terms.cons t ts) δ =
+      let g = build-made s t δ in
+      let h = buildAll-made s ts (build s t δ .dictionary) in
+      omega (arith, length-append (build s t δ .made) (buildAll s ts (build s t δ .dictionary) .made))

@@ -112,10 +112,10 @@ unfolding start
 start-exact [] t = (λ e. absurd (true≢false (sym e)), λ m. absurd (List·Memᴰ·not-nil m))
 start-exact (k ∷ ts) t =
     let rest = start-exact ts t in (
-      enter-ind (λ h. isHeld h ≡ true → List·Memᴰ t (k ∷ ts)) (start ts) k Held.itself t (λ e h. List·Memᴰ·head (sym e))
+      enter-ind (λ h. isHeld h ≡ true → List·Memᴰ t (k ∷ ts)) (start ts) k Held.given t (λ e h. List·Memᴰ·head (sym e))
           (λ n h. List·Memᴰ·tail (rest .0 h)),
-      λ m. ⊎-elim (λ e. ap (λ u. isHeld (enter (start ts) k Held.itself u)) e ∙ ap isHeld (enter-same (start ts) k Held.itself))
-          (λ n. enter-grows (start ts) k Held.itself refl t (rest .1 n)) (List·Memᴰ·cases-cons m),
+      λ m. ⊎-elim (λ e. ap (λ u. isHeld (enter (start ts) k Held.given u)) e ∙ ap isHeld (enter-same (start ts) k Held.given))
+          (λ n. enter-grows (start ts) k Held.given refl t (rest .1 n)) (List·Memᴰ·cases-cons m),
     )
 
 module _ (free : ℕ → Type 0) {δ ε : Dictionary} (more : (u : Term) → isHeld (δ u) ≡ true → Derives free ε u) where
@@ -138,8 +138,9 @@ module _ (row : Term → ℕ) (δ : Dictionary) where
   short-or : (h : Held) (t : Term) (i : Image) → length (words row i) ≤ size t → length (words row (imageOr h t i)) ≤ size t
   unfolding words imageOr
   short-or Held.free t i l = l
-  short-or Held.itself t i l = size-two t
-  short-or (Held.placeholder x) t i l = size-two t
+  short-or Held.given t i l = size-two t
+  short-or (Held.made s) t i l = size-two t
+  short-or (Held.stored s x) t i l = size-two t
 
   mutual
     unfolding image words size

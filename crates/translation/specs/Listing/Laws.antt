@@ -15,11 +15,11 @@ use Rattle.terms.specs.Table.Laws.{term-row}
 use Rattle.book.specs.Layout.{table, rows}
 use Rattle.book.specs.Valid.{Valid}
 use Rattle.book.specs.Valid.Laws.{formed}
-use Rattle.translation.specs.Receive.{Event}
+use Rattle.translation.specs.Receive.{Event, Stored}
 use Rattle.translation.specs.Program.{actsOf}
 use Rattle.translation.specs.Program.Laws.{program-own}
 use Rattle.translation.specs.Narration.{narration, knownTo, programOf}
-use Rattle.translation.specs.Listing.{pairWords, eventWords, programWords, partWords}
+use Rattle.translation.specs.Listing.{tripleWords, eventWords, programWords, partWords}
 
 -- ---- in two parts
 pub program-append : (row : Term → ℕ) (es fs : List Event) → programWords row (es ++ fs) ≡ programWords row es ++ programWords row fs
@@ -28,10 +28,10 @@ program-append row [] fs = refl
 program-append row (e ∷ es) fs =
     ap (λ l. eventWords row e ++ l) (program-append row es fs) ∙ sym (append-assoc (eventWords row e) (programWords row es) (programWords row fs))
 
-pub pairs-append : (row : Term → ℕ) (ps qs : List (Term × ℕ)) → pairWords row (ps ++ qs) ≡ pairWords row ps ++ pairWords row qs
-unfolding pairWords
-pairs-append row [] qs = refl
-pairs-append row (p ∷ ps) qs = ap (λ l. row (p .0) ∷ p .1 ∷ l) (pairs-append row ps qs)
+pub triples-append : (row : Term → ℕ) (ps qs : List Stored) → tripleWords row (ps ++ qs) ≡ tripleWords row ps ++ tripleWords row qs
+unfolding tripleWords
+triples-append row [] qs = refl
+triples-append row (p ∷ ps) qs = ap (λ l. row (p .0) ∷ p .1 ∷ p .2 ∷ l) (triples-append row ps qs)
 
 -- ---- a party's listing is its own business
 -- two books have equal rows

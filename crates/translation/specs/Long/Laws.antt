@@ -20,11 +20,11 @@ use Rattle.translation.specs.Dictionary.Laws.{image-short}
 use Rattle.translation.specs.Build.{buildAll}
 use Rattle.translation.specs.Build.Laws.{buildAll-made}
 use Rattle.translation.specs.Along.Laws.{buildAll-short}
-use Rattle.translation.specs.Receive.{Event, Did, nothing, followed, rule, byRule, compared, kept, opened, receive, receiveAll}
+use Rattle.translation.specs.Receive.{Event, Stored, Did, nothing, followed, rule, byRule, compared, kept, opened, receive, receiveAll}
 use Rattle.translation.specs.Receive.Laws.{by-rule}
 use Rattle.translation.specs.Program.{sent, arrived}
 use Rattle.translation.specs.Stored.Laws.{walked-few}
-use Rattle.translation.specs.Listing.{pairWords, eventWords, programWords, heads, bodies, framed, partWords, listing}
+use Rattle.translation.specs.Listing.{tripleWords, eventWords, programWords, heads, bodies, framed, partWords, listing}
 use Rattle.translation.specs.Spelling.Laws.{heads-length}
 use Rattle.translation.specs.Steps.Laws.{step-sends, step-receives, step-idle, before-none, before-more, before-all}
 use Rattle.translation.specs.Steps.{stepDid, before}
@@ -52,13 +52,13 @@ module _ (row : Term → ℕ) where
       let e = program-one (Event.checks p (image δ t)) in
       record { given = omega arith; stored = omega arith; words = omega arith }
 
-  small-kept : (t : Term) (p : ℕ) (δ : Dictionary) → Small row 1 (size t) (kept t p δ)
+  small-kept : (s : ℕ) (t : Term) (p : ℕ) (δ : Dictionary) → Small row 1 (size t) (kept s t p δ)
   unfolding programWords
-  small-kept t p δ = let h = size-two t in record { given = omega arith; stored = omega arith; words = omega arith }
+  small-kept s t p δ = let h = size-two t in record { given = omega arith; stored = omega arith; words = omega arith }
 
-  small-rule : (t : Term) (p : ℕ) (δ : Dictionary) (o : Did) → Small row 1 (size t) o
-      → Small row 1 (size t) (byRule (rule δ t) (compared t p δ) o (kept t p δ))
-  small-rule t p δ o h = by-rule (Small row 1 (size t)) (rule δ t) _ _ _ (small-compared t p δ) h (small-kept t p δ)
+  small-rule : (s : ℕ) (t : Term) (p : ℕ) (δ : Dictionary) (o : Did) → Small row 1 (size t) o
+      → Small row 1 (size t) (byRule (rule δ t) (compared t p δ) o (kept s t p δ))
+  small-rule s t p δ o h = by-rule (Small row 1 (size t)) (rule δ t) _ _ _ (small-compared t p δ) h (small-kept s t p δ)
 
   small-opened : (k : Term) (ts : Terms) (p : ℕ) (δ : Dictionary) (n : ℕ) (d : Did) → Small row (count ts) (sizes ts) d
       → Small row 1 (size (Term.cipher k ts)) (followed (opened k ts p δ n) d)
@@ -96,16 +96,16 @@ module _ (row : Term → ℕ) where
   mutual
     unfolding receive size count
 
-    pub receive-small : (t : Term) (p : ℕ) (δ : Dictionary) (n : ℕ) → Small row 1 (size t) (receive t p δ n)
-    receive-small (Term.atom r) p δ n = small-rule (Term.atom r) p δ _ (small-nothing _ δ (omega arith))
-    receive-small (Term.operation g ts) p δ n = small-rule (Term.operation g ts) p δ _ (small-nothing _ δ (omega arith))
-    receive-small (Term.cipher k ts) p δ n = small-rule (Term.cipher k ts) p δ _ (small-opened k ts p δ n _ (receiveAll-small ts n δ (n + count ts)))
-    receive-small (Term.public t) p δ n = small-rule (Term.public t) p δ _ (small-nothing _ δ (omega arith))
-    receive-small (Term.private t) p δ n = small-rule (Term.private t) p δ _ (small-nothing _ δ (omega arith))
+    pub receive-small : (s : ℕ) (t : Term) (p : ℕ) (δ : Dictionary) (n : ℕ) → Small row 1 (size t) (receive s t p δ n)
+    receive-small s (Term.atom r) p δ n = small-rule s (Term.atom r) p δ _ (small-nothing _ δ (omega arith))
+    receive-small s (Term.operation g ts) p δ n = small-rule s (Term.operation g ts) p δ _ (small-nothing _ δ (omega arith))
+    receive-small s (Term.cipher k ts) p δ n = small-rule s (Term.cipher k ts) p δ _ (small-opened k ts p δ n _ (receiveAll-small s ts n δ (n + count ts)))
+    receive-small s (Term.public t) p δ n = small-rule s (Term.public t) p δ _ (small-nothing _ δ (omega arith))
+    receive-small s (Term.private t) p δ n = small-rule s (Term.private t) p δ _ (small-nothing _ δ (omega arith))
 
-    pub receiveAll-small : (ts : Terms) (p : ℕ) (δ : Dictionary) (n : ℕ) → Small row (count ts) (sizes ts) (receiveAll ts p δ n)
-    receiveAll-small Terms.nil p δ n = small-none δ
-    receiveAll-small (Terms.cons t ts) p δ n = small-then (receive-small t p δ n) (receiveAll-small ts (suc p) _ _)
+    pub receiveAll-small : (s : ℕ) (ts : Terms) (p : ℕ) (δ : Dictionary) (n : ℕ) → Small row (count ts) (sizes ts) (receiveAll s ts p δ n)
+    receiveAll-small s Terms.nil p δ n = small-none δ
+    receiveAll-small s (Terms.cons t ts) p δ n = small-then (receive-small s t p δ n) (receiveAll-small s ts (suc p) _ _)
 
   -- ---- doings within bounds
   within-nothing : (g w : ℕ) (δ : Dictionary) → Within row g w (nothing δ)
@@ -126,11 +126,8 @@ module _ (row : Term → ℕ) where
       record { given = omega arith; stored = omega arith; words = omega arith }
 
 -- ---- the same, number by number
-pub receiveAll-given : (ts : Terms) (p : ℕ) (δ : Dictionary) (n : ℕ) → count ts + length (receiveAll ts p δ n .given) ≤ sizes ts
-receiveAll-given ts p δ n = receiveAll-small (λ u. 0) ts p δ n .given
-
-pub receiveAll-stored : (ts : Terms) (p : ℕ) (δ : Dictionary) (n : ℕ) → length (receiveAll ts p δ n .stored) ≤ sizes ts
-receiveAll-stored ts p δ n = receiveAll-small (λ u. 0) ts p δ n .stored
+pub receiveAll-given : (s : ℕ) (ts : Terms) (p : ℕ) (δ : Dictionary) (n : ℕ) → count ts + length (receiveAll s ts p δ n .given) ≤ sizes ts
+receiveAll-given s ts p δ n = receiveAll-small (λ u. 0) s ts p δ n .given
 
 -- ---- sending
 pub news-words : (row : Term → ℕ) (rs : List ℕ) → length (programWords row (map Event.new rs)) ≡ 2 * length rs
@@ -139,15 +136,15 @@ news-words row [] = refl
 news-words row (r ∷ rs) = let h = news-words row rs in omega arith
 
 pub sent-words : (row : Term → ℕ) (i : ℕ) (ts : Terms) (δ : Dictionary)
-    → length (programWords row (sent i (buildAll ts δ) .events)) ≤ 3 + 2 * sizes ts
+    → length (programWords row (sent i (buildAll i ts δ) .events)) ≤ 3 + 2 * sizes ts
 unfolding eventWords
 sent-words row i ts δ =
-    let c = buildAll ts δ in
+    let c = buildAll i ts δ in
     let f = program-then row (map Event.new (c .made)) (Event.sends i (c .images) ∷ []) in
     let e = program-one row (Event.sends i (c .images)) in
     let g = news-words row (c .made) in
-    let h = buildAll-made ts δ in
-    let w = buildAll-short row ts δ in
+    let h = buildAll-made i ts δ in
+    let w = buildAll-short row i ts δ in
     omega arith
 
 -- ---- a step
@@ -172,7 +169,7 @@ module _ (b : List ℕ) (v : Valid b) where
       omega arith
 
   module _ (row : Term → ℕ) where
-    within-sent : (s : ℕ) → s < steps b → (δ : Dictionary) → Within row stepSize stepWords (sent s (buildAll (terms (table b) (messages b s)) δ))
+    within-sent : (s : ℕ) → s < steps b → (δ : Dictionary) → Within row stepSize stepWords (sent s (buildAll s (terms (table b) (messages b s)) δ))
     within-sent s h δ =
         let k = step-sizes s h in
         let w = sent-words row s (terms (table b) (messages b s)) δ in
@@ -181,13 +178,13 @@ module _ (b : List ℕ) (v : Valid b) where
     within-arrived : (s : ℕ) → s < steps b → (δ : Dictionary) (n : ℕ)
         → Within row stepSize stepWords
         (followed (arrived s (terms (table b) (messages b s)) δ n)
-        (receiveAll (terms (table b) (messages b s)) n δ (n + count (terms (table b) (messages b s)))))
+        (receiveAll s (terms (table b) (messages b s)) n δ (n + count (terms (table b) (messages b s)))))
     unfolding eventWords
     within-arrived s h δ n =
         let ts = terms (table b) (messages b s) in
-        let d = receiveAll ts n δ (n + count ts) in
+        let d = receiveAll s ts n δ (n + count ts) in
         let k = step-sizes s h in
-        let small = receiveAll-small row ts n δ (n + count ts) in
+        let small = receiveAll-small row s ts n δ (n + count ts) in
         let x = small .given in
         let y = small .stored in
         let z = small .words in
@@ -224,12 +221,9 @@ module _ (b : List ℕ) (v : Valid b) where
         let z = k .words in
         record { given = omega arith; stored = omega arith; words = omega arith }
 
-  -- before a step there is room for all that the step can give and store
+  -- before a step there is room for all that the step can give
   pub given-room : (p i : ℕ) → i < steps b → length (before b p i .given) + stepSize ≤ mostPlaceholders
   given-room p i h = let k = before-within (λ t. 0) p i (omega arith) .given in let m = valid-headed b v .fewSteps in omega arith
-
-  pub stored-room : (p i : ℕ) → i < steps b → length (before b p i .stored) + stepSize ≤ mostPlaceholders
-  stored-room p i h = let k = before-within (λ t. 0) p i (omega arith) .stored in let m = valid-headed b v .fewSteps in omega arith
 
   -- and in all a party stores no more terms than there are rows
   pub stored-few : (p i : ℕ) → i ≤ steps b → length (before b p i .stored) ≤ rows b
@@ -237,20 +231,20 @@ module _ (b : List ℕ) (v : Valid b) where
   stored-few p i h = walked-few b v _ p i h
 
 -- ---- the words of a program and of a listing
-pub pairs-length : (row : Term → ℕ) (ps : List (Term × ℕ)) → length (pairWords row ps) ≡ 2 * length ps
-unfolding pairWords
-pairs-length row [] = refl
-pairs-length row (p ∷ ps) = let h = pairs-length row ps in omega arith
+pub triples-length : (row : Term → ℕ) (ps : List Stored) → length (tripleWords row ps) ≡ 3 * length ps
+unfolding tripleWords
+triples-length row [] = refl
+triples-length row (p ∷ ps) = let h = triples-length row ps in omega arith
 
-pub ends-length : (row : Term → ℕ) (ps : List (Term × ℕ)) → length (eventWords row (Event.ends ps)) ≡ 2 + 2 * length ps
+pub ends-length : (row : Term → ℕ) (ps : List Stored) → length (eventWords row (Event.ends ps)) ≡ 2 + 3 * length ps
 unfolding eventWords
-ends-length row ps = let h = pairs-length row ps in omega arith
+ends-length row ps = let h = triples-length row ps in omega arith
 
 module _ (b : List ℕ) where
   -- how the words of a program come about
   pub part-length : (p : ℕ) → p < parties b
       → length (partWords b p)
-      ≡ length (programWords (number (table b) (rows b)) (before b p (steps b) .events)) + (2 + 2 * length (before b p (steps b) .stored))
+      ≡ length (programWords (number (table b) (rows b)) (before b p (steps b) .events)) + (2 + 3 * length (before b p (steps b) .stored))
   unfolding partWords
   part-length p h =
       let row = number (table b) (rows b) in
@@ -273,7 +267,8 @@ module _ (b : List ℕ) (v : Valid b) where
   part-short p h =
       let k = all-within b v (number (table b) (rows b)) p (steps b) (omega arith) in
       let e = part-length b p h in
-      let y = k .stored in
+      let y = stored-few b v p (steps b) (omega arith) in
+      let few = valid-headed b v .fewRows in
       let z = k .words in
       omega arith
 
@@ -298,8 +293,8 @@ module _ (b : List ℕ) (v : Valid b) where
   listing-short = let e = listing-length b in let k = offset-short (parties b) (omega arith) in omega arith
 
 -- ---- the bounds are far inside a word
-pub part-fits : mostPart < 2 ^ 22
+pub part-fits : mostPart < 2 ^ 21
 part-fits = omega arith
 
-pub listing-fits : mostListing < 2 ^ 27
+pub listing-fits : mostListing < 2 ^ 25
 listing-fits = omega arith

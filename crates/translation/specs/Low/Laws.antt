@@ -33,8 +33,8 @@ use Rattle.translation.specs.Steps.{stepDid, before}
 use Rattle.translation.specs.Steps.Laws.{step-sends, step-receives, step-idle, before-none, before-more, before-all}
 use Rattle.translation.specs.Taken.{stepOf, holdsBefore, madeAt, unplayable, stopRow}
 use Rattle.translation.specs.Taken.Laws.{step-is, stop-there}
-use Rattle.translation.specs.Listing.{pairWords, eventWords, programWords, heads, bodies, framed, partWords, listing}
-use Rattle.translation.specs.Listing.Laws.{program-append, pairs-append}
+use Rattle.translation.specs.Listing.{tripleWords, eventWords, programWords, heads, bodies, framed, partWords, listing}
+use Rattle.translation.specs.Listing.Laws.{program-append, triples-append}
 use Rattle.translation.specs.Long.{stepSize, mostPlaceholders}
 use Rattle.translation.specs.Long.Laws.{step-sizes, receiveAll-given, given-room, all-within, offset-short}
 use Rattle.translation.specs.Low.{wordLimit, Low, HeldLow, HoldsLow, TermLow, TermsLow, DidLow}
@@ -85,9 +85,9 @@ module _ (tab : Table) (n : ℕ) (ok : Formed n tab) where
       let l = i .within in
       omega arith
 
-  pub made-below : (ts : Terms) (δ : Dictionary) → AllRows tab n ts → All (λ r. r < n) (buildAll ts δ .made)
-  made-below ts δ h =
-      members-all (λ r. r < n) (buildAll ts δ .made) (λ r m. atom-below r (atomsIn-rows n tab ok h (buildAll-makes ts δ .within r m)))
+  pub made-below : (s : ℕ) (ts : Terms) (δ : Dictionary) → AllRows tab n ts → All (λ r. r < n) (buildAll s ts δ .made)
+  made-below s ts δ h =
+      members-all (λ r. r < n) (buildAll s ts δ .made) (λ r m. atom-below r (atomsIn-rows n tab ok h (buildAll-makes s ts δ .within r m)))
 
   -- ---- a row's tags and counts
   terms-from : (P : ℕ → Type 0) → ((p : ℕ) → P p → TermLow (term tab p)) → (rs : List ℕ) → All P rs → TermsLow (terms tab rs)
@@ -115,7 +115,7 @@ enter-low δ t h d x u = enter-ind HeldLow δ t h u (λ e. x) (λ e. d u)
 start-low : (ts : List Term) → HoldsLow (start ts)
 unfolding start
 start-low [] u = tt
-start-low (t ∷ ts) u = enter-low (start ts) t Held.itself (start-low ts) tt u
+start-low (t ∷ ts) u = enter-low (start ts) t Held.given (start-low ts) tt u
 
 or-low : (t : Term) (δ : Dictionary) (b : Built) → HoldsLow δ → HoldsLow (b .dictionary) → HoldsLow (builtOr (δ t) t δ b .dictionary)
 or-low t δ b d g = built-or (λ c. HoldsLow (c .dictionary)) (δ t) t δ b (λ i h j. d) (λ e. g)
@@ -123,16 +123,16 @@ or-low t δ b d g = built-or (λ c. HoldsLow (c .dictionary)) (δ t) t δ b (λ 
 mutual
   unfolding build
 
-  build-low : (t : Term) (δ : Dictionary) → HoldsLow δ → HoldsLow (build t δ .dictionary)
-  build-low (Term.atom r) δ d = or-low (Term.atom r) δ _ d (enter-low δ (Term.atom r) Held.itself d tt)
-  build-low (Term.operation g ts) δ d = or-low (Term.operation g ts) δ _ d (buildAll-low ts δ d)
-  build-low (Term.cipher k ts) δ d = or-low (Term.cipher k ts) δ _ d (buildAll-low ts (build k δ .dictionary) (build-low k δ d))
-  build-low (Term.public t) δ d = or-low (Term.public t) δ _ d (build-low t δ d)
-  build-low (Term.private t) δ d = or-low (Term.private t) δ _ d (build-low t δ d)
+  build-low : (s : ℕ) (t : Term) (δ : Dictionary) → HoldsLow δ → HoldsLow (build s t δ .dictionary)
+  build-low s (Term.atom r) δ d = or-low (Term.atom r) δ _ d (enter-low δ (Term.atom r) (Held.made s) d tt)
+  build-low s (Term.operation g ts) δ d = or-low (Term.operation g ts) δ _ d (buildAll-low s ts δ d)
+  build-low s (Term.cipher k ts) δ d = or-low (Term.cipher k ts) δ _ d (buildAll-low s ts (build s k δ .dictionary) (build-low s k δ d))
+  build-low s (Term.public t) δ d = or-low (Term.public t) δ _ d (build-low s t δ d)
+  build-low s (Term.private t) δ d = or-low (Term.private t) δ _ d (build-low s t δ d)
 
-  buildAll-low : (ts : Terms) (δ : Dictionary) → HoldsLow δ → HoldsLow (buildAll ts δ .dictionary)
-  buildAll-low Terms.nil δ d = d
-  buildAll-low (Terms.cons t ts) δ d = buildAll-low ts (build t δ .dictionary) (build-low t δ d)
+  buildAll-low : (s : ℕ) (ts : Terms) (δ : Dictionary) → HoldsLow δ → HoldsLow (buildAll s ts δ .dictionary)
+  buildAll-low s Terms.nil δ d = d
+  buildAll-low s (Terms.cons t ts) δ d = buildAll-low s ts (build s t δ .dictionary) (build-low s t δ d)
 
 images-count : (δ : Dictionary) (ts : Terms) → countImages (images δ ts) ≡ count ts
 unfolding images countImages count
@@ -149,15 +149,16 @@ module _ (row : Term → ℕ) where
   low-program es fs h k = rw (program-append row es fs) (low-append (programWords row es) (programWords row fs) h k)
 
   low-nothing : (δ : Dictionary) → HoldsLow δ → DidLow row (nothing δ)
-  unfolding programWords pairWords
-  low-nothing δ d = record { holds = d; words = tt; pairs = tt }
+  unfolding programWords tripleWords
+  low-nothing δ d = record { holds = d; words = tt; triples = tt }
 
   low-then : (d e : Did) → DidLow row d → DidLow row e → DidLow row (followed d e)
   low-then d e h k =
       record {
         holds = k .holds;
         words = low-program (d .events) (e .events) (h .words) (k .words);
-        pairs = rw (pairs-append row (d .stored) (e .stored)) (low-append (pairWords row (d .stored)) (pairWords row (e .stored)) (h .pairs) (k .pairs));
+        triples = rw (triples-append row (d .stored) (e .stored))
+            (low-append (tripleWords row (d .stored)) (tripleWords row (e .stored)) (h .triples) (k .triples));
       }
 
   -- ---- sending
@@ -171,8 +172,9 @@ module _ (row : Term → ℕ) (few : (t : Term) → row t < wordLimit) where
   image-or : (h : Held) (t : Term) (i : Image) → HeldLow h → Low (words row i) → Low (words row (imageOr h t i))
   unfolding words imageOr
   image-or Held.free t i h l = l
-  image-or Held.itself t i h l = (omega arith, (few t, tt))
-  image-or (Held.placeholder x) t i h l = (omega arith, (h, tt))
+  image-or Held.given t i h l = (omega arith, (few t, tt))
+  image-or (Held.made s) t i h l = (omega arith, (few t, tt))
+  image-or (Held.stored s x) t i h l = (omega arith, (h, tt))
 
   mutual
     unfolding image words
@@ -200,57 +202,57 @@ module _ (row : Term → ℕ) (few : (t : Term) → row t < wordLimit) where
   -- ---- receiving: the term at placeholder p
   module _ (p : ℕ) (l : p < wordLimit) (δ : Dictionary) (d : HoldsLow δ) where
     low-compared : (t : Term) → TermLow t → DidLow row (compared t p δ)
-    unfolding eventWords pairWords
-    low-compared t h = record { holds = d; words = low-one row (Event.checks p (image δ t)) (omega arith, (l, image-low δ d t h)); pairs = tt }
+    unfolding eventWords tripleWords
+    low-compared t h = record { holds = d; words = low-one row (Event.checks p (image δ t)) (omega arith, (l, image-low δ d t h)); triples = tt }
 
-    low-kept : (t : Term) → DidLow row (kept t p δ)
-    unfolding programWords pairWords
-    low-kept t = record { holds = enter-low δ t (Held.placeholder p) d l; words = tt; pairs = (few t, (l, tt)) }
+    low-kept : (s : ℕ) → s < wordLimit → (t : Term) → DidLow row (kept s t p δ)
+    unfolding programWords tripleWords
+    low-kept s z t = record { holds = enter-low δ t (Held.stored s p) d l; words = tt; triples = (few t, (l, (z, tt))) }
 
     low-opened : (k : Term) (ts : Terms) (n : ℕ) → TermLow k → n + count ts < wordLimit → DidLow row (opened k ts p δ n)
-    unfolding eventWords pairWords
+    unfolding eventWords tripleWords
     low-opened k ts n h m =
         record {
           holds = d;
           words = low-one row (Event.opens p n (count ts) (image δ (partner k)))
               (omega arith, (l, (omega arith, (omega arith, image-low δ d (partner k) (partner-low h)))));
-          pairs = tt;
+          triples = tt;
         }
 
   -- where n is the next placeholder, and all that are given are low
   abbrev Bounded : ℕ → Did → Type 0
   Bounded n e = n + length (e .given) < wordLimit → DidLow row e
 
-  low-rule : (t : Term) (p : ℕ) (δ : Dictionary) (n : ℕ) (o : Did) → TermLow t → p < wordLimit → HoldsLow δ → Bounded n o
-      → Bounded n (byRule (rule δ t) (compared t p δ) o (kept t p δ))
-  low-rule t p δ n o h l d k = by-rule (Bounded n) (rule δ t) _ _ _ (λ g. low-compared p l δ d t h) k (λ g. low-kept p l δ d t)
+  low-rule : (s : ℕ) → s < wordLimit → (t : Term) (p : ℕ) (δ : Dictionary) (n : ℕ) (o : Did) → TermLow t → p < wordLimit → HoldsLow δ → Bounded n o
+      → Bounded n (byRule (rule δ t) (compared t p δ) o (kept s t p δ))
+  low-rule s z t p δ n o h l d k = by-rule (Bounded n) (rule δ t) _ _ _ (λ g. low-compared p l δ d t h) k (λ g. low-kept p l δ d s z t)
 
   mutual
     unfolding receive count listed
 
-    receive-low : (t : Term) (p : ℕ) (δ : Dictionary) (n : ℕ) → TermLow t → p < wordLimit → HoldsLow δ → Bounded n (receive t p δ n)
-    receive-low (Term.atom r) p δ n h l d = low-rule (Term.atom r) p δ n _ h l d (λ g. low-nothing row δ d)
-    receive-low (Term.operation f ts) p δ n h l d = low-rule (Term.operation f ts) p δ n _ h l d (λ g. low-nothing row δ d)
-    receive-low (Term.cipher k ts) p δ n (TermLow.cipher c x h) l d =
-        low-rule (Term.cipher k ts) p δ n _ (TermLow.cipher c x h) l d
+    receive-low : (s : ℕ) → s < wordLimit → (t : Term) (p : ℕ) (δ : Dictionary) (n : ℕ) → TermLow t → p < wordLimit → HoldsLow δ → Bounded n (receive s t p δ n)
+    receive-low s z (Term.atom r) p δ n h l d = low-rule s z (Term.atom r) p δ n _ h l d (λ g. low-nothing row δ d)
+    receive-low s z (Term.operation f ts) p δ n h l d = low-rule s z (Term.operation f ts) p δ n _ h l d (λ g. low-nothing row δ d)
+    receive-low s z (Term.cipher k ts) p δ n (TermLow.cipher c x h) l d =
+        low-rule s z (Term.cipher k ts) p δ n _ (TermLow.cipher c x h) l d
         (λ g.
-        let e = receiveAll ts n δ (n + count ts) in
+        let e = receiveAll s ts n δ (n + count ts) in
         let a = length-append (listed ts) (e .given) in
         let q = count-listed ts in
         low-then row (opened k ts p δ n) e (low-opened p l δ d k ts n x (omega arith))
-        (receiveAll-low ts n δ (n + count ts) h (omega arith) d (omega arith)))
-    receive-low (Term.public t) p δ n h l d = low-rule (Term.public t) p δ n _ h l d (λ g. low-nothing row δ d)
-    receive-low (Term.private t) p δ n h l d = low-rule (Term.private t) p δ n _ h l d (λ g. low-nothing row δ d)
+        (receiveAll-low s z ts n δ (n + count ts) h (omega arith) d (omega arith)))
+    receive-low s z (Term.public t) p δ n h l d = low-rule s z (Term.public t) p δ n _ h l d (λ g. low-nothing row δ d)
+    receive-low s z (Term.private t) p δ n h l d = low-rule s z (Term.private t) p δ n _ h l d (λ g. low-nothing row δ d)
 
-    receiveAll-low : (ts : Terms) (p : ℕ) (δ : Dictionary) (n : ℕ) → TermsLow ts → p + count ts ≤ wordLimit → HoldsLow δ
-        → Bounded n (receiveAll ts p δ n)
-    receiveAll-low Terms.nil p δ n h l d g = low-nothing row δ d
-    receiveAll-low (Terms.cons t ts) p δ n (TermsLow.cons x h) l d g =
-        let f = receive t p δ n in
-        let e = receiveAll ts (suc p) (f .dictionary) (n + length (f .given)) in
+    receiveAll-low : (s : ℕ) → s < wordLimit → (ts : Terms) (p : ℕ) (δ : Dictionary) (n : ℕ) → TermsLow ts → p + count ts ≤ wordLimit → HoldsLow δ
+        → Bounded n (receiveAll s ts p δ n)
+    receiveAll-low s z Terms.nil p δ n h l d g = low-nothing row δ d
+    receiveAll-low s z (Terms.cons t ts) p δ n (TermsLow.cons x h) l d g =
+        let f = receive s t p δ n in
+        let e = receiveAll s ts (suc p) (f .dictionary) (n + length (f .given)) in
         let a = length-append (f .given) (e .given) in
-        let k = receive-low t p δ n x (omega arith) d (omega arith) in
-        low-then row f e k (receiveAll-low ts (suc p) (f .dictionary) (n + length (f .given)) h (omega arith) (k .holds) (omega arith))
+        let k = receive-low s z t p δ n x (omega arith) d (omega arith) in
+        low-then row f e k (receiveAll-low s z ts (suc p) (f .dictionary) (n + length (f .given)) h (omega arith) (k .holds) (omega arith))
 
 -- ---- heads: offsets and counts of what ends below
 heads-low : (o : ℕ) (ls : List (List ℕ)) → o + length (bodies ls) < wordLimit → Low (heads o ls)
@@ -266,7 +268,7 @@ module _ (b : List ℕ) (v : Valid b) where
   step-listed : (s : ℕ) → s < steps b → All (λ r. r < rows b) (messages b s)
   step-listed s h = all-run (λ r. r < rows b) b (begins b 3 + stepFirst b s) (stepCount b s) (v .stepsKeep s h .listed .each)
 
-  step-rows : (s : ℕ) → s < steps b → AllRows (table b) (rows b) (terms (table b) (messages b s))
+  pub step-rows : (s : ℕ) → s < steps b → AllRows (table b) (rows b) (terms (table b) (messages b s))
   step-rows s h = rows-listed (rows b) (table b) ok (messages b s) (step-listed s h)
 
   -- ---- the row of refusals 10 and 13
@@ -276,7 +278,7 @@ module _ (b : List ℕ) (v : Valid b) where
       let N = narration b in
       let f = stop-there N s u in
       let r : AllRows (table b) (rows b) (stepOf N s .messages) = rw (step-is b s h) (step-rows s h) in
-      let a = made-below (table b) (rows b) ok (stepOf N s .messages) (holdsBefore N (stepOf N s .sender) s) r in
+      let a = made-below (table b) (rows b) ok s (stepOf N s .messages) (holdsBefore N (stepOf N s .sender) s) r in
       let l = all-getD (λ q. q < rows b) (madeAt N s) a (f .place) (f .within) in
       let e = f .row in
       omega arith
@@ -295,43 +297,43 @@ module _ (b : List ℕ) (v : Valid b) where
     said-low : TermsLow said
     said-low = terms-low (table b) (rows b) ok (messages b s) (step-listed s h)
 
-    sent-low : DidLow row (sent s (buildAll said δ))
-    unfolding eventWords pairWords
+    sent-low : DidLow row (sent s (buildAll s said δ))
+    unfolding eventWords tripleWords
     sent-low =
-        let c = buildAll said δ in
-        let ε = buildAll-low said δ d in
+        let c = buildAll s said δ in
+        let ε = buildAll-low s said δ d in
         let m = valid-headed b v in
         let fr = m .fewRows in
         let fs = m .fewSteps in
         let n = images-count (c .dictionary) said in
-        let z = receiveAll-given said 0 δ 0 in
+        let z = receiveAll-given s said 0 δ 0 in
         let k = step-sizes b v s h in
         let e : Low (eventWords row (Event.sends s (images (c .dictionary) said))) =
         (omega arith, (omega arith, (omega arith, images-low row row-few (c .dictionary) ε said said-low))) in
         let w : Low (programWords row (Event.sends s (c .images) ∷ [])) =
-        low-one row (Event.sends s (c .images)) (rw (buildAll-images said δ) e) in
+        low-one row (Event.sends s (c .images)) (rw (buildAll-images s said δ) e) in
         let a : Low (c .made) =
-        all-imp (λ r. r < rows b) (λ r. r < wordLimit) (λ r l. omega arith) (c .made) (made-below (table b) (rows b) ok said δ (step-rows s h)) in
+        all-imp (λ r. r < rows b) (λ r. r < wordLimit) (λ r l. omega arith) (c .made) (made-below (table b) (rows b) ok s said δ (step-rows s h)) in
         record {
           holds = ε;
           words = low-program row (map Event.new (c .made)) (Event.sends s (c .images) ∷ []) (news-low row (c .made) a) w;
-          pairs = tt;
+          triples = tt;
         }
 
-    arrived-low : (n : ℕ) → n + stepSize ≤ mostPlaceholders → DidLow row (followed (arrived s said δ n) (receiveAll said n δ (n + count said)))
-    unfolding eventWords pairWords
+    arrived-low : (n : ℕ) → n + stepSize ≤ mostPlaceholders → DidLow row (followed (arrived s said δ n) (receiveAll s said n δ (n + count said)))
+    unfolding eventWords tripleWords
     arrived-low n l =
-        let e = receiveAll said n δ (n + count said) in
-        let z = receiveAll-given said n δ (n + count said) in
+        let e = receiveAll s said n δ (n + count said) in
+        let z = receiveAll-given s said n δ (n + count said) in
         let k = step-sizes b v s h in
         let m = valid-headed b v .fewSteps in
         low-then row (arrived s said δ n) e
         (record {
           holds = d;
           words = low-one row (Event.receives s n (count said)) (omega arith, (omega arith, (omega arith, (omega arith, tt))));
-          pairs = tt;
+          triples = tt;
         })
-        (receiveAll-low row row-few said n δ (n + count said) said-low (omega arith) d (omega arith))
+        (receiveAll-low row row-few s (omega arith) said n δ (n + count said) said-low (omega arith) d (omega arith))
 
     step-low : (p n : ℕ) → n + stepSize ≤ mostPlaceholders → DidLow row (stepDid b p s δ n)
     step-low p n l = go (ℕ-discrete (sender b s) p) (ℕ-discrete (receiver b s) p)
@@ -361,7 +363,7 @@ module _ (b : List ℕ) (v : Valid b) where
       let m = all-within b v row p (steps b) (omega arith) .stored in
       rw (before-all b p h)
       (low-program row (d .events) (Event.ends (d .stored) ∷ []) (k .words)
-      (low-one row (Event.ends (d .stored)) (omega arith, (omega arith, k .pairs))))
+      (low-one row (Event.ends (d .stored)) (omega arith, (omega arith, k .triples))))
 
   bodies-low : (i n : ℕ) → i + n ≤ parties b → Low (bodies (values (partWords b) i n))
   unfolding bodies values

@@ -49,5 +49,5 @@ module _ (t : Event → Bool) where
     none-quiet (Quiet.checks h) = (checks _ _, none-quiet h)
     none-quiet (Quiet.opens h) = (opens _ _ _ _, none-quiet h)
 
-    pub none-receiveAll : (us : Terms) (p : ℕ) (δ : Dictionary) (n : ℕ) → None t (receiveAll us p δ n .events)
-    none-receiveAll us p δ n = none-quiet (receiveAll-quiet us p δ n)
+    pub none-receiveAll : (s : ℕ) (us : Terms) (p : ℕ) (δ : Dictionary) (n : ℕ) → None t (receiveAll s us p δ n .events)
+    none-receiveAll s us p δ n = none-quiet (receiveAll-quiet s us p δ n)

@@ -76,8 +76,8 @@ walk-append (c ∷ a) b δ n =
 -- ---- what is held stays held: a party gains by sending what it makes, and by receiving what it stores
 act-grows : (a : Act) (δ : Dictionary) (n : ℕ) → Grows δ (act a δ n .dictionary)
 unfolding act
-act-grows (Act.sends i ts) δ n = buildAll-makes ts δ .grows
-act-grows (Act.receives i ts) δ n = receiveAll-grows ts n δ (n + count ts)
+act-grows (Act.sends i ts) δ n = buildAll-makes i ts δ .grows
+act-grows (Act.receives i ts) δ n = receiveAll-grows i ts n δ (n + count ts)
 
 pub walk-grows : (acts : List Act) (δ : Dictionary) (n : ℕ) → Grows δ (walk acts δ n .dictionary)
 unfolding walk

@@ -58,21 +58,21 @@ by-rule P Rule.store c o s f g h = h
 
 -- ---- receive
 -- what opening adds; a term that is no cipher is never opened
-unfoldable pub opening : Term → ℕ → Dictionary → ℕ → Did
-opening (Term.atom r) p δ n = nothing δ
-opening (Term.operation g ts) p δ n = nothing δ
-opening (Term.cipher k ts) p δ n = followed (opened k ts p δ n) (receiveAll ts n δ (n + count ts))
-opening (Term.public t) p δ n = nothing δ
-opening (Term.private t) p δ n = nothing δ
+unfoldable pub opening : (s : ℕ) → Term → ℕ → Dictionary → ℕ → Did
+opening s (Term.atom r) p δ n = nothing δ
+opening s (Term.operation g ts) p δ n = nothing δ
+opening s (Term.cipher k ts) p δ n = followed (opened k ts p δ n) (receiveAll s ts n δ (n + count ts))
+opening s (Term.public t) p δ n = nothing δ
+opening s (Term.private t) p δ n = nothing δ
 
-pub receive-rule : (t : Term) (p : ℕ) (δ : Dictionary) (n : ℕ) → receive t p δ n
-    ≡ byRule (rule δ t) (compared t p δ) (opening t p δ n) (kept t p δ)
+pub receive-rule : (s : ℕ) (t : Term) (p : ℕ) (δ : Dictionary) (n : ℕ) → receive s t p δ n
+    ≡ byRule (rule δ t) (compared t p δ) (opening s t p δ n) (kept s t p δ)
 unfolding receive opening
-receive-rule (Term.atom r) p δ n = refl
-receive-rule (Term.operation g ts) p δ n = refl
-receive-rule (Term.cipher k ts) p δ n = refl
-receive-rule (Term.public t) p δ n = refl
-receive-rule (Term.private t) p δ n = refl
+receive-rule s (Term.atom r) p δ n = refl
+receive-rule s (Term.operation g ts) p δ n = refl
+receive-rule s (Term.cipher k ts) p δ n = refl
+receive-rule s (Term.public t) p δ n = refl
+receive-rule s (Term.private t) p δ n = refl
 
 -- ---- the events of receiving: comparisons and openings only
 pub data Quiet : List Event → Type 0 where
@@ -88,26 +88,26 @@ quiet-append (Quiet.opens h) k = Quiet.opens (quiet-append h k)
 mutual
   unfolding receive
 
-  receive-quiet : (t : Term) (x : ℕ) (δ : Dictionary) (n : ℕ) → Quiet (receive t x δ n .events)
-  receive-quiet (Term.atom r) x δ n = by-rule (λ d. Quiet (d .events)) _ _ _ _ (Quiet.checks Quiet.nil) Quiet.nil Quiet.nil
-  receive-quiet (Term.operation g ts) x δ n = by-rule (λ d. Quiet (d .events)) _ _ _ _ (Quiet.checks Quiet.nil) Quiet.nil Quiet.nil
-  receive-quiet (Term.cipher k ts) x δ n =
-      by-rule (λ d. Quiet (d .events)) _ _ _ _ (Quiet.checks Quiet.nil) (Quiet.opens (receiveAll-quiet ts n δ _)) Quiet.nil
-  receive-quiet (Term.public t) x δ n = by-rule (λ d. Quiet (d .events)) _ _ _ _ (Quiet.checks Quiet.nil) Quiet.nil Quiet.nil
-  receive-quiet (Term.private t) x δ n = by-rule (λ d. Quiet (d .events)) _ _ _ _ (Quiet.checks Quiet.nil) Quiet.nil Quiet.nil
+  receive-quiet : (s : ℕ) (t : Term) (x : ℕ) (δ : Dictionary) (n : ℕ) → Quiet (receive s t x δ n .events)
+  receive-quiet s (Term.atom r) x δ n = by-rule (λ d. Quiet (d .events)) _ _ _ _ (Quiet.checks Quiet.nil) Quiet.nil Quiet.nil
+  receive-quiet s (Term.operation g ts) x δ n = by-rule (λ d. Quiet (d .events)) _ _ _ _ (Quiet.checks Quiet.nil) Quiet.nil Quiet.nil
+  receive-quiet s (Term.cipher k ts) x δ n =
+      by-rule (λ d. Quiet (d .events)) _ _ _ _ (Quiet.checks Quiet.nil) (Quiet.opens (receiveAll-quiet s ts n δ _)) Quiet.nil
+  receive-quiet s (Term.public t) x δ n = by-rule (λ d. Quiet (d .events)) _ _ _ _ (Quiet.checks Quiet.nil) Quiet.nil Quiet.nil
+  receive-quiet s (Term.private t) x δ n = by-rule (λ d. Quiet (d .events)) _ _ _ _ (Quiet.checks Quiet.nil) Quiet.nil Quiet.nil
 
-  pub receiveAll-quiet : (ts : Terms) (x : ℕ) (δ : Dictionary) (n : ℕ) → Quiet (receiveAll ts x δ n .events)
-  receiveAll-quiet Terms.nil x δ n = Quiet.nil
-  receiveAll-quiet (Terms.cons t ts) x δ n = quiet-append (receive-quiet t x δ n) (receiveAll-quiet ts (suc x) _ _)
+  pub receiveAll-quiet : (s : ℕ) (ts : Terms) (x : ℕ) (δ : Dictionary) (n : ℕ) → Quiet (receiveAll s ts x δ n .events)
+  receiveAll-quiet s Terms.nil x δ n = Quiet.nil
+  receiveAll-quiet s (Terms.cons t ts) x δ n = quiet-append (receive-quiet s t x δ n) (receiveAll-quiet s ts (suc x) _ _)
 
 -- ---- how many events receiving has: each of the c terms at hand, and each that gets a placeholder, is compared, opened or stored
 abbrev Settles : ℕ → Did → Type 0
 Settles c d = length (d .events) + length (d .stored) ≡ c + length (d .given)
 
-settles-rule : (t : Term) (p : ℕ) (δ : Dictionary) (o : Did) → (canOpen δ t ≡ true → Settles 1 o)
-    → Settles 1 (byRule (rule δ t) (compared t p δ) o (kept t p δ))
+settles-rule : (s : ℕ) (t : Term) (p : ℕ) (δ : Dictionary) (o : Did) → (canOpen δ t ≡ true → Settles 1 o)
+    → Settles 1 (byRule (rule δ t) (compared t p δ) o (kept s t p δ))
 unfolding byRule
-settles-rule t p δ o h = rule-ind (λ r. Settles 1 (byRule r (compared t p δ) o (kept t p δ))) δ t (λ e. refl) h (λ e. refl)
+settles-rule s t p δ o h = rule-ind (λ r. Settles 1 (byRule r (compared t p δ) o (kept s t p δ))) δ t (λ e. refl) h (λ e. refl)
 
 settles-then : (c : ℕ) (d e : Did) → Settles 1 d → Settles c e → Settles (suc c) (followed d e)
 settles-then c d e h k =
@@ -126,42 +126,42 @@ settles-opened k ts p δ n d h =
 mutual
   unfolding receive count canOpen
 
-  receive-settles : (t : Term) (p : ℕ) (δ : Dictionary) (n : ℕ) → Settles 1 (receive t p δ n)
-  receive-settles (Term.atom r) p δ n = settles-rule (Term.atom r) p δ (nothing δ) (λ e. absurd (false≢true e))
-  receive-settles (Term.operation g ts) p δ n = settles-rule (Term.operation g ts) p δ (nothing δ) (λ e. absurd (false≢true e))
-  receive-settles (Term.cipher k ts) p δ n =
-      settles-rule (Term.cipher k ts) p δ (followed (opened k ts p δ n) (receiveAll ts n δ (n + count ts)))
-      (λ e. settles-opened k ts p δ n (receiveAll ts n δ (n + count ts)) (receiveAll-settles ts n δ (n + count ts)))
-  receive-settles (Term.public t) p δ n = settles-rule (Term.public t) p δ (nothing δ) (λ e. absurd (false≢true e))
-  receive-settles (Term.private t) p δ n = settles-rule (Term.private t) p δ (nothing δ) (λ e. absurd (false≢true e))
+  receive-settles : (s : ℕ) (t : Term) (p : ℕ) (δ : Dictionary) (n : ℕ) → Settles 1 (receive s t p δ n)
+  receive-settles s (Term.atom r) p δ n = settles-rule s (Term.atom r) p δ (nothing δ) (λ e. absurd (false≢true e))
+  receive-settles s (Term.operation g ts) p δ n = settles-rule s (Term.operation g ts) p δ (nothing δ) (λ e. absurd (false≢true e))
+  receive-settles s (Term.cipher k ts) p δ n =
+      settles-rule s (Term.cipher k ts) p δ (followed (opened k ts p δ n) (receiveAll s ts n δ (n + count ts)))
+      (λ e. settles-opened k ts p δ n (receiveAll s ts n δ (n + count ts)) (receiveAll-settles s ts n δ (n + count ts)))
+  receive-settles s (Term.public t) p δ n = settles-rule s (Term.public t) p δ (nothing δ) (λ e. absurd (false≢true e))
+  receive-settles s (Term.private t) p δ n = settles-rule s (Term.private t) p δ (nothing δ) (λ e. absurd (false≢true e))
 
-  pub receiveAll-settles : (ts : Terms) (p : ℕ) (δ : Dictionary) (n : ℕ)
-      → (let d = receiveAll ts p δ n in length (d .events) + length (d .stored) ≡ count ts + length (d .given))
-  receiveAll-settles Terms.nil p δ n = refl
-  receiveAll-settles (Terms.cons t ts) p δ n =
-      let d = receive t p δ n in
+  pub receiveAll-settles : (s : ℕ) (ts : Terms) (p : ℕ) (δ : Dictionary) (n : ℕ)
+      → (let d = receiveAll s ts p δ n in length (d .events) + length (d .stored) ≡ count ts + length (d .given))
+  receiveAll-settles s Terms.nil p δ n = refl
+  receiveAll-settles s (Terms.cons t ts) p δ n =
+      let d = receive s t p δ n in
       let m = n + length (d .given) in
-      settles-then (count ts) d (receiveAll ts (suc p) (d .dictionary) m) (receive-settles t p δ n) (receiveAll-settles ts (suc p) (d .dictionary) m)
+      settles-then (count ts) d (receiveAll s ts (suc p) (d .dictionary) m) (receive-settles s t p δ n) (receiveAll-settles s ts (suc p) (d .dictionary) m)
 
 -- ---- what is held stays held: a rule enters a term or nothing
-grows-rule : (t : Term) (p : ℕ) (δ : Dictionary) (o : Did) → Grows δ (o .dictionary)
-    → Grows δ (byRule (rule δ t) (compared t p δ) o (kept t p δ) .dictionary)
-grows-rule t p δ o h =
-    by-rule (λ d. Grows δ (d .dictionary)) (rule δ t) (compared t p δ) o (kept t p δ) (λ u k. k) h (enter-grows δ t (Held.placeholder p) refl)
+grows-rule : (s : ℕ) (t : Term) (p : ℕ) (δ : Dictionary) (o : Did) → Grows δ (o .dictionary)
+    → Grows δ (byRule (rule δ t) (compared t p δ) o (kept s t p δ) .dictionary)
+grows-rule s t p δ o h =
+    by-rule (λ d. Grows δ (d .dictionary)) (rule δ t) (compared t p δ) o (kept s t p δ) (λ u k. k) h (enter-grows δ t (Held.stored s p) refl)
 
 mutual
   unfolding receive
 
-  receive-grows : (t : Term) (p : ℕ) (δ : Dictionary) (n : ℕ) → Grows δ (receive t p δ n .dictionary)
-  receive-grows (Term.atom r) p δ n = grows-rule (Term.atom r) p δ (nothing δ) (λ u h. h)
-  receive-grows (Term.operation g ts) p δ n = grows-rule (Term.operation g ts) p δ (nothing δ) (λ u h. h)
-  receive-grows (Term.cipher k ts) p δ n =
-      grows-rule (Term.cipher k ts) p δ (followed (opened k ts p δ n) (receiveAll ts n δ (n + count ts)))
-      (λ u h. receiveAll-grows ts n δ (n + count ts) u h)
-  receive-grows (Term.public t) p δ n = grows-rule (Term.public t) p δ (nothing δ) (λ u h. h)
-  receive-grows (Term.private t) p δ n = grows-rule (Term.private t) p δ (nothing δ) (λ u h. h)
+  receive-grows : (s : ℕ) (t : Term) (p : ℕ) (δ : Dictionary) (n : ℕ) → Grows δ (receive s t p δ n .dictionary)
+  receive-grows s (Term.atom r) p δ n = grows-rule s (Term.atom r) p δ (nothing δ) (λ u h. h)
+  receive-grows s (Term.operation g ts) p δ n = grows-rule s (Term.operation g ts) p δ (nothing δ) (λ u h. h)
+  receive-grows s (Term.cipher k ts) p δ n =
+      grows-rule s (Term.cipher k ts) p δ (followed (opened k ts p δ n) (receiveAll s ts n δ (n + count ts)))
+      (λ u h. receiveAll-grows s ts n δ (n + count ts) u h)
+  receive-grows s (Term.public t) p δ n = grows-rule s (Term.public t) p δ (nothing δ) (λ u h. h)
+  receive-grows s (Term.private t) p δ n = grows-rule s (Term.private t) p δ (nothing δ) (λ u h. h)
 
-  pub receiveAll-grows : (ts : Terms) (p : ℕ) (δ : Dictionary) (n : ℕ) → Grows δ (receiveAll ts p δ n .dictionary)
-  receiveAll-grows Terms.nil p δ n u h = h
-  receiveAll-grows (Terms.cons t ts) p δ n u h =
-      let d = receive t p δ n in receiveAll-grows ts (suc p) (d .dictionary) (n + length (d .given)) u (receive-grows t p δ n u h)
+  pub receiveAll-grows : (s : ℕ) (ts : Terms) (p : ℕ) (δ : Dictionary) (n : ℕ) → Grows δ (receiveAll s ts p δ n .dictionary)
+  receiveAll-grows s Terms.nil p δ n u h = h
+  receiveAll-grows s (Terms.cons t ts) p δ n u h =
+      let d = receive s t p δ n in receiveAll-grows s ts (suc p) (d .dictionary) (n + length (d .given)) u (receive-grows s t p δ n u h)

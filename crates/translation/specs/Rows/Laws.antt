@@ -20,7 +20,7 @@ use Rattle.translation.specs.Dictionary.Laws.{enter-ind}
 use Rattle.translation.specs.Build.{buildAll}
 use Rattle.translation.specs.Build.Laws.{buildAll-makes}
 use Rattle.translation.specs.Along.Laws.{buildAll-images}
-use Rattle.translation.specs.Receive.{Event, Did, nothing, followed, compared, kept, opened, receive, receiveAll}
+use Rattle.translation.specs.Receive.{Event, Stored, Did, nothing, followed, compared, kept, opened, receive, receiveAll}
 use Rattle.translation.specs.Receive.Laws.{by-rule}
 use Rattle.translation.specs.Program.{Step, Act, actsOf, arrived, act, walk, walked, program}
 use Rattle.translation.specs.Narration.{stepAt, narration, knownTo, programOf}
@@ -33,7 +33,7 @@ names-append : {P : Term → Type 0} {es fs : List Event} → ProgramNames P es 
 names-append ProgramNames.nil k = k
 names-append (ProgramNames.cons x h) k = ProgramNames.cons x (names-append h k)
 
-stored-append : (P : Term → Type 0) (ps qs : List (Term × ℕ)) → StoredAll P ps → StoredAll P qs → StoredAll P (ps ++ qs)
+stored-append : (P : Term → Type 0) (ps qs : List Stored) → StoredAll P ps → StoredAll P qs → StoredAll P (ps ++ qs)
 stored-append P [] qs h k = k
 stored-append P (p ∷ ps) qs h k = (h .0, stored-append P ps qs (h .1) k)
 
@@ -52,8 +52,9 @@ module _ (tab : Table) (n : ℕ) (ok : Formed n tab) where
   names-or : (h : Held) (t : Term) (i : Image) → (isHeld h ≡ true → IsRow tab n t) → Names (IsRow tab n) i → Names (IsRow tab n) (imageOr h t i)
   unfolding imageOr
   names-or Held.free t i d k = k
-  names-or Held.itself t i d k = Names.itself (d refl)
-  names-or (Held.placeholder x) t i d k = Names.placeholder
+  names-or Held.given t i d k = Names.itself (d refl)
+  names-or (Held.made s) t i d k = Names.itself (d refl)
+  names-or (Held.stored s x) t i d k = Names.placeholder
 
   mutual
     unfolding image
@@ -75,13 +76,13 @@ module _ (tab : Table) (n : ℕ) (ok : Formed n tab) where
         NamesAll.cons (image-names δ d t (λ q o. a q (OccursIn.here o))) (images-names δ d ts (λ q o. a q (OccursIn.later o)))
 
   -- ---- build
-  pub buildAll-rows : (ts : Terms) (δ : Dictionary) → HeldRows δ → ((q : ℕ) → OccursIn q ts → IsRow tab n (Term.atom q))
-      → HeldRows ((buildAll ts δ) .dictionary) × NamesAll (IsRow tab n) ((buildAll ts δ) .images)
-  buildAll-rows ts δ d a =
-      let m = buildAll-makes ts δ in
-      let h : HeldRows (buildAll ts δ .dictionary) =
+  pub buildAll-rows : (s : ℕ) (ts : Terms) (δ : Dictionary) → HeldRows δ → ((q : ℕ) → OccursIn q ts → IsRow tab n (Term.atom q))
+      → HeldRows ((buildAll s ts δ) .dictionary) × NamesAll (IsRow tab n) ((buildAll s ts δ) .images)
+  buildAll-rows s ts δ d a =
+      let m = buildAll-makes s ts δ in
+      let h : HeldRows (buildAll s ts δ .dictionary) =
       λ u k. ⊎-elim (λ x. d u x) (λ x. subst (IsRow tab n) (sym (x .1)) (a (x .0) (m .within (x .0) (x .2)))) (m .back u k) in
-      (h, rw (buildAll-images ts δ) (images-names (buildAll ts δ .dictionary) h ts a))
+      (h, rw (buildAll-images s ts δ) (images-names (buildAll s ts δ .dictionary) h ts a))
 
   -- ---- receive
   pub record DidRows (d : Did) : Type 0 where
@@ -113,8 +114,8 @@ module _ (tab : Table) (n : ℕ) (ok : Formed n tab) where
     compared-rows : (t : Term) → IsRow tab n t → DidRows (compared t p δ)
     compared-rows t i = record { holds = d; named = ProgramNames.cons (image-names δ d t (λ q o. atoms-rows n tab ok i o)) ProgramNames.nil; stored = tt }
 
-    kept-rows : (t : Term) → IsRow tab n t → DidRows (kept t p δ)
-    kept-rows t i = record { holds = enter-rows δ t (Held.placeholder p) d i; named = ProgramNames.nil; stored = (i, tt) }
+    kept-rows : (s : ℕ) (t : Term) → IsRow tab n t → DidRows (kept s t p δ)
+    kept-rows s t i = record { holds = enter-rows δ t (Held.stored s p) d i; named = ProgramNames.nil; stored = (i, tt) }
 
     opened-rows : (k : Term) (ts : Terms) (m : ℕ) → IsRow tab n k → DidRows (opened k ts p δ m)
     opened-rows k ts m i =
@@ -128,22 +129,22 @@ module _ (tab : Table) (n : ℕ) (ok : Formed n tab) where
   mutual
     unfolding receive
 
-    receive-rows : (t : Term) (p : ℕ) (δ : Dictionary) (m : ℕ) → IsRow tab n t → HeldRows δ → DidRows (receive t p δ m)
-    receive-rows (Term.atom r) p δ m i d = by-rule DidRows _ _ _ _ (compared-rows δ d p _ i) (nothing-rows δ d) (kept-rows δ d p _ i)
-    receive-rows (Term.operation g ts) p δ m i d = by-rule DidRows _ _ _ _ (compared-rows δ d p _ i) (nothing-rows δ d) (kept-rows δ d p _ i)
-    receive-rows (Term.cipher k ts) p δ m i d =
+    receive-rows : (s : ℕ) (t : Term) (p : ℕ) (δ : Dictionary) (m : ℕ) → IsRow tab n t → HeldRows δ → DidRows (receive s t p δ m)
+    receive-rows s (Term.atom r) p δ m i d = by-rule DidRows _ _ _ _ (compared-rows δ d p _ i) (nothing-rows δ d) (kept-rows δ d p s _ i)
+    receive-rows s (Term.operation g ts) p δ m i d = by-rule DidRows _ _ _ _ (compared-rows δ d p _ i) (nothing-rows δ d) (kept-rows δ d p s _ i)
+    receive-rows s (Term.cipher k ts) p δ m i d =
         let ps = parts-rows n tab ok _ i in
         by-rule DidRows _ _ _ _ (compared-rows δ d p _ i)
-        (followed-rows (opened k ts p δ m) _ (opened-rows δ d p k ts m (ps .0)) (receiveAll-rows ts m δ _ (ps .1) d))
-        (kept-rows δ d p _ i)
-    receive-rows (Term.public t) p δ m i d = by-rule DidRows _ _ _ _ (compared-rows δ d p _ i) (nothing-rows δ d) (kept-rows δ d p _ i)
-    receive-rows (Term.private t) p δ m i d = by-rule DidRows _ _ _ _ (compared-rows δ d p _ i) (nothing-rows δ d) (kept-rows δ d p _ i)
+        (followed-rows (opened k ts p δ m) _ (opened-rows δ d p k ts m (ps .0)) (receiveAll-rows s ts m δ _ (ps .1) d))
+        (kept-rows δ d p s _ i)
+    receive-rows s (Term.public t) p δ m i d = by-rule DidRows _ _ _ _ (compared-rows δ d p _ i) (nothing-rows δ d) (kept-rows δ d p s _ i)
+    receive-rows s (Term.private t) p δ m i d = by-rule DidRows _ _ _ _ (compared-rows δ d p _ i) (nothing-rows δ d) (kept-rows δ d p s _ i)
 
-    receiveAll-rows : (ts : Terms) (p : ℕ) (δ : Dictionary) (m : ℕ) → AllRows tab n ts → HeldRows δ → DidRows (receiveAll ts p δ m)
-    receiveAll-rows Terms.nil p δ m i d = nothing-rows δ d
-    receiveAll-rows (Terms.cons t ts) p δ m i d =
-        let a = receive-rows t p δ m (i .0) d in
-        followed-rows _ _ a (receiveAll-rows ts (suc p) _ _ (i .1) (a .holds))
+    receiveAll-rows : (s : ℕ) (ts : Terms) (p : ℕ) (δ : Dictionary) (m : ℕ) → AllRows tab n ts → HeldRows δ → DidRows (receiveAll s ts p δ m)
+    receiveAll-rows s Terms.nil p δ m i d = nothing-rows δ d
+    receiveAll-rows s (Terms.cons t ts) p δ m i d =
+        let a = receive-rows s t p δ m (i .0) d in
+        followed-rows _ _ a (receiveAll-rows s ts (suc p) _ _ (i .1) (a .holds))
 
   -- ---- act, walk, program
   abbrev pub ActRows : Act → Type 0
@@ -161,10 +162,10 @@ module _ (tab : Table) (n : ℕ) (ok : Formed n tab) where
   act-rows : (a : Act) (δ : Dictionary) (m : ℕ) → ActRows a → HeldRows δ → DidRows (act a δ m)
   unfolding act
   act-rows (Act.sends i ts) δ m r d =
-      let b = buildAll-rows ts δ d (λ q o. atomsIn-rows n tab ok r o) in
-      record { holds = b .0; named = new-names ((buildAll ts δ) .made) (ProgramNames.cons (b .1) ProgramNames.nil); stored = tt }
+      let b = buildAll-rows i ts δ d (λ q o. atomsIn-rows n tab ok r o) in
+      record { holds = b .0; named = new-names ((buildAll i ts δ) .made) (ProgramNames.cons (b .1) ProgramNames.nil); stored = tt }
   act-rows (Act.receives i ts) δ m r d =
-      followed-rows (arrived i ts δ m) _ (record { holds = d; named = ProgramNames.cons tt ProgramNames.nil; stored = tt }) (receiveAll-rows ts m δ _ r d)
+      followed-rows (arrived i ts δ m) _ (record { holds = d; named = ProgramNames.cons tt ProgramNames.nil; stored = tt }) (receiveAll-rows i ts m δ _ r d)
 
   pub walk-rows : (acts : List Act) (δ : Dictionary) (m : ℕ) → ActsRows acts → HeldRows δ → DidRows (walk acts δ m)
   unfolding walk
@@ -178,7 +179,7 @@ module _ (tab : Table) (n : ℕ) (ok : Formed n tab) where
   pub start-rows : (ts : List Term) → KnownRows ts → HeldRows (start ts)
   unfolding start
   start-rows [] k t h = absurd (true≢false (sym h))
-  start-rows (t ∷ ts) k u h = enter-rows (start ts) t Held.itself (start-rows ts (k .1)) (k .0) u h
+  start-rows (t ∷ ts) k u h = enter-rows (start ts) t Held.given (start-rows ts (k .1)) (k .0) u h
 
   pub program-names : (known : List Term) (acts : List Act) → KnownRows known → ActsRows acts → ProgramNames (IsRow tab n) (program known acts)
   unfolding program walked

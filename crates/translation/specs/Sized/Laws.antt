@@ -89,9 +89,9 @@ module _ (b : List ℕ) (v : Valid b) where
     adds-then n d e h k f = let r = from-append given n (d .given) (e .given) f in sized-append (h (r .0)) (k (r .1))
 
     -- ---- receive
-    adds-rule : (t : Term) (p : ℕ) (δ : Dictionary) (n : ℕ) (o : Did) → IsRow (table b) (rows b) t → GivenAt given p t → Adds n o
-        → Adds n (byRule (rule δ t) (compared t p δ) o (kept t p δ))
-    adds-rule t p δ n o r g h =
+    adds-rule : (s : ℕ) (t : Term) (p : ℕ) (δ : Dictionary) (n : ℕ) (o : Did) → IsRow (table b) (rows b) t → GivenAt given p t → Adds n o
+        → Adds n (byRule (rule δ t) (compared t p δ) o (kept s t p δ))
+    adds-rule s t p δ n o r g h =
         by-rule (Adds n) (rule δ t) _ _ _ (λ f. ProgramSized.cons (EventSized.checks g (image-sized δ t r)) ProgramSized.nil) h (λ f. ProgramSized.nil)
 
     -- the terms ts get the placeholders from n on, and then they are received
@@ -104,24 +104,24 @@ module _ (b : List ℕ) (v : Valid b) where
     mutual
       unfolding receive listed
 
-      receive-sized : (t : Term) (p : ℕ) (δ : Dictionary) (n : ℕ) → IsRow (table b) (rows b) t → GivenAt given p t → Adds n (receive t p δ n)
-      receive-sized (Term.atom q) p δ n r g = adds-rule (Term.atom q) p δ n (nothing δ) r g (λ f. ProgramSized.nil)
-      receive-sized (Term.operation q ts) p δ n r g = adds-rule (Term.operation q ts) p δ n (nothing δ) r g (λ f. ProgramSized.nil)
-      receive-sized (Term.cipher k ts) p δ n r g =
+      receive-sized : (s : ℕ) (t : Term) (p : ℕ) (δ : Dictionary) (n : ℕ) → IsRow (table b) (rows b) t → GivenAt given p t → Adds n (receive s t p δ n)
+      receive-sized s (Term.atom q) p δ n r g = adds-rule s (Term.atom q) p δ n (nothing δ) r g (λ f. ProgramSized.nil)
+      receive-sized s (Term.operation q ts) p δ n r g = adds-rule s (Term.operation q ts) p δ n (nothing δ) r g (λ f. ProgramSized.nil)
+      receive-sized s (Term.cipher k ts) p δ n r g =
           let i = parts-rows (rows b) (table b) (formed b v) _ r in
-          adds-rule (Term.cipher k ts) p δ n _ r g
+          adds-rule s (Term.cipher k ts) p δ n _ r g
           (λ f. ProgramSized.cons (EventSized.opens g (key-sized δ k (i .0)))
-          (adds-listed n ts (receiveAll ts n δ (n + count ts)) (λ g. receiveAll-sized ts n δ (n + count ts) (i .1) g) f))
-      receive-sized (Term.public t) p δ n r g = adds-rule (Term.public t) p δ n (nothing δ) r g (λ f. ProgramSized.nil)
-      receive-sized (Term.private t) p δ n r g = adds-rule (Term.private t) p δ n (nothing δ) r g (λ f. ProgramSized.nil)
+          (adds-listed n ts (receiveAll s ts n δ (n + count ts)) (λ g. receiveAll-sized s ts n δ (n + count ts) (i .1) g) f))
+      receive-sized s (Term.public t) p δ n r g = adds-rule s (Term.public t) p δ n (nothing δ) r g (λ f. ProgramSized.nil)
+      receive-sized s (Term.private t) p δ n r g = adds-rule s (Term.private t) p δ n (nothing δ) r g (λ f. ProgramSized.nil)
 
-      receiveAll-sized : (ts : Terms) (p : ℕ) (δ : Dictionary) (n : ℕ) → AllRows (table b) (rows b) ts → GivenFrom given p (listed ts)
-          → Adds n (receiveAll ts p δ n)
-      receiveAll-sized Terms.nil p δ n r g = λ f. ProgramSized.nil
-      receiveAll-sized (Terms.cons t ts) p δ n r g =
-          let d = receive t p δ n in
-          adds-then n d (receiveAll ts (suc p) (d .dictionary) (n + length (d .given))) (receive-sized t p δ n (r .0) (g .0))
-          (receiveAll-sized ts (suc p) _ _ (r .1) (g .1))
+      receiveAll-sized : (s : ℕ) (ts : Terms) (p : ℕ) (δ : Dictionary) (n : ℕ) → AllRows (table b) (rows b) ts → GivenFrom given p (listed ts)
+          → Adds n (receiveAll s ts p δ n)
+      receiveAll-sized s Terms.nil p δ n r g = λ f. ProgramSized.nil
+      receiveAll-sized s (Terms.cons t ts) p δ n r g =
+          let d = receive s t p δ n in
+          adds-then n d (receiveAll s ts (suc p) (d .dictionary) (n + length (d .given))) (receive-sized s t p δ n (r .0) (g .0))
+          (receiveAll-sized s ts (suc p) _ _ (r .1) (g .1))
 
     -- ---- a step
     module _ (p s : ℕ) (h : s < steps b) (δ : Dictionary) (n : ℕ) where
@@ -133,15 +133,15 @@ module _ (b : List ℕ) (v : Valid b) where
           rows-listed (rows b) (table b) (formed b v) (messages b s)
           (all-run (λ r. r < rows b) b (begins b 3 + stepFirst b s) (stepCount b s) (v .stepsKeep s h .listed .each))
 
-      sent-sized : Adds n (sent s (buildAll stepTerms δ))
+      sent-sized : Adds n (sent s (buildAll s stepTerms δ))
       sent-sized f =
-          let i : SizedAll b stepTerms (buildAll stepTerms δ .images) = rw (buildAll-images stepTerms δ) (images-sized _ stepTerms stepTerms-rows) in
-          sized-new (buildAll stepTerms δ .made) (ProgramSized.cons (EventSized.sends h i) ProgramSized.nil)
+          let i : SizedAll b stepTerms (buildAll s stepTerms δ .images) = rw (buildAll-images s stepTerms δ) (images-sized _ stepTerms stepTerms-rows) in
+          sized-new (buildAll s stepTerms δ .made) (ProgramSized.cons (EventSized.sends h i) ProgramSized.nil)
 
-      arrived-sized : Adds n (followed (arrived s stepTerms δ n) (receiveAll stepTerms n δ (n + count stepTerms)))
+      arrived-sized : Adds n (followed (arrived s stepTerms δ n) (receiveAll s stepTerms n δ (n + count stepTerms)))
       arrived-sized f =
           ProgramSized.cons EventSized.receives
-          (adds-listed n stepTerms (receiveAll stepTerms n δ (n + count stepTerms)) (receiveAll-sized stepTerms n δ (n + count stepTerms) stepTerms-rows) f)
+          (adds-listed n stepTerms (receiveAll s stepTerms n δ (n + count stepTerms)) (receiveAll-sized s stepTerms n δ (n + count stepTerms) stepTerms-rows) f)
 
       step-sized : Adds n (stepDid b p s δ n)
       step-sized = go (ℕ-discrete (sender b s) p) (ℕ-discrete (receiver b s) p)

@@ -17,12 +17,12 @@ use Rattle.terms.specs.Image.{Image, Images, countImages, words, wordsOf}
 use Rattle.book.specs.Layout.{table, rows, parties}
 use Rattle.book.specs.Valid.{Valid}
 use Rattle.book.specs.Valid.Laws.{formed}
-use Rattle.translation.specs.Receive.{Event}
+use Rattle.translation.specs.Receive.{Event, Stored}
 use Rattle.translation.specs.Narration.{narration, programOf}
 use Rattle.translation.specs.Rows.{Names, NamesAll, StoredAll, EventNames, ProgramNames}
 use Rattle.translation.specs.Rows.Laws.{programs-name-rows}
-use Rattle.translation.specs.Listing.{pairWords, eventWords, programWords, heads, bodies, framed, partWords, listing}
-use Rattle.translation.specs.Spelling.{readImage, readImages, readPairs, readEvent, readEvents, readProgram, partOf}
+use Rattle.translation.specs.Listing.{tripleWords, eventWords, programWords, heads, bodies, framed, partWords, listing}
+use Rattle.translation.specs.Spelling.{readImage, readImages, readTriples, readEvent, readEvents, readProgram, partOf}
 
 -- ---- the fuel that an image takes is no more than its words
 unfoldable mutual
@@ -93,10 +93,10 @@ module _ (term : ℕ → Term) (row : Term → ℕ) where
         rw (append-assoc, image-back f (wordsOf row is ++ w) (omega arith) h, images-back f w (omega arith) k)
 
   -- ---- events
-  pairs-back : (ps : List (Term × ℕ)) (w : List ℕ) → StoredAll Back ps → readPairs term (length ps) (pairWords row ps ++ w) ≡ some (ps, w)
-  unfolding readPairs pairWords then
-  pairs-back [] w h = refl
-  pairs-back (p ∷ ps) w h = rw (pairs-back ps w (h .1), h .0)
+  triples-back : (ps : List Stored) (w : List ℕ) → StoredAll Back ps → readTriples term (length ps) (tripleWords row ps ++ w) ≡ some (ps, w)
+  unfolding readTriples tripleWords then
+  triples-back [] w h = refl
+  triples-back (p ∷ ps) w h = rw (triples-back ps w (h .1), h .0)
 
   event-back : (e : Event) (f : ℕ) (w : List ℕ) → length (eventWords row e) ≤ f → EventNames Back e
       → readEvent term f (eventWords row e ++ w) ≡ some (e, w)
@@ -106,7 +106,7 @@ module _ (term : ℕ → Term) (row : Term → ℕ) where
   event-back (Event.receives s x n) f w l h = refl
   event-back (Event.checks x i) f w l h = rw (image-back f w (let z = depth-words row i in omega arith) h)
   event-back (Event.opens x y n i) f w l h = rw (image-back f w (let z = depth-words row i in omega arith) h)
-  event-back (Event.ends ps) f w l h = rw (pairs-back ps w h)
+  event-back (Event.ends ps) f w l h = rw (triples-back ps w h)
 
   -- an event's words begin with a word
   event-step : (e : Event) (f n : ℕ) (w : List ℕ)
@@ -158,7 +158,7 @@ module _ {P Q : Term → Type 0} (f : (t : Term) → P t → Q t) where
     namesAll-map NamesAll.nil = NamesAll.nil
     namesAll-map (NamesAll.cons h k) = NamesAll.cons (names-map h) (namesAll-map k)
 
-  stored-map : (ps : List (Term × ℕ)) → StoredAll P ps → StoredAll Q ps
+  stored-map : (ps : List Stored) → StoredAll P ps → StoredAll Q ps
   stored-map [] h = tt
   stored-map (p ∷ ps) h = (f (p .0) (h .0), stored-map ps (h .1))
 

@@ -33,7 +33,7 @@ walk-one a δ n = followed-nothing (act a δ n)
 
 -- ---- one step, by who the party is in it
 module _ (b : List ℕ) (p i : ℕ) (δ : Dictionary) (n : ℕ) where
-  pub step-sends : sender b i ≡ p → stepDid b p i δ n ≡ sent i (buildAll (terms (table b) (messages b i)) δ)
+  pub step-sends : sender b i ≡ p → stepDid b p i δ n ≡ sent i (buildAll i (terms (table b) (messages b i)) δ)
   unfolding stepDid stepAt act terms actsOf
   step-sends e =
       ap (λ l. walk l δ n) (acts-sends p i (stepAt b i) [] (eq-eqb (sender b i) p e))
@@ -41,7 +41,7 @@ module _ (b : List ℕ) (p i : ℕ) (δ : Dictionary) (n : ℕ) where
 
   pub step-receives : (sender b i ≡ p → ⊥) → receiver b i ≡ p
       → stepDid b p i δ n ≡ followed (arrived i (terms (table b) (messages b i)) δ n)
-      (receiveAll (terms (table b) (messages b i)) n δ (n + count (terms (table b) (messages b i))))
+      (receiveAll i (terms (table b) (messages b i)) n δ (n + count (terms (table b) (messages b i))))
   unfolding stepDid stepAt act terms actsOf
   step-receives e f =
       ap (λ l. walk l δ n) (acts-receives p i (stepAt b i) [] (ne-eqb (sender b i) p e) (eq-eqb (receiver b i) p f))

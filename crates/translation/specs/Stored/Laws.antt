@@ -37,7 +37,7 @@ one-grows : (h k : Bool) → (h ≡ true → k ≡ true) → one h ≤ one k
 one-grows h k f = pick-ind (λ m. m ≤ one k) h 1 0 (λ e. let z : one k ≡ 1 = pick-true k _ _ (f e) in omega arith) (λ e. omega arith)
 
 -- what isn't buildable isn't held
-not-held : (δ : Dictionary) (t : Term) → buildable δ t ≡ false → isHeld (δ t) ≡ false
+pub not-held : (δ : Dictionary) (t : Term) → buildable δ t ≡ false → isHeld (δ t) ≡ false
 not-held δ t b = go (isHeld (δ t)) refl
   where
     go : (v : Bool) → isHeld (δ t) ≡ v → v ≡ false
@@ -55,15 +55,15 @@ module _ (tab : Table) (n : ℕ) where
   held-grows δ ε g = sum-below _ _ n (λ r l. one-grows _ _ (g (term tab r)))
 
   -- entering a row that was not held
-  held-more : (δ : Dictionary) (t : Term) (x : ℕ) → IsRow tab n t → isHeld (δ t) ≡ false
-      → rowsHeld tab n δ < rowsHeld tab n (enter δ t (Held.placeholder x))
+  held-more : (s : ℕ) (δ : Dictionary) (t : Term) (x : ℕ) → IsRow tab n t → isHeld (δ t) ≡ false
+      → rowsHeld tab n δ < rowsHeld tab n (enter δ t (Held.stored s x))
   unfolding rowsHeld
-  held-more δ t x i e =
-      let ε = enter δ t (Held.placeholder x) in
+  held-more s δ t x i e =
+      let ε = enter δ t (Held.stored s x) in
       let old : one (isHeld (δ (term tab (i .row)))) ≡ 0 = pick-false _ _ _ (ap (λ u. isHeld (δ u)) (i .stands) ∙ e) in
       let new : one (isHeld (ε (term tab (i .row)))) ≡ 1 =
-      pick-true _ _ _ (ap (λ u. isHeld (ε u)) (i .stands) ∙ ap isHeld (enter-same δ t (Held.placeholder x))) in
-      sum-less _ _ n (λ r l. one-grows _ _ (enter-grows δ t (Held.placeholder x) refl (term tab r))) (i .row) (i .within) (omega arith)
+      pick-true _ _ _ (ap (λ u. isHeld (ε u)) (i .stands) ∙ ap isHeld (enter-same δ t (Held.stored s x))) in
+      sum-less _ _ n (λ r l. one-grows _ _ (enter-grows δ t (Held.stored s x) refl (term tab r))) (i .row) (i .within) (omega arith)
 
   -- ---- each storing raises it
   abbrev Raises : Dictionary → Did → Type 0
@@ -76,36 +76,36 @@ module _ (tab : Table) (n : ℕ) where
   raises-then δ d e h k = let l = length-append (d .stored) (e .stored) in omega arith
 
   -- only a term that isn't buildable is stored
-  raises-rule : (t : Term) (p : ℕ) (δ : Dictionary) (o : Did) → IsRow tab n t → Raises δ o
-      → Raises δ (byRule (rule δ t) (compared t p δ) o (kept t p δ))
+  raises-rule : (s : ℕ) (t : Term) (p : ℕ) (δ : Dictionary) (o : Did) → IsRow tab n t → Raises δ o
+      → Raises δ (byRule (rule δ t) (compared t p δ) o (kept s t p δ))
   unfolding byRule
-  raises-rule t p δ o i h =
-      rule-ind (λ r. Raises δ (byRule r (compared t p δ) o (kept t p δ))) δ t (λ b. omega arith) (λ b. h)
-      (λ b. let k = held-more δ t p i (not-held δ t b) in omega arith)
+  raises-rule s t p δ o i h =
+      rule-ind (λ r. Raises δ (byRule r (compared t p δ) o (kept s t p δ))) δ t (λ b. omega arith) (λ b. h)
+      (λ b. let k = held-more s δ t p i (not-held δ t b) in omega arith)
 
   module _ (ok : Formed n tab) where
     mutual
       unfolding receive
 
-      receive-raises : (t : Term) (p : ℕ) (δ : Dictionary) (m : ℕ) → IsRow tab n t → Raises δ (receive t p δ m)
-      receive-raises (Term.atom r) p δ m i = raises-rule (Term.atom r) p δ _ i (raises-nothing δ)
-      receive-raises (Term.operation g ts) p δ m i = raises-rule (Term.operation g ts) p δ _ i (raises-nothing δ)
-      receive-raises (Term.cipher k ts) p δ m i =
-          raises-rule (Term.cipher k ts) p δ _ i (receiveAll-raises ts m δ (m + count ts) (parts-rows n tab ok _ i .1))
-      receive-raises (Term.public t) p δ m i = raises-rule (Term.public t) p δ _ i (raises-nothing δ)
-      receive-raises (Term.private t) p δ m i = raises-rule (Term.private t) p δ _ i (raises-nothing δ)
+      receive-raises : (s : ℕ) (t : Term) (p : ℕ) (δ : Dictionary) (m : ℕ) → IsRow tab n t → Raises δ (receive s t p δ m)
+      receive-raises s (Term.atom r) p δ m i = raises-rule s (Term.atom r) p δ _ i (raises-nothing δ)
+      receive-raises s (Term.operation g ts) p δ m i = raises-rule s (Term.operation g ts) p δ _ i (raises-nothing δ)
+      receive-raises s (Term.cipher k ts) p δ m i =
+          raises-rule s (Term.cipher k ts) p δ _ i (receiveAll-raises s ts m δ (m + count ts) (parts-rows n tab ok _ i .1))
+      receive-raises s (Term.public t) p δ m i = raises-rule s (Term.public t) p δ _ i (raises-nothing δ)
+      receive-raises s (Term.private t) p δ m i = raises-rule s (Term.private t) p δ _ i (raises-nothing δ)
 
-      receiveAll-raises : (ts : Terms) (p : ℕ) (δ : Dictionary) (m : ℕ) → AllRows tab n ts → Raises δ (receiveAll ts p δ m)
-      receiveAll-raises Terms.nil p δ m i = raises-nothing δ
-      receiveAll-raises (Terms.cons t ts) p δ m i =
-          let d = receive t p δ m in
-          raises-then δ d (receiveAll ts (suc p) (d .dictionary) (m + length (d .given))) (receive-raises t p δ m (i .0))
-          (receiveAll-raises ts (suc p) _ _ (i .1))
+      receiveAll-raises : (s : ℕ) (ts : Terms) (p : ℕ) (δ : Dictionary) (m : ℕ) → AllRows tab n ts → Raises δ (receiveAll s ts p δ m)
+      receiveAll-raises s Terms.nil p δ m i = raises-nothing δ
+      receiveAll-raises s (Terms.cons t ts) p δ m i =
+          let d = receive s t p δ m in
+          raises-then δ d (receiveAll s ts (suc p) (d .dictionary) (m + length (d .given))) (receive-raises s t p δ m (i .0))
+          (receiveAll-raises s ts (suc p) _ _ (i .1))
 
     act-raises : (a : Act) (δ : Dictionary) (m : ℕ) → ActRows tab n ok a → Raises δ (act a δ m)
     unfolding act
-    act-raises (Act.sends i ts) δ m r = let h = held-grows δ (buildAll ts δ .dictionary) (buildAll-makes ts δ .grows) in omega arith
-    act-raises (Act.receives i ts) δ m r = receiveAll-raises ts m δ (m + count ts) r
+    act-raises (Act.sends i ts) δ m r = let h = held-grows δ (buildAll i ts δ .dictionary) (buildAll-makes i ts δ .grows) in omega arith
+    act-raises (Act.receives i ts) δ m r = receiveAll-raises i ts m δ (m + count ts) r
 
     walk-raises : (acts : List Act) (δ : Dictionary) (m : ℕ) → ActsRows tab n ok acts → Raises δ (walk acts δ m)
     unfolding walk

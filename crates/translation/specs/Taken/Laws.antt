@@ -8,7 +8,6 @@ use mathlib.Core.Path.{_≡_, refl, sym, ap, _∙_, subst}
 use native.Mathlib.Omega.{arith}
 use lib.Dec.{eqb}
 use lib.ListN.{length, getD, take}
-use Rattle.words.specs.Choice.{pick}
 use Rattle.words.specs.Choice.Laws.{pick-true, pick-false, or-cases, or-left, or-right}
 use Rattle.words.specs.Run.Laws.{values-length, values-getD}
 use Rattle.words.specs.First.{first}
@@ -165,27 +164,27 @@ module _ (N : Narration) (s : ℕ) where
   -- nobody's yet, which it may make
   pub playable-exact : (unplayable N s ≡ false) ↔ Playable N s
   unfolding madeAt
-  playable-exact = (λ e. freeAll-derives (Makeable N s) _ _ (none-free e), λ d. free-none (derivesAll-free (Makeable N s) _ _ d))
+  playable-exact = (λ e. freeAll-derives (Makeable N s) s _ _ (none-free e), λ d. free-none (derivesAll-free (Makeable N s) s _ _ d))
 
   -- "a sender marked 0 builds from what it holds"
   pub held-playable : senderMakes N s ≡ false
       → Playable N s ↔ DerivesAll (λ q. ⊥) (holdsBefore N (stepOf N s .sender) s) (stepOf N s .messages)
   held-playable e = (
-    λ d. freeAll-derives (λ q. ⊥) _ _
-        (λ r m. true≢false (sym (derivesAll-free (Makeable N s) (stepOf N s .messages) (holdsBefore N (stepOf N s .sender) s) d r m .maker) ∙ e)),
-    λ d. freeAll-derives (Makeable N s) _ _
-        (λ r m. absurd (derivesAll-free (λ q. ⊥) (stepOf N s .messages) (holdsBefore N (stepOf N s .sender) s) d r m)),
+    λ d. freeAll-derives (λ q. ⊥) s _ _
+        (λ r m. true≢false (sym (derivesAll-free (Makeable N s) s (stepOf N s .messages) (holdsBefore N (stepOf N s .sender) s) d r m .maker) ∙ e)),
+    λ d. freeAll-derives (Makeable N s) s _ _
+        (λ r m. absurd (derivesAll-free (λ q. ⊥) s (stepOf N s .messages) (holdsBefore N (stepOf N s .sender) s) d r m)),
   )
 
   -- and one marked 1 from that and atoms that are nobody's yet
   pub maker-playable : senderMakes N s ≡ true
       → Playable N s ↔ DerivesAll (Nobodys N s) (holdsBefore N (stepOf N s .sender) s) (stepOf N s .messages)
   maker-playable e = (
-    λ d. freeAll-derives (Nobodys N s) _ _
-        (λ r m. derivesAll-free (Makeable N s) (stepOf N s .messages) (holdsBefore N (stepOf N s .sender) s) d r m .nobodys),
-    λ d. freeAll-derives (Makeable N s) _ _
+    λ d. freeAll-derives (Nobodys N s) s _ _
+        (λ r m. derivesAll-free (Makeable N s) s (stepOf N s .messages) (holdsBefore N (stepOf N s .sender) s) d r m .nobodys),
+    λ d. freeAll-derives (Makeable N s) s _ _
         (λ r m. record {
-          nobodys = derivesAll-free (Nobodys N s) (stepOf N s .messages) (holdsBefore N (stepOf N s .sender) s) d r m;
+          nobodys = derivesAll-free (Nobodys N s) s (stepOf N s .messages) (holdsBefore N (stepOf N s .sender) s) d r m;
           maker = e;
         }),
   )
@@ -243,7 +242,7 @@ module _ (N : Narration) (s : ℕ) where
   )
 
 -- ---- some message has no derivation
--- a derivation can be looked for: the atoms made are few, and each is free or not
+-- a derivation can be looked for: the atoms made are few, at any step the same, and each is free or not
 module _ (free : ℕ → Type 0) (decide : (r : ℕ) → Dec (free r)) (δ : Dictionary) where
   all-free : (l : List ℕ) → Dec (AllFree free l)
   all-free [] = yes (λ r m. absurd (List·Memᴰ·not-nil m))
@@ -255,11 +254,11 @@ module _ (free : ℕ → Type 0) (decide : (r : ℕ) → Dec (free r)) (δ : Dic
       go (no p) d = no (λ f. p (f x (List·Memᴰ·head refl)))
 
   derives? : (t : Term) → Dec (Derives free δ t)
-  derives? t = go (all-free ((build t δ) .made))
+  derives? t = go (all-free ((build 0 t δ) .made))
     where
-      go : Dec (AllFree free ((build t δ) .made)) → Dec (Derives free δ t)
-      go (yes a) = yes (free-derives free t δ a)
-      go (no n) = no (λ d. n (derives-free free t δ d))
+      go : Dec (AllFree free ((build 0 t δ) .made)) → Dec (Derives free δ t)
+      go (yes a) = yes (free-derives free 0 t δ a)
+      go (no n) = no (λ d. n (derives-free free 0 t δ d))
 
   pub some-message : (ts : Terms) → (DerivesAll free δ ts → ⊥) → (t : Term) × List·Memᴰ t (listed ts) × (Derives free δ t → ⊥)
   unfolding listed

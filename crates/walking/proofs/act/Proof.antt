@@ -75,7 +75,8 @@ module _ (c : tie.After-receive-messages) where
   count = search
 
   taken : Took (start .args .book .now) (first .step-first .result) (count .step-count .result)
-      (standing (start .args .entries .now) (start .args .next) (start .args .kept) (start .args .at))
+      (standing (start .args .step) (start .args .entries .now) (start .args .next) (start .args .kept)
+      (start .args .at))
       (c .receive-messages .result .next) (c .receive-messages .result .kept)
   taken =
       let then2 : tie.Then2 = search in
@@ -86,7 +87,7 @@ module _ (c : tie.After-receive-messages) where
       (after-step-sender .step-sender .ensures) (else1 .if1 .left) (after-step-receiver .step-receiver .ensures)
       (then2 .if2 .taken) (c .receive-messages .ensures)
 
--- a stored term took two words of the log, and is no event
+-- a stored term took three words of the log, and is no event
 returns-2 : tie.Need-returns-2
 returns-2 c =
     let after-narrow2 : tie.After-narrow2 = search in

@@ -2,17 +2,23 @@
 -- Assumes nothing.
 use native.Mathlib.Omega.{arith}
 use borrow.Author.Needs.{needs}
-use Rattle.walking.specs.Marked.Laws.{unmarked-none}
 use Rattle.walking.proofs.Lengths.{FewPlaces, few-places}
 use Rattle.walking.proofs.Whole.{measured}
 use Rattle.walking.proofs.measure.Statement.{statement}
 use Rattle.walking.proofs.measure.Tie as tie
 
+-- what the party knows is entered
+walk-requires : tie.Need-walk-requires
+walk-requires c κs =
+    let after-start : tie.After-start = search in
+    let here : tie.Start = search in
+    (here .pre, record { holds = after-start .start .ensures; size = search needs })
+
 -- the places are few, wherever the walk has ended
 few : (c : tie.After-walk) → FewPlaces (c .walk .result)
 few c = search few-places
 
--- the words are those of the events, two of END's, and two for each pair
+-- the words are those of the events, two of END's, and three for each triple
 returns : tie.Need-returns
 returns c =
     let after-walk : tie.After-walk = search in
@@ -23,16 +29,14 @@ pub measure-spec : {M : Type 1} → statement M
 measure-spec =
     tie.close
     (tie.spec
+    (λ c κs. search needs)  -- start-requires
     (λ c. search needs)  -- sub-walk
     (λ c. search needs)  -- part-log-start
     (λ c. search needs)  -- part-log-end
     (λ c. search needs)  -- sub-walk-2
     (λ c. search needs)  -- part-out-start
     (λ c. search needs)  -- part-out-end
-    (λ c. search needs)  -- sub-walk-3
-    (λ c. search needs)  -- part-marks-start
-    (λ c. search needs)  -- part-marks-end
-    (λ c κs. search (unmarked-none, needs))  -- walk-requires
+    walk-requires
     (λ c. omega (arith, few (search)))  -- add-t14
     (λ c. omega (arith, few (search)))  -- add-t28
     (λ c. let after-walk : tie.After-walk = search in after-walk .walk .ensures .noted .sends .size)  -- same-length

@@ -1,4 +1,4 @@
--- `walking::write_program` meets its contract: the events, END's first words, and the pairs that the log has. Assumes
+-- `walking::write_program` meets its contract: the events, END's first words, and the triples that the log has. Assumes
 -- nothing.
 use Prim.Native.Nat.{_≤_}
 use mathlib.Core.Path.{refl}
@@ -6,8 +6,7 @@ use native.Mathlib.Omega.{arith}
 use borrow.Author.Needs.{needs}
 use Rattle.words.specs.Overlay.Laws.{wrote-length}
 use Rattle.book.specs.Headed.Laws.{valid-headed}
-use Rattle.walking.specs.Marked.Laws.{unmarked-none}
-use Rattle.walking.proofs.Lengths.{few-pairs}
+use Rattle.walking.proofs.Lengths.{few-triples}
 use Rattle.walking.proofs.Whole.{programmed}
 use Rattle.walking.proofs.write_program.Statement.{statement}
 use Rattle.walking.proofs.write_program.Tie as tie
@@ -16,12 +15,14 @@ use Rattle.walking.proofs.write_program.Tie as tie
 walk-requires : tie.Need-walk-requires
 walk-requires c κs =
     let after-steps : tie.After-steps = search in
+    let after-start : tie.After-start = search in
     let start : tie.Start = search in
-    (rw (after-steps .steps .ensures) (start .pre .0), unmarked-none)
+    let known = after-start .start .ensures in
+    (rw (after-steps .steps .ensures) (start .pre .0), record { holds = known; size = search needs })
 
--- the pairs are few, wherever the walk has ended
-few : (c : tie.After-walk) → c .walk .result .kept ≤ 2048
-few c = search few-pairs
+-- the triples are few, wherever the walk has ended
+few : (c : tie.After-walk) → c .walk .result .kept ≤ 3072
+few c = search few-triples
 
 -- and the log is as long as it was
 put-all-requires : tie.Need-put-all-requires
@@ -30,7 +31,7 @@ put-all-requires c κs =
     let size = wrote-length (after-walk .walk .ensures .along .keeps) in
     omega (arith, few after-walk)
 
--- END has half as many pairs as words were stored
+-- END has a third as many triples as words were stored
 returns : tie.Need-returns
 returns c =
     let after-put-all : tie.After-put-all = search in
@@ -48,6 +49,7 @@ pub write-program-spec : {M : Type 1} → statement M
 write-program-spec =
     tie.close
     (tie.spec
+    (λ c κs. search needs)  -- start-requires
     (λ c κs. search valid-headed)  -- steps-requires
     (λ c. search needs)  -- slice-aggregate-walk
     (λ c. search needs)  -- sub-walk
@@ -56,9 +58,6 @@ write-program-spec =
     (λ c. search needs)  -- sub-walk-2
     (λ c. search needs)  -- part-receives-start
     (λ c. search needs)  -- part-receives-end
-    (λ c. search needs)  -- sub-walk-3
-    (λ c. search needs)  -- part-marks-start
-    (λ c. search needs)  -- part-marks-end
     walk-requires
     (λ c κs. omega (arith, few (search)))  -- narrow-requires
     (λ c κs. search needs)  -- put2-requires

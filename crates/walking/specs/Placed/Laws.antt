@@ -44,12 +44,12 @@ module _ (t : Event → Bool) (q : Quiet t) (b : List ℕ) (p : ℕ) where
     where
       go : Dec (sender b i ≡ p) → Dec (receiver b i ≡ p) → None t (stepDid b p i δ n .events)
       go (yes e) r =
-          let g = buildAll (terms (table b) (messages b i)) δ in
+          let g = buildAll i (terms (table b) (messages b i)) δ in
           rw (step-sends b p i δ n e)
           (none-append t (map Event.new (g .made)) (Event.sends i (g .images) ∷ []) (none-news t (q .news) (g .made)) (h .0 (g .images), tt))
       go (no e) (yes r) =
           let ts = terms (table b) (messages b i) in
-          rw (step-receives b p i δ n e r) (h .1 n (count ts), none-receiveAll t (q .checks) (q .opens) ts n δ (n + count ts))
+          rw (step-receives b p i δ n e r) (h .1 n (count ts), none-receiveAll t (q .checks) (q .opens) i ts n δ (n + count ts))
       go (no e) (no r) = rw (step-idle b p i δ n e r) tt
 
   quiet-before : (i : ℕ) → ((j : ℕ) → j < i → QuietAt j) → None t (before b p i .events)
@@ -102,7 +102,7 @@ module _ (b : List ℕ) (v : Valid b) where
     send-place =
         let p = sender b s in
         let d = before b p s in
-        let g = buildAll (terms (table b) (messages b s)) (d .dictionary) in
+        let g = buildAll s (terms (table b) (messages b s)) (d .dictionary) in
         let news = map Event.new (g .made) in
         let send = Event.sends s (g .images) in
         let e : before b p (s + 1) ≡ followed d (sent s g) =
@@ -126,7 +126,7 @@ module _ (b : List ℕ) (v : Valid b) where
         let d = before b p s in
         let ts = terms (table b) (messages b s) in
         let n = length (d .given) in
-        let r = receiveAll ts n (d .dictionary) (n + count ts) in
+        let r = receiveAll s ts n (d .dictionary) (n + count ts) in
         let e : before b p (s + 1) ≡ followed d (followed (arrived s ts (d .dictionary) n) r) =
         ap (before b p) (add-one s) ∙ before-more b p s ∙ ap (followed d) (step-receives b p s (d .dictionary) n (v .stepsKeep s h .two) refl) in
         let q : None (isReceive s) (d .events) =

@@ -19,27 +19,19 @@ use Rattle.book.specs.Stop.{stop, nowhere}
 use Rattle.book.specs.declared.Stop.{Stop}
 use Rattle.translation.specs.Dictionary.{Dictionary}
 use Rattle.translation.specs.Build.{buildAll}
-use Rattle.translation.specs.Narration.{stepAt, narration}
-use Rattle.translation.specs.Taken.{taken, holdsBefore, madeAt, senderMakes, unmakeable, stopsAt, unplayable, stopRow, stopNumber}
+use Rattle.translation.specs.Narration.{narration}
+use Rattle.translation.specs.Taken.{taken, madeAt, senderMakes, unmakeable, stopsAt, unplayable, stopRow, stopNumber}
 use Rattle.sending.specs.Sending.{againstIn, firstIn}
 use Rattle.sending.specs.Sending.Laws.{some-stops, none-stops}
 use Rattle.claims.specs.Claims.{Claims}
-use Rattle.translation.specs.Taken.Laws.{step-is, sender-makes, nobodys-exact, makeable-exact, stop-cases}
+use Rattle.translation.specs.Source.Laws.{made-here}
+use Rattle.translation.specs.Taken.Laws.{sender-makes, nobodys-exact, makeable-exact, stop-cases}
 use Rattle.translation.specs.Steps.{before}
 use Rattle.walking.specs.Walk.{refusedFor, Unrefused, IdleUntil}
-use Rattle.translation.specs.Steps.Laws.{before-holds}
 use Rattle.walking.specs.Walk.Laws.{refused-idle}
 use Rattle.walking.specs.Stops.{stopsIn, stopOf, StopsBefore}
 
 module _ (b : List ℕ) (s : ℕ) (h : s < steps b) where
-  made-here : (p : ℕ) → p < parties b → sender b s ≡ p
-      → madeAt (narration b) s ≡ buildAll (terms (table b) (messages b s)) (before b p s .dictionary) .made
-  unfolding madeAt stepAt
-  made-here p l e =
-      ap (λ a. buildAll (a .messages) (holdsBefore (narration b) (a .sender) s) .made) (step-is b s h)
-      ∙ ap (λ q. buildAll (terms (table b) (messages b s)) (holdsBefore (narration b) q s) .made) e
-      ∙ ap (λ δ. buildAll (terms (table b) (messages b s)) δ .made) (before-holds b p l s (omega arith))
-
   -- where code stops is where refusals 10 and 13 say
   module _ (w : ℕ → ℕ) (d : (r : ℕ) → w r ≡ pick (taken (narration b) s r) 10 (pick (senderMakes (narration b) s) 0 13)) where
     free : (r : ℕ) → unmakeable (narration b) s r ≡ false → w r ≡ 0
@@ -83,14 +75,14 @@ module _ (b : List ℕ) (s : ℕ) (h : s < steps b) where
   stops-exact l p δ c j d = go (eqb (sender b s) p) refl
     where
       go : (x : Bool) → eqb (sender b s) p ≡ x
-          → pick x (firstIn (againstIn l (mark b p) s) s (nowhere s) (buildAll (terms (table b) (messages b s)) δ .made)) (nowhere s)
+          → pick x (firstIn (againstIn l (mark b p) s) s (nowhere s) (buildAll s (terms (table b) (messages b s)) δ .made)) (nowhere s)
           ≡ pick (pick x (unplayable (narration b) s) false) (stopOf b s) (nowhere s)
       go true e =
           let same = eqb-true (sender b s) p e in
           let maker : eqb (mark b p) 1 ≡ senderMakes (narration b) s =
           ap (λ q. eqb (mark b q) 1) (sym same) ∙ sym (sender-makes b s h (omega arith)) in
           ap (firstIn (againstIn l (mark b p) s) s (nowhere s))
-          (ap (λ ε. buildAll (terms (table b) (messages b s)) ε .made) d ∙ sym (made-here p j same))
+          (ap (λ ε. buildAll s (terms (table b) (messages b s)) ε .made) d ∙ sym (made-here b s h p j same))
           ∙ stops-first (againstIn l (mark b p) s) (λ q. ap₂ (λ t m. pick t 10 (pick m 0 13)) (c s q) maker)
       go false e = refl
 

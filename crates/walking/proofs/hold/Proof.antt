@@ -1,34 +1,33 @@
--- `walking::since_when` meets its contract: a walk through all steps that finds nothing has marked each row after each of
--- them. Assumes nothing.
+-- `walking::hold` meets its contract: what a walk through all steps that finds nothing leaves is what is held in the
+-- end. Assumes nothing.
 use borrow.Author.Needs.{needs}
 use Rattle.book.specs.Headed.Laws.{valid-headed}
-use Rattle.walking.proofs.Whole.{marked-whole}
-use Rattle.walking.proofs.since_when.Statement.{statement}
-use Rattle.walking.proofs.since_when.Tie as tie
+use Rattle.walking.proofs.Whole.{held-whole}
+use Rattle.walking.proofs.hold.Statement.{statement}
+use Rattle.walking.proofs.hold.Tie as tie
 
 -- the steps are the book's
 walk-requires : tie.Need-walk-requires
 walk-requires c κs =
     let after-steps : tie.After-steps = search in
+    let after-start : tie.After-start = search in
     let start : tie.Start = search in
-    let (ready, unrefused, fresh) = start .pre in
-    (rw (after-steps .steps .ensures) ready, fresh)
+    let known = after-start .start .ensures in
+    (rw (after-steps .steps .ensures) (start .pre .0), record { holds = known; size = search needs })
 
 returns : tie.Need-returns
 returns c =
     let after-walk : tie.After-walk = search in
     let after-steps : tie.After-steps = search in
     let start : tie.Start = search in
-    let (ready, unrefused, fresh) = start .pre in (
-      marked-whole (after-steps .steps .ensures) unrefused (after-walk .walk .ensures),
-      after-walk .walk .ensures .marks-size,
-    )
+    held-whole (after-steps .steps .ensures) (start .pre .1) (after-walk .walk .ensures)
 
-pub since-when-spec : {M : Type 1} → statement M
-since-when-spec =
+pub hold-spec : {M : Type 1} → statement M
+hold-spec =
     tie.close
     (tie.spec
-    (λ c κs. let start : tie.Start = search in valid-headed _ (start .pre .0 .valid))  -- steps-requires
+    (λ c κs. search needs)  -- start-requires
+    (λ c κs. search valid-headed)  -- steps-requires
     (λ c. search needs)  -- sub-walk
     (λ c. search needs)  -- part-log-start
     (λ c. search needs)  -- part-log-end
@@ -42,5 +41,4 @@ since-when-spec =
     (λ c. search needs)  -- part-receives-start
     (λ c. search needs)  -- part-receives-end
     walk-requires
-    (λ c. let after-walk : tie.After-walk = search in after-walk .walk .ensures .marks-size)  -- same-length
     returns)

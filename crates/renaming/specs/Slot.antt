@@ -1,7 +1,7 @@
 -- The words of a party's program, as a renaming of placeholders sees them. Document 02, [7]: "RECEIVE and OPEN rename their whole run of
 -- n numbers, in order, judged at the first number with our n". So each word is plain, a use of one placeholder, or the first number of a
 -- run with the run's n; and an event has a slot for each of its words (translation, Listing).
-use Prim.Native.Nat.{ℕ, _+_, _<_}
+use Prim.Native.Nat.{ℕ, _+_, _≤_, _<_}
 use mathlib.Core.List.{List, [], _∷_, _++_}
 use lib.ListN.{length}
 use Rattle.terms.specs.Term.{Term}
@@ -62,9 +62,14 @@ unfoldable pub partSlots : List ℕ → ℕ → List Slot
 partSlots b p = programSlots (number (table b) (rows b)) (programOf (narration b) p)
 
 -- ---- what is said of our own slots
--- n placeholders were handed out before: what is used was handed out, and a run hands out the next ones
-pub data InOrder : ℕ → List Slot → Type 0 where
-  none : {n : ℕ} → InOrder n []
-  plain : {n w : ℕ} {ss : List Slot} → InOrder n ss → InOrder n (Slot.plain w ∷ ss)
-  uses : {n x : ℕ} {ss : List Slot} → x < n → InOrder n ss → InOrder n (Slot.uses x ∷ ss)
-  runs : {n k : ℕ} {ss : List Slot} → InOrder (n + k) ss → InOrder n (Slot.runs n k ∷ ss)
+-- n is the next placeholder. What is used is an old one, or was handed out since `first`; a run hands out the next ones
+pub data InOrder (old : ℕ → Type 0) (first : ℕ) : ℕ → List Slot → Type 0 where
+  none : {n : ℕ} → InOrder old first n []
+  plain : {n w : ℕ} {ss : List Slot} → InOrder old first n ss → InOrder old first n (Slot.plain w ∷ ss)
+  kept : {n x : ℕ} {ss : List Slot} → old x → InOrder old first n ss → InOrder old first n (Slot.uses x ∷ ss)
+  since : {n x : ℕ} {ss : List Slot} → first ≤ x → x < n → InOrder old first n ss → InOrder old first n (Slot.uses x ∷ ss)
+  runs : {n k : ℕ} {ss : List Slot} → InOrder old first (n + k) ss → InOrder old first n (Slot.runs n k ∷ ss)
+
+-- all that a program of ours uses, it has handed out before, and it hands out 0, 1, .. in order
+abbrev pub Ordered : List Slot → Type 0
+Ordered ss = InOrder (λ x. ⊥) 0 0 ss

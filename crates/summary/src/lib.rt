@@ -15,6 +15,7 @@ use walking::hold;
 use words::put;
 use words::put3;
 use words::wide;
+use words::word;
 ghost use mathlib.Core.Path.{_≡_};
 ghost use mathlib.Core.List.{[], _∷_};
 ghost use mathlib.Core.Bool.{not};
@@ -50,16 +51,6 @@ struct Front {}
 
 impl Front {
     const WORDS: usize = 3;
-}
-
-// Word i, or 0 past the end.
-fn word(summary: &[u32], i: usize) -> u32
-    ensures { λ r. ⌜ r ≡ getD (now (summary .entry)) i 0 ⌝ }
-{
-    if i < summary.len() {
-        return summary[i];
-    }
-    0
 }
 
 // The words of a summary of so many parties and rows.

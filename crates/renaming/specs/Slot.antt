@@ -3,6 +3,8 @@
 -- run with the run's n; and an event has a slot for each of its words (translation, Listing).
 use Prim.Native.Nat.{ℕ, _+_, _≤_, _<_}
 use mathlib.Core.List.{List, [], _∷_, _++_}
+use mathlib.Core.Logic.{_⊎_}
+use mathlib.Core.Path.{_≡_}
 use lib.ListN.{length}
 use Rattle.terms.specs.Term.{Term}
 use Rattle.terms.specs.Image.{Image, Images, countImages}
@@ -73,3 +75,22 @@ pub data InOrder (old : ℕ → Type 0) (first : ℕ) : ℕ → List Slot → Ty
 -- all that a program of ours uses, it has handed out before, and it hands out 0, 1, .. in order
 abbrev pub Ordered : List Slot → Type 0
 Ordered ss = InOrder (λ x. ⊥) 0 0 ss
+
+-- how many placeholders they hand out
+unfoldable pub handed : List Slot → ℕ
+handed [] = 0
+handed (Slot.plain w ∷ ss) = handed ss
+handed (Slot.uses x ∷ ss) = handed ss
+handed (Slot.runs f n ∷ ss) = n + handed ss
+
+-- every placeholder that they use or hand out is below m
+abbrev pub Below : ℕ → List Slot → Type 0
+Below m [] = Unit {0}
+Below m (Slot.plain w ∷ ss) = Below m ss
+Below m (Slot.uses x ∷ ss) = (x < m) × Below m ss
+Below m (Slot.runs f n ∷ ss) = (f + n ≤ m) × Below m ss
+
+-- something is stored under the placeholder x
+abbrev pub Kept : ℕ → List Stored → Type 0
+Kept x [] = ⊥
+Kept x (s ∷ ss) = (s .1 ≡ x) ⊎ Kept x ss

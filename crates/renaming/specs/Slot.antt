@@ -13,6 +13,8 @@ use Rattle.book.specs.Layout.{table, rows}
 use Rattle.translation.specs.Receive.{Event, Stored}
 use Rattle.translation.specs.Narration.{narration, programOf}
 pub mod Laws
+pub mod Holds
+pub mod Order
 
 pub data Slot : Type 0 where
   -- this word

@@ -15,6 +15,7 @@ use Rattle.translation.specs.Narration.{narration, programOf}
 pub mod Laws
 pub mod Holds
 pub mod Order
+pub mod Trials
 
 pub data Slot : Type 0 where
   -- this word

@@ -146,6 +146,10 @@ order-more f (InOrder.kept {x = x} o h) = InOrder.kept (f x o) (order-more f h)
 order-more f (InOrder.since l m h) = InOrder.since l m (order-more f h)
 order-more f (InOrder.runs h) = InOrder.runs (order-more f h)
 
+-- a run begins at the next placeholder
+pub order-run : {old : ℕ → Type 0} {first n f k : ℕ} {ss : List Slot} → InOrder old first n (Slot.runs f k ∷ ss) → f ≡ n
+order-run (InOrder.runs h) = refl
+
 -- all that is used or handed out is below what is handed out in the end
 pub order-below : {old : ℕ → Type 0} {first n : ℕ} {ss : List Slot} → InOrder old first n ss → ((x : ℕ) → old x → x < n)
     → (m : ℕ) → n + handed ss ≤ m → Below m ss

@@ -16,6 +16,7 @@ use Rattle.words.specs.Choice.{pick}
 use Rattle.words.specs.Run.{values}
 use Rattle.translation.specs.Low.{wordLimit}
 use Rattle.renaming.specs.Slot.{Slot}
+pub mod Fresh
 pub mod Laws
 
 -- m is none of the n numbers from y on

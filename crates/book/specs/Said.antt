@@ -3,7 +3,7 @@
 use Prim.Native.Nat.{ℕ}
 use mathlib.Core.List.{List, [], _∷_}
 use Rattle.book.specs.declared.Refusal.{Refusal}
-use Rattle.book.specs.declared.Refusal.the-variants.{Short, Count, Offset, Row, Size, Repeat, Party, Step, Sum, Taken, Move, Room, Summary, Question, Maker}
+use Rattle.book.specs.declared.Refusal.the-variants.{Short, Count, Offset, Row, Size, Repeat, Party, Step, Sum, Taken, Move, Room, Summary, Question, Maker, Nobody}
 use Rattle.book.specs.declared.Told.{Told}
 use Rattle.book.specs.declared.Told.the-variants.{One, Two}
 use Rattle.book.specs.declared.Reading.{Reading}
@@ -37,6 +37,7 @@ refusalSays (Room n) = said 12 (n ∷ [])
 refusalSays (Summary n) = said 20 (n ∷ [])
 refusalSays (Question n) = said 21 (n ∷ [])
 refusalSays (Maker s r) = said 13 (s ∷ r ∷ [])
+refusalSays (Nobody p) = said 22 (p ∷ [])
 
 abbrev pub readingSays : Reading → Said
 readingSays Accepted = accepted

@@ -15,7 +15,7 @@ ghost use Rattle.book.specs.Valid.{Valid};
 ghost use Rattle.book.specs.Layout.{sections, width, rows as rowsOf, parties as partiesOf, steps as stepsOf, pool as poolOf, field, pooled as pooledAt};
 ghost use Rattle.book.specs.Layout.{kind, tag, rowFirst, rowCount, name, partyFirst, partyCount, mark, sender, receiver, stepFirst, stepCount};
 
-// Why a book, a schedule, a buffer, a summary or a question is refused: document 01's table and document 02's lines, a case a line.
+// Why a book, a schedule, a buffer, a summary, a question or a party's number is refused: document 01's table and document 02's lines, a case a line.
 pub enum Refusal {
     Short,
     Count(u32),
@@ -32,6 +32,7 @@ pub enum Refusal {
     Summary(usize),
     Question(u32),
     Maker(u32, u32),
+    Nobody(u32),
 }
 
 // A refusal as it is told: its number with one value, or with two.
@@ -490,5 +491,6 @@ pub fn told_of(refusal: Refusal) -> Told
         Refusal::Summary(length) => Told::One(20, length as u64),
         Refusal::Question(number) => Told::One(21, number as u64),
         Refusal::Maker(step, row) => Told::Two(13, step as u64, row as u64),
+        Refusal::Nobody(party) => Told::One(22, party as u64),
     }
 }

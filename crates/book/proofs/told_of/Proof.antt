@@ -48,6 +48,8 @@ told-of-spec =
     (λ c. search needs)  -- enum-known-refusal-13
     (λ c. search needs)  -- cast-t31
     (λ c. search needs)  -- cast-t32
+    (λ c. search needs)  -- enum-known-refusal-14
+    (λ c. search needs)  -- cast-t33
     (λ c. ap refusalSays (sym (c .enum-told .given .1)))  -- returns
     (λ c. cc)  -- returns-2
     (λ c. cc)  -- returns-3
@@ -62,4 +64,5 @@ told-of-spec =
     (λ c. cc)  -- returns-12
     (λ c. cc)  -- returns-13
     (λ c. cc)  -- returns-14
-    returns-15)
+    returns-15
+    (λ c. cc))  -- returns-16

@@ -6,7 +6,7 @@ use mathlib.Core.Path.{_≡_, refl, sym, ap, _∙_}
 use lib.ListN.{getD}
 use native.Mathlib.Omega.{arith}
 use Rattle.book.specs.declared.Refusal.{Refusal}
-use Rattle.book.specs.declared.Refusal.the-variants.{Short, Count, Offset, Row, Size, Repeat, Party, Step, Sum, Taken, Move, Room, Summary, Question, Maker}
+use Rattle.book.specs.declared.Refusal.the-variants.{Short, Count, Offset, Row, Size, Repeat, Party, Step, Sum, Taken, Move, Room, Summary, Question, Maker, Nobody}
 use Rattle.book.specs.declared.Reading.{Reading}
 use Rattle.book.specs.declared.Reading.the-variants.{Accepted, Refused}
 use Rattle.book.specs.Said.{Said, refusalSays, readingSays}
@@ -27,6 +27,7 @@ refusal-number (Room n) e = omega arith
 refusal-number (Summary n) e = omega arith
 refusal-number (Question n) e = omega arith
 refusal-number (Maker s r) e = omega arith
+refusal-number (Nobody p) e = omega arith
 
 -- ---- an answer is read back from what it says, so no two say the same
 -- value i
@@ -40,7 +41,7 @@ refusalOf s =
     (Short ∷ Short ∷ Count (valueAt s 0) ∷ Offset (valueAt s 0) ∷ Row (valueAt s 0) ∷ Size (valueAt s 0) ∷ Repeat (valueAt s 0)
     ∷ Party (valueAt s 0) ∷ Step (valueAt s 0) ∷ Sum ∷ Taken (valueAt s 0) (valueAt s 1) ∷ Move (valueAt s 0) ∷ Room (valueAt s 0)
     ∷ Maker (valueAt s 0) (valueAt s 1) ∷ Short ∷ Short ∷ Short ∷ Short ∷ Short ∷ Short
-    ∷ Summary (valueAt s 0) ∷ Question (valueAt s 0) ∷ [])
+    ∷ Summary (valueAt s 0) ∷ Question (valueAt s 0) ∷ Nobody (valueAt s 0) ∷ [])
     (s .number) Short
 
 pub refusal-back : (f : Refusal) → refusalOf (refusalSays f) ≡ f
@@ -59,6 +60,7 @@ refusal-back (Room n) = refl
 refusal-back (Summary n) = refl
 refusal-back (Question n) = refl
 refusal-back (Maker s r) = refl
+refusal-back (Nobody p) = refl
 
 pub refusal-injective : (f g : Refusal) → refusalSays f ≡ refusalSays g → f ≡ g
 refusal-injective f g e = sym (refusal-back f) ∙ ap refusalOf e ∙ refusal-back g

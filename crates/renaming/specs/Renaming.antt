@@ -18,6 +18,9 @@ use Rattle.translation.specs.Low.{wordLimit}
 use Rattle.renaming.specs.Slot.{Slot}
 pub mod Fresh
 pub mod Laws
+pub mod Turning
+pub mod Exact
+pub mod Ours
 
 -- m is none of the n numbers from y on
 unfoldable pub outside : ℕ → ℕ → ℕ → Bool

@@ -14,6 +14,8 @@ use Rattle.renaming.specs.Renaming.{allAgree, placeOf}
 use Rattle.renaming.specs.declared.Verdict.{Verdict}
 use Rattle.renaming.specs.declared.Verdict.the-variants.{Same, Differs, Refused}
 pub mod Laws
+pub mod Judged
+pub mod Returned
 
 -- of our slots and their words
 unfoldable pub verdictOf : List Slot → List ℕ → Said

@@ -1,3 +1,5 @@
 pub mod Slot
 pub mod Renaming
 pub mod Verdict
+pub mod Trials
+pub mod Idle

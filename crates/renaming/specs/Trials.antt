@@ -1,9 +1,9 @@
--- Trials of judging, computed from the definitions: slots, words and the verdict on them; ours with one word changed, at every place; and
--- books, a party's number, words and what is judged. Assumes nothing.
+-- Trials of judging, computed from the definitions: slots, words and the verdict on them; ours with one word changed, or cut, at every
+-- place; and books, a party's number, words and what is judged. Assumes nothing.
 use Prim.Native.Nat.{ℕ, suc}
 use mathlib.Core.List.{List, [], _∷_, _++_}
 use mathlib.Core.Path.{_≡_, refl}
-use lib.ListN.{length, getD, set}
+use lib.ListN.{length, getD, set, take}
 use Rattle.words.specs.Run.{values}
 use Rattle.book.specs.Said.{Said, said}
 use Rattle.translation.specs.Trials.{trial, trials, openedFirst, computed}
@@ -147,6 +147,11 @@ pub changed-places : values (λ k. placeOf ofB (changed (callingB 0 1 1 2) k)) 0
     ∷ 19 ∷ 20 ∷ 21 ∷ 22 ∷ 23 ∷ 24 ∷ 25 ∷ 26 ∷ []
 unfolding computed placeOf follow stands agrees named fresh outside
 changed-places = refl
+
+-- renamed and cut, at every place: the shorter length
+pub cut-places : values (λ k. placeOf ofB (take k (callingB 7 8 8 9))) 0 (suc (length ofB)) ≡ values (λ k. k) 0 (suc (length ofB))
+unfolding computed placeOf follow stands agrees named fresh outside
+cut-places = refl
 
 -- ---- books
 pub record Judging : Type 0 where

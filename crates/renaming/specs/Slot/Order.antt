@@ -303,6 +303,10 @@ module _ (b : List ℕ) (p i : ℕ) where
   pub before-kept : (x : ℕ) → Old x → x < next
   before-kept x m = let z = before-turn (λ t. 0) .stored x m in omega arith
 
+  -- what the step stores it has handed out
+  pub step-stored : (x : ℕ) → Kept x (now .stored) → (next ≤ x) × (x < next + length (now .given))
+  step-stored x m = step-turn (λ t. 0) .stored x m
+
   -- all that the step uses or hands out is below the next placeholder behind it
   pub step-below : (row : Term → ℕ) → Below (length (before b p (suc i) .given)) (programSlots row (now .events))
   step-below row =

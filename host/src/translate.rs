@@ -368,19 +368,47 @@ pub fn listing(programs: &[Program]) -> Vec<u32> {
     heads
 }
 
+/// A word of a program, as what it stands there.
+#[derive(Clone, Copy, PartialEq, Eq, Debug)]
+pub enum Slot {
+    /// A code, a row, a step, a tag or a count.
+    Plain(u32),
+    /// A placeholder that is made use of.
+    Use(u32),
+    /// The first of `n` placeholders that are handed out; where `n` is 0, the one that would come next.
+    Run { first: u32, n: u32 },
+}
+
+impl Slot {
+    pub fn word(self) -> u32 {
+        match self {
+            Slot::Plain(word) | Slot::Use(word) | Slot::Run { first: word, .. } => word,
+        }
+    }
+}
+
 impl Event {
     /// The event's words.
     pub fn write(&self, words: &mut Vec<u32>) {
+        self.spell(&mut |slot| words.push(slot.word()));
+    }
+
+    /// The event's words, one after another, each as what it is.
+    pub fn spell(&self, put: &mut impl FnMut(Slot)) {
         match self {
-            Event::New { row } => words.extend([1, *row]),
+            Event::New { row } => plain(&[1, *row], put),
             Event::Send { step, images } => {
-                words.extend([2, *step, images.len() as u32]);
-                images.iter().for_each(|image| image.write(words));
+                plain(&[2, *step, images.len() as u32], put);
+                images.iter().for_each(|image| image.spell(put));
             }
-            Event::Receive { step, first, n } => words.extend([3, *step, *first, *n]),
+            Event::Receive { step, first, n } => {
+                plain(&[3, *step], put);
+                run(*first, *n, put);
+            }
             Event::Check { placeholder, image } => {
-                words.extend([4, *placeholder]);
-                image.write(words);
+                plain(&[4], put);
+                put(Slot::Use(*placeholder));
+                image.spell(put);
             }
             Event::Open {
                 placeholder,
@@ -388,42 +416,66 @@ impl Event {
                 n,
                 key,
             } => {
-                words.extend([5, *placeholder, *first, *n]);
-                key.write(words);
+                plain(&[5], put);
+                put(Slot::Use(*placeholder));
+                run(*first, *n, put);
+                key.spell(put);
             }
             Event::End { stored } => {
-                words.extend([6, stored.len() as u32]);
-                words.extend(stored.as_flattened());
+                plain(&[6, stored.len() as u32], put);
+                for [row, placeholder, step] in stored {
+                    plain(&[*row], put);
+                    put(Slot::Use(*placeholder));
+                    plain(&[*step], put);
+                }
             }
         }
     }
 }
 
 impl Image {
-    /// "Images in prefix words"; a cipher's key stands after the count of its contents, before them.
+    /// The image's words.
     pub fn write(&self, words: &mut Vec<u32>) {
+        self.spell(&mut |slot| words.push(slot.word()));
+    }
+
+    /// "Images in prefix words"; a cipher's key stands after the count of its contents, before them.
+    fn spell(&self, put: &mut impl FnMut(Slot)) {
         match self {
-            Image::Itself(row) => words.extend([0, *row]),
-            Image::Placeholder(number) => words.extend([1, *number]),
+            Image::Itself(row) => plain(&[0, *row], put),
+            Image::Placeholder(number) => {
+                plain(&[1], put);
+                put(Slot::Use(*number));
+            }
             Image::Operation(tag, arguments) => {
-                words.extend([2, *tag, arguments.len() as u32]);
-                arguments.iter().for_each(|image| image.write(words));
+                plain(&[2, *tag, arguments.len() as u32], put);
+                arguments.iter().for_each(|image| image.spell(put));
             }
             Image::Cipher(key, contents) => {
-                words.extend([3, contents.len() as u32]);
-                key.write(words);
-                contents.iter().for_each(|image| image.write(words));
+                plain(&[3, contents.len() as u32], put);
+                key.spell(put);
+                contents.iter().for_each(|image| image.spell(put));
             }
             Image::Public(part) => {
-                words.push(4);
-                part.write(words);
+                plain(&[4], put);
+                part.spell(put);
             }
             Image::Private(part) => {
-                words.push(5);
-                part.write(words);
+                plain(&[5], put);
+                part.spell(put);
             }
         }
     }
+}
+
+fn plain(words: &[u32], put: &mut impl FnMut(Slot)) {
+    words.iter().for_each(|word| put(Slot::Plain(*word)));
+}
+
+/// The first of the placeholders that are handed out, and how many there are.
+fn run(first: u32, n: u32, put: &mut impl FnMut(Slot)) {
+    put(Slot::Run { first, n });
+    put(Slot::Plain(n));
 }
 
 /// Translates a book into `out`: the listing's length, or the first refusal of 1 to 10, 13 and 12. A

@@ -1,10 +1,11 @@
-//! Translation, rehearsal and summaries on bytes, as an editor calls them that keeps its books so (document 02, requests
-//! 1 and 4): the same answers, four bytes a word, low byte first.
+//! Translation, rehearsal, summaries and the judge on bytes, as an editor calls them that keeps its books so (document
+//! 02, requests 1, 4 and 7): the same answers, four bytes a word, low byte first.
 
 use crate::book::{self, Refusal, MOST_PARTIES};
+use crate::judge::{self, Verdict};
 use crate::rehearse;
 use crate::summary;
-use crate::translate;
+use crate::translate::{self, Program};
 use crate::words;
 
 /// Translates a book's bytes into lent ones: the listing's length in words, or the first refusal that applies.
@@ -28,6 +29,11 @@ pub fn ask(summary: &[u8], party: u32, row: u32, step: u32) -> Result<bool, Refu
     summary::ask(&words::of_bytes(summary)?, party, row, step)
 }
 
+/// Judges the bytes of one party's listing against a book's. If either make no words that is refusal 1, before all else.
+pub fn judge(book: &[u8], party: u32, listing: &[u8]) -> Result<Verdict, Refusal> {
+    judge::judge(&words::of_bytes(book)?, party, &words::of_bytes(listing)?)
+}
+
 /// The summary of a book, or its refusal, where room is no matter.
 pub fn summary(book: &[u8]) -> Result<Vec<u32>, Refusal> {
     summary::of(&book::read(&words::of_bytes(book)?)?)
@@ -35,8 +41,12 @@ pub fn summary(book: &[u8]) -> Result<Vec<u32>, Refusal> {
 
 /// The listing of a book, or its refusal, where room is no matter.
 pub fn listing(book: &[u8]) -> Result<Vec<u32>, Refusal> {
-    let book = book::read(&words::of_bytes(book)?)?;
-    Ok(translate::listing(&translate::programs(&book)?))
+    Ok(translate::listing(&programs(book)?))
+}
+
+/// The programs of a book, or its refusal.
+pub fn programs(book: &[u8]) -> Result<Vec<Program>, Refusal> {
+    translate::programs(&book::read(&words::of_bytes(book)?)?)
 }
 
 /// The events done by each party, or the refusal, where room is no matter. "A book or schedule whose byte length isn't
@@ -95,6 +105,10 @@ mod tests {
         assert_eq!(ask(&words::to_bytes(&[1, 1, 1, 1]), 0, 0, 0), Ok(true));
         assert_eq!(ask(&words::to_bytes(&[1, 1, 1, 2]), 0, 0, 0), Ok(false));
         assert_eq!(ask(&words::to_bytes(&[1, 1, 1]), 0, 0, 0), Err(Refusal::new(20, &[3])));
+        // Its one program is END alone.
+        assert_eq!(judge(&book, 0, &words::to_bytes(&[6, 0])), Ok(Verdict::Same));
+        assert_eq!(judge(&book, 0, &words::to_bytes(&[6, 1])), Ok(Verdict::Differs(1)));
+        assert_eq!(judge(&book, 1, &[]), Err(Refusal::new(22, &[1])));
     }
 
     #[test]
@@ -109,6 +123,11 @@ mod tests {
         assert_eq!(write_summary(&book[..63], &mut []), one);
         for odd in [1, 2, 3, 13, 17] {
             assert_eq!(ask(&[1; 17][..odd], 9, 9, 9), Err(Refusal::new(1, &[0])));
+            assert_eq!(judge(&book, 9, &[6; 17][..odd]), Err(Refusal::new(1, &[0])));
+            assert_eq!(judge(&book[odd..], 0, &[6, 0, 0, 0]), Err(Refusal::new(1, &[0])));
+            // Before the book's own refusal too: these are no rows at all.
+            assert_eq!(judge(&[0; 32], 0, &[6; 17][..odd]), Err(Refusal::new(1, &[0])));
         }
+        assert_eq!(judge(&[0; 32], 9, &[]), Err(Refusal::new(2, &[0])));
     }
 }

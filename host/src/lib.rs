@@ -1,5 +1,5 @@
-//! Nghiralum's second implementation, written from the papers alone, on terms: reader, translator, rehearsal and
-//! summaries, random books, the narration's text format, and what the gate asks for. It shares nothing with the proved
+//! Nghiralum's second implementation, written from the papers alone, on terms: reader, translator, rehearsal, summaries
+//! and judge, random books, the narration's text format, and what the gate asks for. It shares nothing with the proved
 //! code, so that each tests the other.
 
 pub mod bench;
@@ -10,6 +10,7 @@ pub mod corpus;
 pub mod edits;
 pub mod files;
 pub mod frames;
+pub mod judge;
 pub mod lean;
 pub mod library;
 pub mod machine;

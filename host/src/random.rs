@@ -1,10 +1,13 @@
 //! Random books: most well formed, about half of those playable, those with parties that make nothing among them, the
-//! rest damaged at one place or another, so that every refusal of a book is met. And random questions about summaries.
+//! rest damaged at one place or another, so that every refusal of a book is met. And random questions about summaries, and
+//! listings to be judged.
 
 mod damage;
+mod listing;
 mod question;
 mod shape;
 
+pub use listing::{listing, Listing};
 pub use question::{question, Question};
 
 use crate::book::Book;

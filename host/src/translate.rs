@@ -356,16 +356,22 @@ pub fn programs(book: &Book) -> Result<Vec<Program>, Refusal> {
 /// listings in party order".
 pub fn listing(programs: &[Program]) -> Vec<u32> {
     let mut heads = vec![programs.len() as u32];
-    let mut events = Vec::new();
+    let mut parts = Vec::new();
     let start = 1 + 2 * programs.len();
     for program in programs {
-        let before = events.len();
-        program.iter().for_each(|event| event.write(&mut events));
-        heads.push((start + before) as u32);
-        heads.push((events.len() - before) as u32);
+        let part = part(program);
+        heads.extend([start + parts.len(), part.len()].map(|word| word as u32));
+        parts.extend(part);
     }
-    heads.extend(events);
+    heads.extend(parts);
     heads
+}
+
+/// A party's part of the listing: the words of its program.
+pub fn part(program: &Program) -> Vec<u32> {
+    let mut words = Vec::new();
+    program.iter().for_each(|event| event.write(&mut words));
+    words
 }
 
 /// A word of a program, as what it stands there.

@@ -78,9 +78,9 @@ pub enum Clash {
     /// The word is none of a placeholder's.
     Plain,
     /// Our placeholder is called so by them, since the run at this word.
-    Called { name: u32, since: usize },
-    /// "Never past the largest u32."
-    Leaves,
+    Called { ours: u32, name: u32, since: usize },
+    /// So many numbers from theirs on go "past the largest u32".
+    Leaves { n: u32 },
     /// A number of the run stands for a placeholder of ours already, since the run at this word.
     Taken { number: u32, ours: u32, since: usize },
     /// "Where n is 0 the first number must be ours."
@@ -136,14 +136,14 @@ impl Renaming {
             Slot::Use(ours) => {
                 // Our programs use what they were handed out.
                 let (name, since) = self.names[&ours];
-                same(name, theirs, Clash::Called { name, since })
+                same(name, theirs, Clash::Called { ours, name, since })
             }
         }
     }
 
     /// "RECEIVE and OPEN rename their whole run of n numbers, in order, judged at the first number with our n."
     fn hand_out(&mut self, place: usize, first: u32, n: u32, theirs: u32) -> Result<(), Clash> {
-        let last = theirs.checked_add(n - 1).ok_or(Clash::Leaves)?;
+        let last = theirs.checked_add(n - 1).ok_or(Clash::Leaves { n })?;
         for number in theirs..=last {
             if let Some(&(ours, since)) = self.meant.get(&number) {
                 return Err(Clash::Taken { number, ours, since });

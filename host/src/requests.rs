@@ -203,7 +203,7 @@ impl Request {
             .iter()
             .zip(given)
             .map(|(parameter, asked)| match parameter {
-                Number => number(asked),
+                Number => Ok(words::to_bytes(&[words::number(asked)?])),
                 _ => function.slice(asked),
             });
         Ok(Request {
@@ -281,14 +281,6 @@ impl Function {
             }
         }
         Ok(slice)
-    }
-}
-
-/// A number as it is asked for, as its word's bytes.
-fn number(asked: &str) -> Result<Vec<u8>, String> {
-    match asked.parse() {
-        Ok(number) if asked.bytes().all(|byte| byte.is_ascii_digit()) => Ok(words::to_bytes(&[number])),
-        _ => Err(format!("`{asked}` is no number from 0 to {}", u32::MAX)),
     }
 }
 

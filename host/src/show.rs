@@ -1,14 +1,17 @@
 //! Prints a book back: as a narration that narrates to the very same book, with each party's program
-//! under it in comments; or, if the book is refused by 1 to 9, its raw words, all in comments. And its tables.
+//! under it in comments; or, if the book is refused by 1 to 9, its raw words, all in comments. And its tables, and the
+//! verdict on another tool's listing.
 
 mod events;
 mod order;
 mod raw;
 mod tables;
 mod texts;
+mod verdict;
 mod why;
 
 pub use tables::{sources, summary};
+pub use verdict::verdict;
 
 use crate::book::{self, Book, Party, Refusal, Step, Stop, Unmade};
 use crate::translate;

@@ -29,10 +29,9 @@ pub fn of_text(text: &str) -> Result<Vec<u32>, String> {
     for (number, line) in text.lines().enumerate() {
         let line = line.split('#').next().unwrap_or("");
         for piece in line.split_ascii_whitespace() {
-            let digits = piece.bytes().all(|byte| byte.is_ascii_digit());
-            match piece.parse() {
-                Ok(word) if digits => words.push(word),
-                _ => {
+            match of_figures(piece) {
+                Some(word) => words.push(word),
+                None => {
                     // The piece is a part of the line, so the distance of the two is its place there.
                     let before = piece.as_ptr() as usize - line.as_ptr() as usize;
                     let column = line[..before].chars().count() + 1;
@@ -46,6 +45,17 @@ pub fn of_text(text: &str) -> Result<Vec<u32>, String> {
         }
     }
     Ok(words)
+}
+
+/// The word of a text that has decimal figures alone.
+fn of_figures(text: &str) -> Option<u32> {
+    let figures = text.bytes().all(|byte| byte.is_ascii_digit());
+    text.parse().ok().filter(|_| figures)
+}
+
+/// A number that is asked for in decimal, or what is wrong with it.
+pub fn number(text: &str) -> Result<u32, String> {
+    of_figures(text).ok_or_else(|| format!("`{text}` is no number from 0 to {}", u32::MAX))
 }
 
 /// Words in decimal on one line with single spaces, without the line's end.

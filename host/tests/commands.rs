@@ -93,6 +93,7 @@ fn help() {
         "narrate",
         "show",
         "summary",
+        "judge",
         "words",
         "books",
         "shelf",
@@ -144,6 +145,17 @@ fn bad_input() {
     complains(&["translate", "one", "two"]);
     complains(&["summary"]);
     complains(&["summary", "one", "two"]);
+    assert!(complains(&["judge", &missing, "0", &words]).contains("missing"));
+    assert!(complains(&["judge", &words, "0", &missing]).contains("missing"));
+    assert!(complains(&["judge", "--ours", &missing, "0"]).contains("missing"));
+    for party in ["A", "", "-1", "+1", "4294967296", "0x1"] {
+        assert!(complains(&["judge", &words, party, &words]).contains("no number from 0"));
+        assert!(complains(&["judge", "--ours", &words, party]).contains("no number from 0"));
+    }
+    complains(&["judge", &words, "0"]);
+    complains(&["judge", &words, "0", &words, &words]);
+    complains(&["judge", "--ours", &words]);
+    complains(&["judge", "--ours", &words, "0", "out", "more"]);
     assert!(complains(&["nothing", "like", "it"]).contains("nothing"));
 }
 
@@ -172,6 +184,8 @@ fn closed_pipe() {
         &["translate", &book][..],
         &["show", &book],
         &["summary", &book],
+        &["judge", "--ours", &book, "0"],
+        &["judge", &book, "0", &book],
         &["words", &text],
         &["help"],
     ] {

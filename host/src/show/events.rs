@@ -12,7 +12,8 @@ pub fn write(party: &str, program: &[Event], texts: &Texts, out: &mut String) {
     }
 }
 
-fn write_event(event: &Event, texts: &Texts, out: &mut String) {
+/// One event without the party's name, as it stands on a line.
+pub fn write_event(event: &Event, texts: &Texts, out: &mut String) {
     match event {
         Event::New { row } => out.push_str(&format!("new {}", texts.row(*row))),
         Event::Send { step, images } => {

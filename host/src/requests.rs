@@ -9,6 +9,7 @@ pub use made::{random, Calls};
 use crate::book::{self, Refusal};
 use crate::bytes;
 use crate::files;
+use crate::judge;
 use crate::rehearse;
 use crate::summary;
 use crate::translate;
@@ -38,13 +39,14 @@ enum Parameter {
     Book,
     Schedule,
     Summary,
+    Listing,
     Lent,
     Number,
 }
 
-use Parameter::{Book, Lent, Number, Schedule, Summary};
+use Parameter::{Book, Lent, Listing, Number, Schedule, Summary};
 
-pub const FUNCTIONS: [Function; 10] = [
+pub const FUNCTIONS: [Function; 12] = [
     Function {
         number: 1,
         name: "read",
@@ -153,6 +155,27 @@ pub const FUNCTIONS: [Function; 10] = [
             Ok(said(yes).to_string())
         },
     },
+    Function {
+        number: 11,
+        name: "judge",
+        item: 4,
+        parameters: &[Book, Listing, Number],
+        call: |given| {
+            let [book, listing] = [0, 1].map(|at| words_of(&given[at]));
+            let verdict = judge::judge(&book, number_of(&given[2]), &listing)?;
+            Ok(verdict.to_string())
+        },
+    },
+    Function {
+        number: 12,
+        name: "nghiralum_judge",
+        item: 1,
+        parameters: &[Book, Listing, Number],
+        call: |given| {
+            let verdict = bytes::judge(&given[0], number_of(&given[2]), &given[1])?;
+            Ok(verdict.to_string())
+        },
+    },
 ];
 
 /// The words of a slice that has whole words.
@@ -160,10 +183,14 @@ fn words_of(slice: &[u8]) -> Vec<u32> {
     words::of_bytes(slice).unwrap_or_default()
 }
 
+/// The number of its word's bytes.
+fn number_of(given: &[u8]) -> u32 {
+    words_of(given).first().copied().unwrap_or_default()
+}
+
 /// The numbers of a party, a row and a step, behind a summary.
 fn question_of(given: &[Vec<u8>]) -> [u32; 3] {
-    let number = |at: usize| words_of(&given[at]).first().copied().unwrap_or_default();
-    [1, 2, 3].map(number)
+    [1, 2, 3].map(|at| number_of(&given[at]))
 }
 
 /// What is printed of an answered question.

@@ -169,6 +169,63 @@ fn summaries_and_questions() {
     assert_eq!(answered(&stream.concat()), (lines, Ok(8)));
 }
 
+/// Listings that are judged: the party's number stands behind them, on bytes too.
+#[test]
+fn verdicts() {
+    let book = slice(&EXAMPLE_1);
+    let part = &LISTING_1[25..];
+    let stream = [
+        &[11][..],
+        &book,
+        &slice(part),
+        &[1],
+        &[11],
+        &book,
+        &slice(part),
+        &[0],
+        &[11],
+        &book,
+        &slice(&part[..20]),
+        &[1],
+        &[11],
+        &book,
+        &slice(&[]),
+        &[2],
+        &[11],
+        &slice(&EXAMPLE_1[..EXAMPLE_1.len() - 1]),
+        &slice(part),
+        &[u32::MAX],
+    ];
+    let lines = "same\ndiffers 0\ndiffers 20\nrefused 22 2\nrefused 3 8\n";
+    assert_eq!(answered(&to_bytes(&stream.concat())), (lines.to_string(), Ok(5)));
+
+    let [book, part] = [&EXAMPLE_1[..], part].map(to_bytes);
+    let stream = [
+        to_bytes(&[12]),
+        octets(&book, 255),
+        octets(&part, 255),
+        to_bytes(&[1]),
+        to_bytes(&[12]),
+        octets(&book, 255),
+        octets(&part[..part.len() - 4], 255),
+        to_bytes(&[1]),
+        to_bytes(&[12]),
+        octets(&book, 255),
+        octets(&part[1..], 255),
+        to_bytes(&[9]),
+        to_bytes(&[12]),
+        octets(&book[1..], 255),
+        octets(&part, 255),
+        to_bytes(&[1]),
+        to_bytes(&[12]),
+        octets(&book, 255),
+        octets(&part, 255),
+        to_bytes(&[u32::MAX]),
+    ];
+    let lines = "same\ndiffers 26\nrefused 1 0\nrefused 1 0\nrefused 22 4294967295\n";
+    assert_eq!(answered(&stream.concat()), (lines.to_string(), Ok(5)));
+}
+
 /// Acceptance is more than reading: a book that keeps its rules and can't be played, by 10 or by 13.
 #[test]
 fn read_and_accept_differ() {
@@ -192,9 +249,12 @@ fn read_and_accept_differ() {
             &[7],
             &book,
             &[0],
+            &[11],
+            &book,
+            &[0, 99],
         ];
         let (lines, count) = answered(&to_bytes(&stream.concat()));
-        assert_eq!((lines, count), (format!("accepted\n{}", refusal.repeat(4)), Ok(5)));
+        assert_eq!((lines, count), (format!("accepted\n{}", refusal.repeat(5)), Ok(6)));
     }
 }
 
@@ -216,6 +276,8 @@ fn what_is_wrong() {
     for cut in 1..20 {
         assert_eq!(said(&to_bytes(&[8, 1, 5, 6, 7, 8])[..24 - cut]), inside);
         assert_eq!(said(&to_bytes(&[10, 1, 5, 6, 7, 8])[..24 - cut]), inside);
+        assert_eq!(said(&to_bytes(&[11, 1, 5, 1, 6, 7])[..24 - cut]), inside);
+        assert_eq!(said(&to_bytes(&[12, 1, 5, 1, 6, 7])[..24 - cut]), inside);
     }
     for number in [0, FUNCTIONS.len() as u32 + 1, u32::MAX] {
         assert_eq!(
@@ -277,6 +339,13 @@ fn what_is_written() {
     );
     assert_eq!(written("write_summary", &["=", "=1x9"]), [7, 0, 1, 9]);
     assert_eq!(written("nghiralum_summary", &["=", "=1x9"]), [9, 0, 1, 9]);
+    assert_eq!(written("judge", &["=1,2", "=6,0", "3"]), [11, 2, 1, 2, 2, 6, 0, 3]);
+    assert_eq!(
+        written("nghiralum_judge", &[&odd, "=6,0", "3"]),
+        [12, 3, 0x0003_0201, 2, 6, 3]
+    );
+    assert!(wrong("judge", &["=", "="]).contains("2 slices and 1 numbers, not 2"));
+    assert!(wrong("judge", &["=", "=", "="]).contains("no number from 0"));
     assert!(wrong("ask", &["=", "1", "2"]).contains("1 slices and 3 numbers, not 3"));
     for number in ["=1", "", "-1", "+1", "4294967296", "x"] {
         assert!(
@@ -298,11 +367,11 @@ fn the_stream_of_the_books() {
     let calls = Calls::of(&top().join("books")).unwrap();
     let (lines, count) = answered(&calls.stdin);
     assert_eq!((lines.as_bytes(), count), (&calls.stdout[..], Ok(calls.requests)));
-    assert!(calls.requests < 1_700, "{}", calls.requests);
-    for whole in ["accepted", "yes", "no", "refused 12 16387"] {
+    assert!(calls.requests < 2_300, "{}", calls.requests);
+    for whole in ["accepted", "yes", "no", "refused 12 16387", "same", "differs 0"] {
         assert!(lines.lines().any(|line| line == whole), "{whole}");
     }
-    for number in (1..=13).chain([20, 21]) {
+    for number in (1..=13).chain(20..=22) {
         let refused = format!("refused {number} ");
         assert!(lines.contains(&refused), "{refused}");
     }
@@ -332,16 +401,31 @@ fn the_stream_of_the_books() {
             assert!(met.contains(&(number, kind.to_string())), "{number} {kind}");
         }
     }
-    assert!(met.contains(&(10, "refused 1".to_string())));
+    for number in [11, 12] {
+        for kind in [
+            "same",
+            "differs 0",
+            "differs 9",
+            "refused 2",
+            "refused 10",
+            "refused 13",
+            "refused 22",
+        ] {
+            assert!(met.contains(&(number, kind.to_string())), "{number} {kind}");
+        }
+    }
+    for number in [10, 12] {
+        assert!(met.contains(&(number, "refused 1".to_string())), "{number}");
+    }
 }
 
 /// Random requests are whole, and the same seed gives the same ones.
 #[test]
 fn random_requests() {
-    let stream = requests::random(5, 600);
-    assert_eq!(stream, requests::random(5, 600));
+    let stream = requests::random(5, 700);
+    assert_eq!(stream, requests::random(5, 700));
     let (lines, count) = answered(&stream);
-    assert_eq!(count, Ok(600));
+    assert_eq!(count, Ok(700));
     for kind in [
         "accepted\n",
         "refused 2 ",
@@ -359,7 +443,7 @@ fn random_requests() {
         Request::next(&mut rest).unwrap();
     }
     assert!(functions.iter().all(|count| *count > 10), "{functions:?}");
-    for kind in ["yes", "no", "refused 20", "refused 21"] {
+    for kind in ["yes", "no", "refused 20", "refused 21", "same", "differs", "refused 22"] {
         let count = lines.lines().filter(|line| line.starts_with(kind)).count();
         assert!(count > 3, "{kind}: {count}");
     }
@@ -393,6 +477,8 @@ fn the_commands() {
     assert_eq!(answer.status.code(), Some(0));
     let asked = output(&["requests", "--write", "ask", "=1,1,1,1", "0", "0", "0"]).stdout;
     assert_eq!(piped(&["requests", "--answer"], &asked).stdout, b"yes\n");
+    let judged = output(&["requests", "--write", "judge", &book, "=3,0,7", "0"]).stdout;
+    assert_eq!(piped(&["requests", "--answer"], &judged).stdout, b"differs 3\n");
     let cut = piped(&["requests", "--answer"], &[&one[..], &two[..9]].concat());
     assert_eq!(cut.stdout, line_1().into_bytes());
     assert_eq!(cut.stderr, b"host: request 2: standard input ends inside a request\n");
@@ -404,8 +490,9 @@ fn the_commands() {
 
     let to = Folder::new("requests-crate");
     let (at, crate_at) = (folder.path(""), to.path(""));
-    // For the one book 14 and, of its summary, 7; then 37 at the edges, and 3 that are long.
-    let said = |done: &str| format!("61 requests, {done} {crate_at}\n");
+    // For the one book 14, of its summary 7 and 4 listings; then 37 questions and 110 listings at the edges, and 4 that are
+    // long.
+    let said = |done: &str| format!("176 requests, {done} {crate_at}\n");
     assert_eq!(common::printed(&["requests", &at, &crate_at]), said("written to"));
     assert_eq!(
         common::printed(&["requests", "--check", &at, &crate_at]),

@@ -1,6 +1,6 @@
 //! Streams of requests: the one that the program `calls` is run on, and random ones.
 
-use super::{words_of, Book, Function, Lent, Number, Request, Schedule, Summary, FUNCTIONS, MOST_BYTES};
+use super::{words_of, Book, Function, Lent, Listing, Number, Request, Schedule, Summary, FUNCTIONS, MOST_BYTES};
 use crate::book;
 use crate::bytes;
 use crate::files;
@@ -8,6 +8,7 @@ use crate::random::{self, question, Question, Random};
 use crate::rehearse::MOST_MOVES;
 use crate::shelf;
 use crate::summary::HEAD;
+use crate::translate;
 use crate::words;
 use std::path::Path;
 
@@ -16,13 +17,18 @@ const SMALL: usize = 100;
 /// The lent bytes have this in them before.
 const BEFORE: u8 = 7;
 
-/// The functions from here on are of summaries, and are tried in their own way.
+/// The functions from here on are of summaries and of listings, and are tried in their own way.
 const FIRST_OF_SUMMARIES: usize = 6;
 const TRANSLATE: &Function = &FUNCTIONS[2];
 const WRITE_SUMMARY: &Function = &FUNCTIONS[6];
 const ASK: &Function = &FUNCTIONS[7];
 const SUMMARY_BYTES: &Function = &FUNCTIONS[8];
 const ASK_BYTES: &Function = &FUNCTIONS[9];
+const JUDGE: &Function = &FUNCTIONS[10];
+const JUDGE_BYTES: &Function = &FUNCTIONS[11];
+
+/// So many listings are judged for each small book, on words and on bytes.
+const LISTINGS: usize = 2;
 
 /// The two files of the program's crate, and how many requests are in them.
 pub struct Calls {
@@ -33,7 +39,8 @@ pub struct Calls {
 
 impl Calls {
     /// Over the books of a folder, in the order of their names: each function for the small ones, in several ways; every
-    /// kind of question about the first summary; and the longest slices that are taken for the longest book.
+    /// kind of question about the first summary, and every word of the first parts changed; and the longest slices that
+    /// are taken for the longest book.
     pub fn of(folder: &Path) -> Result<Calls, String> {
         let mut calls = Calls {
             stdin: Vec::new(),
@@ -41,6 +48,7 @@ impl Calls {
             requests: 0,
         };
         let (mut longest, mut first) = (Vec::new(), None);
+        let mut random = Random::new(0x6a75_6467);
         for file in files::ending(folder, "book")? {
             let Ok(book) = words::of_bytes(&files::bytes(&file)?) else {
                 continue;
@@ -49,20 +57,24 @@ impl Calls {
                 for function in &FUNCTIONS[..FIRST_OF_SUMMARIES] {
                     calls.try_out(function, &book);
                 }
-                let summary = calls.try_summary(&words::to_bytes(&book));
-                first = first.or(summary);
+                let book = words::to_bytes(&book);
+                calls.try_judge(&mut random, &book);
+                let summary = calls.try_summary(&book);
+                first = first.or(summary.map(|summary| (book, summary)));
             }
             if longest.len() < book.len() && book.len() <= book::LONGEST {
                 longest = book;
             }
         }
-        if let Some(summary) = first {
+        if let Some((book, summary)) = first {
             calls.try_edges(&summary);
+            calls.try_every_word(&book);
         }
         let longest = words::to_bytes(&longest);
         calls.add(TRANSLATE, &[&longest, &[BEFORE; MOST_BYTES]]);
         calls.add(WRITE_SUMMARY, &[&longest, &[BEFORE; MOST_BYTES]]);
         calls.ask(ASK, &longest_question());
+        calls.judge(JUDGE, &longest, 0, &longest_listing(&longest));
         Ok(calls)
     }
 
@@ -134,6 +146,50 @@ impl Calls {
         let [party, row, step] = question.numbers.map(|number| words::to_bytes(&[number]));
         let summary = words::to_bytes(&question.summary);
         self.add(function, &[&summary, &party, &row, &step]);
+    }
+
+    /// Listings for a book: renamed, damaged, and for no party.
+    fn try_judge(&mut self, random: &mut Random, book: &[u8]) {
+        let programs = bytes::programs(book).ok();
+        for function in [JUDGE, JUDGE_BYTES].repeat(LISTINGS) {
+            let random::Listing { party, words, .. } = random::listing(random, programs.as_deref());
+            self.judge(function, book, party, &words::to_bytes(&words));
+        }
+    }
+
+    /// Each party's own part for a book that is accepted, and this with any one word changed, cut at any word and as bytes
+    /// at the next one, and with a word more; for parties that there are none of; and with a book of odd bytes.
+    fn try_every_word(&mut self, book: &[u8]) {
+        let programs = bytes::programs(book).unwrap_or_default();
+        for (party, program) in (0..).zip(&programs) {
+            let part = translate::part(program);
+            for at in 0..part.len() {
+                let mut other = part.clone();
+                other[at] ^= 1;
+                self.judge(JUDGE, book, party, &words::to_bytes(&other));
+                self.judge(JUDGE_BYTES, book, party, &words::to_bytes(&part[..at]));
+            }
+            let part = words::to_bytes(&part);
+            let longer = [&part[..], &[0; 4]].concat();
+            for (function, length) in [
+                (JUDGE, 0),
+                (JUDGE, 4),
+                (JUDGE_BYTES, 0),
+                (JUDGE_BYTES, 1),
+                (JUDGE_BYTES, 4),
+            ] {
+                self.judge(function, book, party, &longer[..part.len() + length]);
+            }
+            self.judge(JUDGE_BYTES, &book[1..], party, &part);
+        }
+        for party in [programs.len() as u32, u32::MAX] {
+            self.judge(JUDGE, book, party, &[]);
+            self.judge(JUDGE_BYTES, book, party, &[]);
+        }
+    }
+
+    fn judge(&mut self, function: &'static Function, book: &[u8], party: u32, listing: &[u8]) {
+        self.add(function, &[book, listing, &words::to_bytes(&[party])]);
     }
 
     fn add(&mut self, function: &'static Function, given: &[&[u8]]) {
@@ -217,6 +273,14 @@ fn longest_question() -> Question {
     }
 }
 
+/// A book's first part, with as many words behind it as a slice may have.
+fn longest_listing(book: &[u8]) -> Vec<u8> {
+    let programs = bytes::programs(book).unwrap_or_default();
+    let mut part = words::to_bytes(&programs.first().map(translate::part).unwrap_or_default());
+    part.resize(MOST_BYTES, BEFORE);
+    part
+}
+
 /// How many words a function's output has; of a book that is refused, some.
 fn need(function: &Function, book: &[u8]) -> usize {
     if function.parameters.contains(&Schedule) {
@@ -238,7 +302,12 @@ pub fn random(seed: u64, count: usize) -> Vec<u8> {
         let book = whole(&book, function.item);
         let summary = bytes::summary(book).ok();
         let asked = question(&mut random, summary.as_deref());
-        let mut numbers = asked.numbers.into_iter();
+        let judged = random::listing(&mut random, bytes::programs(book).ok().as_deref());
+        let mut numbers = match function.parameters.contains(&Listing) {
+            true => vec![judged.party],
+            false => asked.numbers.to_vec(),
+        }
+        .into_iter();
         let given = function.parameters.iter().map(|parameter| match parameter {
             Book => book.to_vec(),
             Schedule => {
@@ -248,6 +317,10 @@ pub fn random(seed: u64, count: usize) -> Vec<u8> {
             Summary => {
                 let summary = words::to_bytes(&asked.summary);
                 odd(&mut random, whole(&summary, 4).to_vec(), function.item)
+            }
+            Listing => {
+                let listing = words::to_bytes(&judged.words);
+                odd(&mut random, whole(&listing, 4).to_vec(), function.item)
             }
             Lent => {
                 let lent = lent(&mut random, need(function, book));

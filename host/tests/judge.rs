@@ -537,6 +537,7 @@ fn random_listings() {
         ("a run up to the largest number", true, true, false),
         ("a run past the largest number", false, true, false),
         ("a run of none renamed", false, true, false),
+        ("another count of a run", false, true, false),
         ("a word changed", true, true, false),
         ("cut", false, true, false),
         ("lengthened", false, true, false),

@@ -48,9 +48,9 @@ fn of(random: &mut Random, program: &Program) -> Listing {
     if random.percent(25) {
         kind = spoil_runs(random, &mut runs).unwrap_or(kind);
     }
-    let mut words = spelt(program, &runs);
+    let (mut words, counts) = spelt(program, &runs);
     if random.percent(25) {
-        kind = spoil_words(random, &mut words);
+        kind = spoil_words(random, &mut words, &counts);
     }
     Listing { party: 0, words, kind }
 }
@@ -151,27 +151,32 @@ fn some(random: &mut Random, from: &[usize]) -> Option<usize> {
     (!from.is_empty()).then(|| *random.pick(from))
 }
 
-/// The program's words, its placeholders renamed by the runs; those past the largest number begin anew.
-fn spelt(program: &Program, runs: &[Run]) -> Vec<u32> {
+/// The program's words, its placeholders renamed by the runs; those past the largest number begin anew. And where the
+/// runs' counts stand.
+fn spelt(program: &Program, runs: &[Run]) -> (Vec<u32>, Vec<usize>) {
     // Ours count from 0, run by run.
     let names: Vec<u32> = (runs.iter())
         .flat_map(|run| (0..run.n).map(|at| run.theirs.wrapping_add(at)))
         .collect();
     let mut starts = runs.iter();
-    let mut words = Vec::new();
+    let (mut words, mut counts) = (Vec::new(), Vec::new());
     let mut put = |slot: Slot| {
-        words.push(match slot {
+        let word = match slot {
             Slot::Plain(word) => word,
             Slot::Use(ours) => names[ours as usize],
-            Slot::Run { first, .. } => starts.next().map_or(first, |run| run.theirs),
-        });
+            Slot::Run { first, .. } => {
+                counts.push(words.len() + 1);
+                starts.next().map_or(first, |run| run.theirs)
+            }
+        };
+        words.push(word);
     };
     program.iter().for_each(|event| event.spell(&mut put));
-    words
+    (words, counts)
 }
 
 /// Another word, fewer of them or more: what was done.
-fn spoil_words(random: &mut Random, words: &mut Vec<u32>) -> &'static str {
+fn spoil_words(random: &mut Random, words: &mut Vec<u32>, counts: &[usize]) -> &'static str {
     match random.below(8) {
         0 => {
             words.truncate(random.below(words.len()));
@@ -185,6 +190,11 @@ fn spoil_words(random: &mut Random, words: &mut Vec<u32>) -> &'static str {
             words.extend(any_words(random));
             words.push(random.word() as u32);
             "lengthened"
+        }
+        3 if !counts.is_empty() => {
+            let at = *random.pick(counts);
+            words[at] = *random.pick(&[words[at] + 1, words[at].wrapping_sub(1), u32::MAX]);
+            "another count of a run"
         }
         _ => {
             let (at, other) = (random.below(words.len()), random.below(words.len()));

@@ -2,6 +2,7 @@
 //! by name, those on words called as Rattle's own code calls them, those on bytes as C does.
 
 use crate::book::Refusal;
+use crate::judge::Verdict;
 use std::ffi::{c_char, c_int, c_void, CStr, CString};
 use std::mem;
 use std::path::Path;
@@ -23,6 +24,8 @@ const WRITE_SUMMARY: &CStr = c"summary::write_summary";
 const ASK: &CStr = c"summary::ask";
 const SUMMARY_BYTES: &CStr = c"nghiralum_summary";
 const ASK_BYTES: &CStr = c"nghiralum_ask";
+const JUDGE: &CStr = c"judge::judge";
+const JUDGE_BYTES: &CStr = c"nghiralum_judge";
 
 /// A slice as Rattle hands it over: the address of these two.
 #[repr(C)]
@@ -47,8 +50,8 @@ impl Slice {
     }
 }
 
-/// Rattle's `Answer`: case 0 with a length, or 1 with a refusal. And its `Reply`, which is as large: case 0 for yes, 1 for
-/// no, 2 with a refusal.
+/// Rattle's `Answer`: case 0 with a length, or 1 with a refusal. And two that are as large: its `Reply`, case 0 for yes, 1
+/// for no, 2 with a refusal; and its `Verdict`, case 0 for the same, 1 with a place, 2 with a refusal.
 #[repr(C)]
 #[derive(Default)]
 struct Answer {
@@ -77,7 +80,7 @@ impl Value {
 
 impl Value {
     /// The refusal as the host gives it. Rattle's `Refusal` has a case for each number, in the order in which they came
-    /// up: 1 to 12, 20, 21, 13. Which values a case has, this can only take from its number. A new refusal, or a case with
+    /// up: 1 to 12, 20, 21, 13, 22. Which values a case has, this can only take from its number. A new refusal, or a case with
     /// other values, needs a line here. All bytes were set before the call, so whatever case comes back, what is read here
     /// was written.
     fn refusal(self) -> Refusal {
@@ -85,6 +88,7 @@ impl Value {
             case @ 0..12 => u32::from(case) + 1,
             case @ 12..14 => u32::from(case) + 8,
             14 => 13,
+            15 => 22,
             _ => NO_REFUSAL,
         };
         let place = match number {
@@ -117,6 +121,15 @@ impl Answer {
             _ => Err(self.value.refusal()),
         }
     }
+
+    /// The verdict on a listing, as the host gives it.
+    fn verdict(&self) -> Result<Verdict, Refusal> {
+        match self.case {
+            0 => Ok(Verdict::Same),
+            1 => Ok(Verdict::Differs(self.value.length(0))),
+            _ => Err(self.value.refusal()),
+        }
+    }
 }
 
 /// An answer as the functions on bytes give it, in one number: the refusal's in the lowest byte, 0 for none; above it
@@ -135,12 +148,24 @@ pub fn packed_reply(reply: &Result<bool, Refusal>) -> u64 {
     packed(&reply.clone().map(usize::from))
 }
 
+/// The verdict on a listing, packed likewise: the first value is 1 for the same and 0 for another, of which the second is
+/// the place.
+pub fn packed_verdict(verdict: &Result<Verdict, Refusal>) -> u64 {
+    match verdict {
+        Ok(Verdict::Same) => 1 << 8,
+        Ok(Verdict::Differs(place)) => (*place as u64) << 40,
+        Err(refusal) => packed(&Err(refusal.clone())),
+    }
+}
+
 type Translate = unsafe extern "C" fn(*mut Answer, *const Slice, *const Slice);
 type Rehearse = unsafe extern "C" fn(*mut Answer, *const Slice, *const Slice, *const Slice);
 type TranslateBytes = unsafe extern "C" fn(*const u8, usize, *mut u8, usize) -> u64;
 type RehearseBytes = unsafe extern "C" fn(*const u8, usize, *const u8, usize, *mut u8, usize) -> u64;
 type Ask = unsafe extern "C" fn(*mut Answer, *const Slice, u32, u32, u32);
 type AskBytes = unsafe extern "C" fn(*const u8, usize, u32, u32, u32) -> u64;
+type Judge = unsafe extern "C" fn(*mut Answer, *const Slice, u32, *const Slice);
+type JudgeBytes = unsafe extern "C" fn(*const u8, usize, u32, *const u8, usize) -> u64;
 
 /// The functions that a library has. It is never closed: they live as long as the command.
 pub struct Library {
@@ -152,6 +177,8 @@ pub struct Library {
     ask: Option<Ask>,
     summary_bytes: Option<TranslateBytes>,
     ask_bytes: Option<AskBytes>,
+    judge: Option<Judge>,
+    judge_bytes: Option<JudgeBytes>,
 }
 
 impl Library {
@@ -176,6 +203,8 @@ impl Library {
                 ask: find(ASK).map(|found| mem::transmute::<*mut c_void, Ask>(found)),
                 summary_bytes: find(SUMMARY_BYTES).map(|found| mem::transmute::<*mut c_void, TranslateBytes>(found)),
                 ask_bytes: find(ASK_BYTES).map(|found| mem::transmute::<*mut c_void, AskBytes>(found)),
+                judge: find(JUDGE).map(|found| mem::transmute::<*mut c_void, Judge>(found)),
+                judge_bytes: find(JUDGE_BYTES).map(|found| mem::transmute::<*mut c_void, JudgeBytes>(found)),
             }
         })
     }
@@ -191,6 +220,8 @@ impl Library {
             (ASK, self.ask.is_some()),
             (SUMMARY_BYTES, self.summary_bytes.is_some()),
             (ASK_BYTES, self.ask_bytes.is_some()),
+            (JUDGE, self.judge.is_some()),
+            (JUDGE_BYTES, self.judge_bytes.is_some()),
         ];
         let missing = all.into_iter().filter(|(_, there)| !there);
         missing
@@ -273,6 +304,22 @@ impl Library {
         // SAFETY: as above.
         unsafe { ask(summary.as_ptr(), summary.len(), party, row, step) }
     }
+
+    /// The proved `judge::judge`, which the library must have.
+    pub fn judge(&self, book: &[u32], party: u32, listing: &[u32]) -> Result<Verdict, Refusal> {
+        let judge = self.judge.expect("the library has `judge`");
+        let mut answer = Answer::default();
+        // SAFETY: the slices are what they say, and the answer is as large as Rattle's `Verdict`.
+        unsafe { judge(&mut answer, &Slice::of(book), party, &Slice::of(listing)) };
+        answer.verdict()
+    }
+
+    /// The proved `nghiralum_judge`, which the library must have: its answer as it is packed.
+    pub fn judge_bytes(&self, book: &[u8], party: u32, listing: &[u8]) -> u64 {
+        let judge = self.judge_bytes.expect("the library has `nghiralum_judge`");
+        // SAFETY: as above.
+        unsafe { judge(book.as_ptr(), book.len(), party, listing.as_ptr(), listing.len()) }
+    }
 }
 
 fn opened(path: &Path) -> Result<*mut c_void, String> {
@@ -328,8 +375,10 @@ mod tests {
         bytes[0] = 13;
         bytes[4..8].copy_from_slice(&1_024u32.to_ne_bytes());
         assert_eq!(answer(1, bytes), Err(Refusal::new(21, &[1_024])));
+        bytes[0] = 15;
+        assert_eq!(answer(1, bytes), Err(Refusal::new(22, &[1_024])));
         // Whatever comes back is read, and a case that there is none of is no refusal's.
-        for case in 15..=255 {
+        for case in 16..=255 {
             bytes[0] = case;
             assert_eq!(answer(0xff, bytes), Err(Refusal::new(255, &[1_024])));
         }
@@ -353,6 +402,34 @@ mod tests {
         bytes[0] = 13;
         bytes[4..8].copy_from_slice(&u32::MAX.to_ne_bytes());
         assert_eq!(reply(2, bytes), Err(Refusal::new(21, &[u32::MAX])));
+    }
+
+    #[test]
+    fn verdicts_are_read() {
+        let verdict = |case: u8, bytes: [u8; 16]| {
+            let value = Value { bytes };
+            Answer { case, value }.verdict()
+        };
+        assert_eq!(verdict(0, [0xff; 16]), Ok(Verdict::Same));
+        let mut bytes = [0xff; 16];
+        for place in [0, 1, 70_000, 1_051_906] {
+            bytes[..8].copy_from_slice(&(place as u64).to_ne_bytes());
+            assert_eq!(verdict(1, bytes), Ok(Verdict::Differs(place)));
+        }
+        bytes[0] = 15;
+        for party in [2, 0x1_0000, u32::MAX] {
+            bytes[4..8].copy_from_slice(&party.to_ne_bytes());
+            assert_eq!(verdict(2, bytes), Err(Refusal::new(22, &[party])));
+        }
+    }
+
+    #[test]
+    fn verdicts_are_packed() {
+        assert_eq!(packed_verdict(&Ok(Verdict::Same)), 1 << 8);
+        assert_eq!(packed_verdict(&Ok(Verdict::Differs(0))), 0);
+        assert_eq!(packed_verdict(&Ok(Verdict::Differs(1_051_906))), 1_051_906 << 40);
+        assert_eq!(packed_verdict(&Err(Refusal::new(22, &[u32::MAX]))), 0xff_ffff_ff16);
+        assert_eq!(packed_verdict(&Err(Refusal::new(10, &[63, 5]))), 5 << 40 | 63 << 8 | 10);
     }
 
     #[test]

@@ -37,7 +37,8 @@ host compare PROGRAM PATH..             compare a program over books and folders
 host compare PROGRAM --random SEED COUNT   compare a program over random books
 host frames OBJECT [NAME..]             print the stack frames of an object's functions, in bytes (x86-64)
 host bench LIB BOOKS [PLOT]             time proved code, a library made by host/library, against this and its anchor
-host routes LIB SEED COUNT [DIR..]      compare proved bytes, proved words and this on books, schedules, questions
+host routes LIB SEED COUNT [DIR..]      compare proved bytes, proved words and this on books, schedules, questions and
+                                        listings
 host routes --lean SEED COUNT [DIR..]   compare the bench's anchor and this on books and schedules
 host types FILE [OUT]                   derive the effect of a process; write OUT.asked and OUT.derivation
 host types --check ASKED DERIVATION     print the verdict on a derivation, a file of words

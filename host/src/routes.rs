@@ -1,6 +1,6 @@
 //! The routes: the proved functions on bytes, the proved functions on words, and this implementation, in one process,
-//! on the same books, schedules and questions; or the bench's anchor in the place of the proved ones. Buffers are full of
-//! marks before a call; answers, and every byte and every word afterwards, have to be the same on all three.
+//! on the same books, schedules, questions and listings; or the bench's anchor in the place of the proved ones. Buffers
+//! are full of marks before a call; answers, and every byte and every word afterwards, have to be the same on all three.
 
 mod tally;
 mod trial;
@@ -8,9 +8,11 @@ mod trial;
 use crate::book::Refusal;
 use crate::bytes;
 use crate::files;
+use crate::judge::{self, Verdict};
 use crate::lean;
-use crate::library::{packed, packed_reply, Library};
+use crate::library::{packed, packed_reply, packed_verdict, Library};
 use crate::random::Random;
+use crate::translate::Program;
 use crate::words;
 use std::io::Write;
 use std::ops::Range;
@@ -19,7 +21,7 @@ use std::sync::atomic::{AtomicUsize, Ordering};
 use std::thread;
 use tally::Tally;
 pub use trial::Trials;
-use trial::{Asked, Room, Trial};
+use trial::{Asked, Judged, Room, Trial};
 
 /// As a thread has it that nobody thought about: the proved code runs on it.
 const STACK: usize = 2 << 20;
@@ -41,6 +43,9 @@ pub trait Side: Sync {
 
     /// Its functions of summaries, where it has some.
     fn summaries(&self) -> Option<&dyn Summaries>;
+
+    /// Its judge, where it has one.
+    fn judging(&self) -> Option<&dyn Judging>;
 }
 
 /// The functions of summaries, on words and on bytes. A question is the numbers of a party, a row and a step.
@@ -49,6 +54,12 @@ pub trait Summaries {
     fn ask(&self, summary: &[u32], question: [u32; 3]) -> Reply;
     fn write_bytes(&self, book: &[u8], out: &mut [u8]) -> u64;
     fn ask_bytes(&self, summary: &[u8], question: [u32; 3]) -> u64;
+}
+
+/// The judge of listings, on words and on bytes.
+pub trait Judging {
+    fn judge(&self, book: &[u32], party: u32, listing: &[u32]) -> Result<Verdict, Refusal>;
+    fn judge_bytes(&self, book: &[u8], party: u32, listing: &[u8]) -> u64;
 }
 
 impl Side for Library {
@@ -71,6 +82,10 @@ impl Side for Library {
     fn summaries(&self) -> Option<&dyn Summaries> {
         Some(self)
     }
+
+    fn judging(&self) -> Option<&dyn Judging> {
+        Some(self)
+    }
 }
 
 impl Summaries for Library {
@@ -88,6 +103,16 @@ impl Summaries for Library {
 
     fn ask_bytes(&self, summary: &[u8], question: [u32; 3]) -> u64 {
         self.ask_bytes(summary, question)
+    }
+}
+
+impl Judging for Library {
+    fn judge(&self, book: &[u32], party: u32, listing: &[u32]) -> Result<Verdict, Refusal> {
+        self.judge(book, party, listing)
+    }
+
+    fn judge_bytes(&self, book: &[u8], party: u32, listing: &[u8]) -> u64 {
+        self.judge_bytes(book, party, listing)
     }
 }
 
@@ -141,6 +166,11 @@ impl Side for Lean {
     fn summaries(&self) -> Option<&dyn Summaries> {
         None
     }
+
+    /// As above.
+    fn judging(&self) -> Option<&dyn Judging> {
+        None
+    }
 }
 
 /// Compares the anchor over the books of some folders and over random ones; whether nothing differs.
@@ -166,10 +196,17 @@ pub fn over(side: &impl Side, trials: &Trials, keep: &Path, out: &mut dyn Write)
     Ok(differences.is_empty())
 }
 
-/// What differs, in words, and the summary that was asked about, where one was.
+/// What differs, in words, and the summary or the listing that was handed in, where one was, by its name.
 struct Difference {
     told: String,
-    summary: Option<Vec<u8>>,
+    handed_in: Option<(&'static str, Vec<u8>)>,
+}
+
+/// Of a call that is made of the trial's book and schedule alone.
+impl From<String> for Difference {
+    fn from(told: String) -> Difference {
+        Difference { told, handed_in: None }
+    }
 }
 
 type Differences = Vec<(usize, Difference)>;
@@ -185,8 +222,8 @@ fn kept(trial: &Trial, difference: &Difference, seed: u64, folder: &Path) -> Res
     };
     keep("book", &trial.book)?;
     keep("schedule", &trial.schedule)?;
-    if let Some(summary) = &difference.summary {
-        keep("summary", summary)?;
+    if let Some((name, bytes)) = &difference.handed_in {
+        keep(name, bytes)?;
     }
     Ok(told)
 }
@@ -223,18 +260,39 @@ fn work(side: &impl Side, trials: &Trials) -> Result<(Tally, Differences), Strin
 /// All functions on one trial, in each of its rooms; the first difference.
 fn compare(side: &impl Side, mut trial: Trial, marks: &mut Marks, tally: &mut Tally) -> Result<(), Difference> {
     tally.trial(&trial);
-    outputs(side, &mut trial, marks, tally).map_err(|told| Difference { told, summary: None })?;
-    let Some(side) = side.summaries() else {
-        return Ok(());
-    };
+    outputs(side, &mut trial, marks, tally)?;
+    if let Some(side) = side.summaries() {
+        summaries(side, &mut trial, marks, tally)?;
+    }
+    if let Some(side) = side.judging() {
+        verdicts(side, &mut trial, tally)?;
+    }
+    Ok(())
+}
+
+/// The summary of a trial's book, and questions.
+fn summaries(side: &dyn Summaries, trial: &mut Trial, marks: &mut Marks, tally: &mut Tally) -> Result<(), Difference> {
     let summary = bytes::summary(&trial.book);
-    written(side, &summary, &mut trial, marks, tally).map_err(|told| Difference { told, summary: None })?;
+    written(side, &summary, trial, marks, tally)?;
     for asked in trial.questions(summary.as_deref().ok()) {
         let answer = answered(side, &asked).map_err(|told| Difference {
             told: format!("{}, {asked}: {told}", trial.name),
-            summary: Some(asked.summary.clone()),
+            handed_in: Some(("summary", asked.summary.clone())),
         })?;
         tally.question(&asked, answer);
+    }
+    Ok(())
+}
+
+/// Listings for a trial's book.
+fn verdicts(side: &dyn Judging, trial: &mut Trial, tally: &mut Tally) -> Result<(), Difference> {
+    let programs = bytes::programs(&trial.book);
+    for judged in trial.listings(programs.as_deref().ok()) {
+        let verdict = verdict(side, &trial.book, &programs, &judged).map_err(|told| Difference {
+            told: format!("{}, {judged}: {told}", trial.name),
+            handed_in: Some(("listing", judged.listing.clone())),
+        })?;
+        tally.listing(&judged, verdict);
     }
     Ok(())
 }
@@ -293,6 +351,28 @@ fn answered(side: &dyn Summaries, asked: &Asked) -> Result<u64, String> {
         same_reply("words", found, answer)?;
     }
     Ok(answer)
+}
+
+/// One listing on each route, where bytes are words on the one on words too: the verdict, or what differs.
+fn verdict(
+    side: &dyn Judging,
+    book: &[u8],
+    programs: &Result<Vec<Program>, Refusal>,
+    judged: &Judged,
+) -> Result<u64, String> {
+    let Judged { party, listing, .. } = judged;
+    let on_words = words::of_bytes(listing);
+    let right = packed_verdict(&match (&on_words, programs) {
+        (Ok(listing), Ok(programs)) => judge::by(programs, *party, listing),
+        // Odd bytes come before the book's own refusal.
+        (Err(refusal), _) | (_, Err(refusal)) => Err(refusal.clone()),
+    });
+    same("bytes", side.judge_bytes(book, *party, listing), right, tally::verdict)?;
+    if let (Ok(book), Ok(listing)) = (words::of_bytes(book), on_words) {
+        let found = packed_verdict(&side.judge(&book, *party, &listing));
+        same("words", found, right, tally::verdict)?;
+    }
+    Ok(right)
 }
 
 /// One call on each route, where bytes are words on the one on words too: the answer, or what differs.

@@ -4,8 +4,9 @@ mod common;
 
 use common::{complains, top, Folder, EXAMPLE_1};
 use host::book::Refusal;
-use host::library::{packed, packed_reply};
-use host::routes::{self, Side, Summaries, Trials};
+use host::judge::{judge, Verdict};
+use host::library::{packed, packed_reply, packed_verdict};
+use host::routes::{self, Judging, Side, Summaries, Trials};
 use host::{bytes, rehearse, summary, translate, words};
 
 type Answer = Result<usize, Refusal>;
@@ -45,6 +46,16 @@ enum Fake {
     StepMayBeL,
     OddSummaryLetPass,
     NoOnBytes,
+    AllTheSame,
+    NoRenaming,
+    TheLongerLength,
+    PartyBeforeTheBook,
+    PartyOfBytes,
+    SmallPartyLetPass,
+    PlaceInBytes,
+    SameIsNothing,
+    OddListingLetPass,
+    BookBeforeOddListing,
 }
 
 /// A book's words with all parties marked 1, where it keeps its rules.
@@ -169,7 +180,49 @@ impl Summaries for Fake {
     }
 }
 
+impl Judging for Fake {
+    fn judge(&self, book: &[u32], party: u32, listing: &[u32]) -> Result<Verdict, Refusal> {
+        let right = judge(book, party, listing);
+        match (self, &right) {
+            (Fake::AllTheSame, Ok(_)) => Ok(Verdict::Same),
+            (Fake::NoRenaming, Ok(Verdict::Same)) => {
+                let programs = translate::programs(&host::book::read(book)?)?;
+                let ours = translate::part(&programs[party as usize]);
+                let differs = (0..ours.len()).find(|at| ours[*at] != listing[*at]);
+                Ok(differs.map_or(Verdict::Same, Verdict::Differs))
+            }
+            (Fake::TheLongerLength, Ok(Verdict::Differs(place))) if *place == listing.len() => {
+                Ok(Verdict::Differs(place + 1))
+            }
+            (Fake::PartyBeforeTheBook, Err(_)) if party == u32::MAX => Err(Refusal::new(22, &[party])),
+            (Fake::SmallPartyLetPass, Err(Refusal { number: 22, .. })) if party < 16 => Ok(Verdict::Differs(0)),
+            _ => right,
+        }
+    }
+
+    fn judge_bytes(&self, book: &[u8], party: u32, listing: &[u8]) -> u64 {
+        let listing = match self {
+            Fake::OddListingLetPass => whole(listing),
+            _ => listing,
+        };
+        let right = match (self, bytes::programs(book)) {
+            (Fake::BookBeforeOddListing, Err(refusal)) => Err(refusal),
+            _ => bytes::judge(book, party, listing),
+        };
+        packed_verdict(&match (self, right) {
+            (Fake::PlaceInBytes, Ok(Verdict::Differs(place))) => Ok(Verdict::Differs(4 * place)),
+            (Fake::SameIsNothing, Ok(Verdict::Same)) => Ok(Verdict::Differs(0)),
+            (Fake::PartyOfBytes, Err(Refusal { number: 22, .. })) => Err(Refusal::new(22, &[party & 0xff])),
+            (_, right) => right,
+        })
+    }
+}
+
 impl Side for Fake {
+    fn judging(&self) -> Option<&dyn Judging> {
+        Some(self)
+    }
+
     fn summaries(&self) -> Option<&dyn Summaries> {
         Some(self)
     }
@@ -248,6 +301,14 @@ fn right_and_wrong_ones() {
         .iter()
         .chain(&["exact", "one short", "no room", "3 spare", "accepted"])
         .chain(&["the book's summary", "another summary", "odd summary"])
+        .chain(&["ours", "shifted", "reversed by run", "sparse", "runs in any order"])
+        .chain(&[
+            "overlapping runs",
+            "a run of none renamed",
+            "a run past the largest number",
+        ])
+        .chain(&["a run up to the largest number", "a word changed", "cut", "lengthened"])
+        .chain(&["for no party", "for a refused book", "odd listing"])
     {
         assert!(text.contains(&format!("{met}: ")), "{met}: {text}");
     }
@@ -260,6 +321,15 @@ fn right_and_wrong_ones() {
     }
     for kind in ["yes", "no", "refused 1", "refused 20", "refused 21"] {
         assert!(line("ask: ").contains(&format!("{kind}: ")), "{kind}: {text}");
+    }
+    for kind in ["same", "differs", "refused 22"] {
+        assert!(line("judge: ").contains(&format!("{kind}: ")), "{kind}: {text}");
+    }
+    for number in (1..=10).chain([13]) {
+        assert!(
+            line("judge: ").contains(&format!("refused {number}: ")),
+            "{number}: {text}"
+        );
     }
     assert!(keep.names().is_empty());
 
@@ -292,6 +362,16 @@ fn right_and_wrong_ones() {
         Fake::LastNumberFirst,
         Fake::OddSummaryLetPass,
         Fake::NoOnBytes,
+        Fake::AllTheSame,
+        Fake::NoRenaming,
+        Fake::TheLongerLength,
+        Fake::PartyBeforeTheBook,
+        Fake::PartyOfBytes,
+        Fake::SmallPartyLetPass,
+        Fake::PlaceInBytes,
+        Fake::SameIsNothing,
+        Fake::OddListingLetPass,
+        Fake::BookBeforeOddListing,
     ] {
         let (same, text) = told(fake, &few, &keep);
         assert!(!same && text.contains("  kept: "), "{fake:?}: {text}");
@@ -308,16 +388,23 @@ fn right_and_wrong_ones() {
         .any(|name| name.starts_with("routes-3-random-") && name.ends_with(".book")));
     assert!(names.iter().any(|name| name.ends_with(".schedule")));
     assert!(names.iter().any(|name| name.ends_with(".summary")));
+    assert!(names.iter().any(|name| name.ends_with(".listing")));
+}
+
+/// What is told of a fake over example 1 in a file, and what is kept.
+fn on_example_1(fake: Fake, name: &str) -> (bool, String, Folder) {
+    let keep = Folder::new(name);
+    let books = Folder::new(&format!("{name}-books"));
+    books.file("1.book", words::to_bytes(&EXAMPLE_1));
+    let trials = Trials::new(&[books.at().to_path_buf()], 1, 0).expect("the book");
+    let (same, text) = told(fake, &trials, &keep);
+    (same, text, keep)
 }
 
 /// What is told of a question, and the summary that it was about.
 #[test]
 fn a_question_is_told() {
-    let keep = Folder::new("routes-question");
-    let books = Folder::new("routes-question-books");
-    books.file("1.book", words::to_bytes(&EXAMPLE_1));
-    let trials = Trials::new(&[books.at().to_path_buf()], 1, 0).expect("the book");
-    let (same, text) = told(Fake::NoOnBytes, &trials, &keep);
+    let (same, text, keep) = on_example_1(Fake::NoOnBytes, "routes-question");
     assert!(
         !same && text.contains("on bytes the answer is no, the host's is yes"),
         "{text}"
@@ -330,6 +417,30 @@ fn a_question_is_told() {
     let kept = keep.read("routes-1-1--schedule-0.summary");
     assert!(asked.contains(&format!(" of {} bytes", kept.len())), "{asked}");
     assert_eq!(keep.read("routes-1-1--schedule-0.book"), words::to_bytes(&EXAMPLE_1));
+}
+
+/// What is told of a listing, and the listing itself.
+#[test]
+fn a_listing_is_told() {
+    let (same, text, keep) = on_example_1(Fake::SameIsNothing, "routes-listing");
+    assert!(
+        !same && text.contains("on bytes the answer is differs 0, the host's is same"),
+        "{text}"
+    );
+    let kept = keep.read("routes-1-1--schedule-0.listing");
+    let judged = format!("1, schedule 0, judge {} bytes for party ", kept.len());
+    assert!(text.lines().any(|line| line.starts_with(&judged)), "{text}");
+}
+
+/// Of a small book in a file each of its 47 words is changed, and ours is judged for both parties.
+#[test]
+fn every_word_of_a_small_book() {
+    let (same, text, _) = on_example_1(Fake::Right, "routes-words");
+    let met = |what: &str| -> usize {
+        let count = text.split(&format!("{what}: ")).nth(1).expect(what);
+        count.split([',', '\n']).next().expect(what).parse().expect(what)
+    };
+    assert!(same && met("a word changed") >= 47 && met(", ours") >= 2, "{text}");
 }
 
 #[test]
@@ -378,6 +489,8 @@ fn another_library() {
         "summary::ask",
         "nghiralum_summary",
         "nghiralum_ask",
+        "judge::judge",
+        "nghiralum_judge",
     ] {
         assert!(told.contains(&format!("no {name}")), "{told}");
     }

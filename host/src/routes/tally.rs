@@ -1,7 +1,7 @@
 //! What was met while the routes were compared, counted and told: answers by their kind, and everything that a call on
 //! bytes may have which one on words has not.
 
-use super::trial::{Asked, Room, Trial};
+use super::trial::{Asked, Judged, Room, Trial};
 use crate::book;
 use crate::rehearse::MOST_MOVES;
 use std::collections::BTreeMap;
@@ -21,6 +21,8 @@ enum Kind {
     Accepted,
     Yes,
     No,
+    Same,
+    Differs,
     Refused(u64),
 }
 
@@ -30,6 +32,8 @@ impl fmt::Display for Kind {
             Kind::Accepted => out.write_str("accepted"),
             Kind::Yes => out.write_str("yes"),
             Kind::No => out.write_str("no"),
+            Kind::Same => out.write_str("same"),
+            Kind::Differs => out.write_str("differs"),
             Kind::Refused(number) => write!(out, "refused {number}"),
         }
     }
@@ -74,6 +78,19 @@ impl Tally {
         self.meet(true, asked.kind);
     }
 
+    /// A listing, and the packed verdict on it.
+    pub fn listing(&mut self, judged: &Judged, verdict: u64) {
+        self.answer(
+            "judge",
+            match unpacked(verdict) {
+                (0, 0, _) => Kind::Differs,
+                (0, ..) => Kind::Same,
+                (number, ..) => Kind::Refused(number),
+            },
+        );
+        self.meet(true, judged.kind);
+    }
+
     fn answer(&mut self, function: &'static str, kind: Kind) {
         self.calls += 1;
         *self.answers.entry((function, kind)).or_default() += 1;
@@ -99,7 +116,7 @@ impl Tally {
     /// A line for the answers of each function that was called, what was met, and last how many differences there are.
     pub fn told(&self, differences: usize) -> String {
         let mut lines = Vec::new();
-        for function in ["translate", "rehearse", "summary", "ask"] {
+        for function in ["translate", "rehearse", "summary", "ask", "judge"] {
             let own = self.answers.iter().filter(|((name, _), _)| *name == function);
             let told: Vec<String> = own.map(|((_, kind), count)| format!("{kind}: {count}")).collect();
             if !told.is_empty() {
@@ -118,13 +135,17 @@ impl Tally {
     }
 }
 
+/// The number of a packed answer, and its two values.
+fn unpacked(packed: u64) -> (u64, u64, u64) {
+    (packed & 0xff, packed >> 8 & 0xffff_ffff, packed >> 40)
+}
+
 /// A packed answer in words.
 pub fn answer(packed: u64) -> String {
-    let (number, first, second) = (packed & 0xff, packed >> 8 & 0xffff_ffff, packed >> 40);
-    match (number, second) {
-        (0, 0) => format!("{first} words"),
-        (_, 0) => format!("refused {number} {first}"),
-        _ => format!("refused {number} {first} {second}"),
+    match unpacked(packed) {
+        (0, first, 0) => format!("{first} words"),
+        (number, first, 0) => format!("refused {number} {first}"),
+        (number, first, second) => format!("refused {number} {first} {second}"),
     }
 }
 
@@ -134,6 +155,16 @@ pub fn reply(packed: u64) -> String {
         (0, 0) => String::from("no"),
         (0, 1) => String::from("yes"),
         (0, other) => format!("{other}, neither yes nor no"),
+        _ => answer(packed),
+    }
+}
+
+/// A packed verdict on a listing in words.
+pub fn verdict(packed: u64) -> String {
+    match unpacked(packed) {
+        (0, 1, 0) => String::from("same"),
+        (0, 0, place) => format!("differs {place}"),
+        (0, first, second) => format!("{first} and {second}, no verdict"),
         _ => answer(packed),
     }
 }

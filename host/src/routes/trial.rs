@@ -1,5 +1,5 @@
-//! What the routes are tried on: a book and a schedule of any bytes, how many bytes are lent for the output, and questions
-//! about summaries.
+//! What the routes are tried on: a book and a schedule of any bytes, how many bytes are lent for the output, questions
+//! about summaries, and listings to be judged.
 
 use crate::book::{Book, Party, Row, Step, ATOM, HEADER, LONGEST, MOST_MESSAGES, MOST_PARTIES, MOST_STEPS, OPERATION};
 use crate::files;
@@ -7,6 +7,7 @@ use crate::random::{self, Random};
 use crate::rehearse::MOST_MOVES;
 use crate::shelf;
 use crate::summary::HEAD;
+use crate::translate::{self, Program};
 use crate::words;
 use std::fmt;
 use std::path::{Path, PathBuf};
@@ -55,9 +56,26 @@ impl fmt::Display for Asked {
     }
 }
 
+/// A listing to be judged: its bytes, the party that it is handed in for, and what was done to it.
+pub struct Judged {
+    pub listing: Vec<u8>,
+    pub party: u32,
+    pub kind: &'static str,
+}
+
+impl fmt::Display for Judged {
+    fn fmt(&self, out: &mut fmt::Formatter<'_>) -> fmt::Result {
+        let (party, bytes) = (self.party, self.listing.len());
+        write!(out, "judge {bytes} bytes for party {party} ({})", self.kind)
+    }
+}
+
 /// So many questions are asked at random.
 const QUESTIONS: usize = 4;
-/// A summary with no more words is asked about every row of every party, where all is tried.
+/// So many listings are judged at random.
+const LISTINGS: usize = 3;
+/// A summary with no more words is asked about every row of every party, where all is tried; and a book's part with no
+/// more words is judged with each of them changed.
 const SMALL: usize = 400;
 
 impl Trial {
@@ -141,6 +159,41 @@ impl Trial {
         asked
     }
 
+    /// Listings for the book, whose programs are these where it is accepted: some at random; and where all is tried, every
+    /// party's own part, and of a small book each part with one word changed, at every place.
+    pub fn listings(&mut self, programs: Option<&[Program]>) -> Vec<Judged> {
+        let mut all: Vec<Judged> = (0..LISTINGS).map(|_| self.listing(programs)).collect();
+        let own = programs.filter(|_| self.every).unwrap_or_default();
+        let small = self.book.len() <= 4 * SMALL;
+        for (party, program) in (0..).zip(own) {
+            let part = translate::part(program);
+            if small && part.len() <= SMALL {
+                all.extend(changed(&part, party));
+            }
+            all.push(Judged {
+                listing: words::to_bytes(&part),
+                party,
+                kind: "ours",
+            });
+        }
+        all
+    }
+
+    /// A listing at random, now and then of odd bytes.
+    fn listing(&mut self, programs: Option<&[Program]>) -> Judged {
+        let random::Listing { party, words, kind } = random::listing(&mut self.random, programs);
+        let mut judged = Judged {
+            listing: words::to_bytes(&words),
+            party,
+            kind,
+        };
+        if self.random.percent(8) {
+            make_odd(&mut self.random, &mut judged.listing);
+            judged.kind = "odd listing";
+        }
+        judged
+    }
+
     /// Room for so many words, with up to three spare bytes behind them: one count of these, or each.
     fn spared(&mut self, kind: &'static str, words: usize) -> Vec<Room> {
         let spares: Vec<usize> = if self.every {
@@ -169,6 +222,19 @@ fn turns(summary: &[u32]) -> impl Iterator<Item = Asked> + '_ {
             numbers: [at / rows, at % rows, step],
             kind: "the book's summary",
         })
+    })
+}
+
+/// A part with one word changed, at every place.
+fn changed(part: &[u32], party: u32) -> impl Iterator<Item = Judged> + '_ {
+    (0..part.len()).map(move |at| {
+        let mut other = part.to_vec();
+        other[at] ^= 1;
+        Judged {
+            listing: words::to_bytes(&other),
+            party,
+            kind: "a word changed",
+        }
     })
 }
 

@@ -14,7 +14,9 @@ use Rattle.translation.specs.Listing.{listing}
 use Rattle.translation.specs.Outcome.{Outcome, translationSays, laid}
 use Rattle.playing.specs.Rehearsal.{eventsDone, rehearsalSays}
 use Rattle.summary.specs.Summary.{summary, summarySays, asked}
+use Rattle.renaming.specs.Verdict.{judged}
 pub mod Laws
+pub mod Judged
 
 -- the bytes make no whole words
 abbrev pub uneven : List ℕ → Bool
@@ -48,6 +50,10 @@ summaryBytes bs out = pick (uneven bs) (odd out) (summarizedOn (wordsIn bs) out)
 -- of the bytes of a summary: document 02, [4], has its question answered from the summary alone, and here that is its bytes
 unfoldable pub askedBytes : List ℕ → ℕ → ℕ → ℕ → Said
 askedBytes bs p r t = pick (uneven bs) (said 1 (0 ∷ [])) (asked (wordsIn bs) p r t)
+
+-- of the bytes of a book and of another translator's listing, and a party's number: document 02, [7]
+unfoldable pub judgedBytes : List ℕ → ℕ → List ℕ → Said
+judgedBytes bs p ls = pick (uneven bs || uneven ls) (said 1 (0 ∷ [])) (judged (wordsIn bs) p (wordsIn ls))
 
 -- ---- what is said of it
 -- the outcome t on bytes is the outcome o on words: it says the same, its bytes make the same words, and the spare bytes are as they were

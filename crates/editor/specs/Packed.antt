@@ -32,6 +32,15 @@ pub data Small : Said → Type 0 where
   one : {n v : ℕ} → n < 256 → (n ≡ 10 → ⊥) → (n ≡ 13 → ⊥) → v < 4294967296 → Small (said n (v ∷ []))
   two : {n v w : ℕ} → (n ≡ 10) ⊎ (n ≡ 13) → v < 4294967296 → w < 16777216 → Small (said n (v ∷ w ∷ []))
 
+-- the number and each value fits its bits
+pub data Packs : Said → Type 0 where
+  one : {n v : ℕ} → n < 256 → v < 4294967296 → Packs (said n (v ∷ []))
+  two : {n v w : ℕ} → n < 256 → v < 4294967296 → w < 16777216 → Packs (said n (v ∷ w ∷ []))
+
+-- a judge's verdict, read back: where number and first value are 0 the listing differs, and the second value is the place
+unfoldable pub unpackVerdict : ℕ → Said
+unpackVerdict n = pick (eqb (n % 1099511627776) 0) (said 0 (0 ∷ n / 1099511627776 ∷ [])) (unpack n)
+
 -- what such a caller gets: the number, and the lent bytes afterwards
 pub record Returned : Type 0 where
   pub answer : ℕ

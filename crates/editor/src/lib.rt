@@ -1,6 +1,6 @@
-// The faces on bytes, low byte first, for callers in other languages. `nghiralum_translate`, `nghiralum_rehearse`, `nghiralum_summary` and
-// `nghiralum_ask` answer for any bytes what the faces on words answer for the words that they make, in one number, and leave the same words
-// as bytes; a book, a schedule or a summary that makes no whole words is refused before all else.
+// The faces on bytes, low byte first, for callers in other languages. `nghiralum_translate`, `nghiralum_rehearse`, `nghiralum_summary`,
+// `nghiralum_ask` and `nghiralum_judge` answer for any bytes what the faces on words answer for the words that they make, in one number, and
+// leave the same words as bytes; a book, a schedule, a summary or a listing that makes no whole words is refused before all else.
 use book::ByRow;
 use book::Code;
 use book::Layout;
@@ -11,9 +11,11 @@ use book::parties;
 use book::steps;
 use book::told_of;
 use holding::start;
+use judge::judge_listing;
 use octets::load;
 use octets::put_words;
 use octets::word_at;
+use renaming::Verdict;
 use summary::Found;
 use summary::Reply;
 use summary::decide;
@@ -39,9 +41,10 @@ ghost use Rattle.translator.specs.Parts.{HeadsIn, bodiesOf};
 ghost use Rattle.translator.specs.Ready.{Writable};
 ghost use Rattle.summary.specs.Summary.{asked};
 ghost use Rattle.summary.specs.Reply.{replySays};
-ghost use Rattle.editor.specs.Bytes.{uneven, translated, rehearsed, summarizedOn, translationBytes, rehearsalBytes, summaryBytes, askedBytes};
+ghost use Rattle.editor.specs.Bytes.{uneven, translated, rehearsed, summarizedOn, translationBytes, rehearsalBytes, summaryBytes, askedBytes, judgedBytes};
 ghost use Rattle.editor.specs.Events.{EventsReady, WroteEvents};
-ghost use Rattle.editor.specs.Packed.{pack as packOf, capped as cappedOf, Small, returned, packed};
+ghost use Rattle.editor.specs.Packed.{pack as packOf, capped as cappedOf, Small, Packs, returned, packed};
+ghost use Rattle.renaming.specs.Verdict.{verdictSays};
 
 // What is read and kept at most.
 struct Most {}
@@ -322,7 +325,7 @@ pub fn summarize(book: &[u8], out: &mut [u8]) -> Answer
 
 // An answer's number and values in one number.
 fn pack_told(told: Told) -> u64
-    requires { ⌜ Small (toldSays told) ⌝ }
+    requires { ⌜ Packs (toldSays told) ⌝ }
     ensures { λ r. ⌜ r ≡ packOf (toldSays told) ⌝ }
 {
     match told {
@@ -372,6 +375,35 @@ fn pack_reply(reply: Reply) -> u64
     }
 }
 
+// The verdict on another translator's listing of a party, of the bytes of a book and of the listing, which is read where it lies: it may be
+// of any length.
+pub fn judge(book: &[u8], party: u32, listing: &[u8]) -> Verdict
+    ensures { λ r. ⌜ verdictSays r ≡ judgedBytes (now (book .entry)) party (now (listing .entry)) ⌝ }
+{
+    if is_uneven(book) {
+        return Verdict::Refused(Refusal::Short);
+    }
+    if is_uneven(listing) {
+        return Verdict::Refused(Refusal::Short);
+    }
+    let mut words = [0u32; Most::WORDS];
+    let n = load(book, &mut words);
+    let none = [0u32; 1];
+    judge_listing(&words[..n], party, &none[0..0], listing)
+}
+
+// A verdict in one number.
+fn pack_verdict(verdict: Verdict) -> u64
+    requires { ⌜ Packs (verdictSays verdict) ⌝ }
+    ensures { λ r. ⌜ r ≡ packOf (verdictSays verdict) ⌝ }
+{
+    match verdict {
+        Verdict::Same => pack_told(Told::One(0, 1)),
+        Verdict::Differs(place) => pack_told(Told::Two(0, 0, place as u64)),
+        Verdict::Refused(refusal) => pack_told(told_of(refusal)),
+    }
+}
+
 // The translation for callers in other languages.
 #[no_mangle]
 pub extern "C" fn nghiralum_translate(book: &[u8], out: &mut [u8]) -> u64
@@ -406,4 +438,13 @@ pub extern "C" fn nghiralum_ask(summary: &[u8], party: u32, row: u32, step: u32)
 {
     let reply = ask(summary, party, row, step);
     pack_reply(reply)
+}
+
+// The judge for them.
+#[no_mangle]
+pub extern "C" fn nghiralum_judge(book: &[u8], party: u32, listing: &[u8]) -> u64
+    ensures { λ r. ⌜ r ≡ packOf (judgedBytes (now (book .entry)) party (now (listing .entry))) ⌝ }
+{
+    let verdict = judge(book, party, listing);
+    pack_verdict(verdict)
 }

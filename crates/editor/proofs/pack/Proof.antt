@@ -4,6 +4,7 @@ use mathlib.Core.Path.{sym, ap, _∙_}
 use borrow.Author.Needs.{needs}
 use Rattle.translation.specs.Outcome.{answerSays}
 use Rattle.editor.specs.Packed.{pack as packOf}
+use Rattle.editor.specs.Packed.Laws.{small-packs}
 use Rattle.editor.proofs.pack.Statement.{statement}
 use Rattle.editor.proofs.pack.Tie as tie
 
@@ -12,7 +13,7 @@ pack-told-requires : tie.Need-pack-told-requires
 pack-told-requires c κs =
     let after-answer : tie.After-answer = search in
     let start : tie.Start = search in
-    rw (after-answer .answer .given .1) at (start .pre)
+    small-packs (rw (after-answer .answer .given .1) at (start .pre))
 
 returns : tie.Need-returns
 returns c =
@@ -26,7 +27,7 @@ pack-told-requires-2 c κs =
     let after-told-of : tie.After-told-of = search in
     let after-answer : tie.After-answer2 = search in
     let start : tie.Start = search in
-    rw (after-told-of .told-of .ensures) (rw (after-answer .answer2 .given .1) at (start .pre))
+    rw (after-told-of .told-of .ensures) (small-packs (rw (after-answer .answer2 .given .1) at (start .pre)))
 
 returns-2 : tie.Need-returns-2
 returns-2 c =

@@ -4,6 +4,7 @@ use mathlib.Core.Path.{sym, ap, _∙_}
 use borrow.Author.Needs.{needs}
 use Rattle.summary.specs.Reply.{replySays}
 use Rattle.editor.specs.Packed.{pack as packOf, capped as cappedOf}
+use Rattle.editor.specs.Packed.Laws.{small-packs}
 use Rattle.editor.proofs.pack_reply.Statement.{statement}
 use Rattle.editor.proofs.pack_reply.Tie as tie
 
@@ -11,7 +12,7 @@ use Rattle.editor.proofs.pack_reply.Tie as tie
 pack-told-requires : tie.Need-pack-told-requires
 pack-told-requires c κs =
     let start : tie.Start = search in
-    rw (c .enum-told .given .1) at (start .pre)
+    small-packs (rw (c .enum-told .given .1) at (start .pre))
 
 returns : tie.Need-returns
 returns c =
@@ -22,7 +23,7 @@ returns c =
 pack-told-requires-2 : tie.Need-pack-told-requires-2
 pack-told-requires-2 c κs =
     let start : tie.Start = search in
-    rw (c .enum-told2 .given .1) at (start .pre)
+    small-packs (rw (c .enum-told2 .given .1) at (start .pre))
 
 returns-2 : tie.Need-returns-2
 returns-2 c =
@@ -35,7 +36,7 @@ pack-told-requires-3 c κs =
     let after-told-of : tie.After-told-of = search in
     let after-reply : tie.After-reply = search in
     let start : tie.Start = search in
-    rw (c .capped .ensures, after-told-of .told-of .ensures) (rw (after-reply .reply .given .1) at (start .pre))
+    rw (c .capped .ensures, after-told-of .told-of .ensures) (small-packs (rw (after-reply .reply .given .1) at (start .pre)))
 
 returns-3 : tie.Need-returns-3
 returns-3 c =

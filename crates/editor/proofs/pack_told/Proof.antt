@@ -1,5 +1,5 @@
 -- `editor::pack_told` meets its contract: by the number of values, each of which fits its bits. Assumes nothing.
-use Prim.Native.Nat.{_≤_, _<_}
+use Prim.Native.Nat.{_<_}
 use mathlib.Core.Path.{_≡_, refl, sym, ap, _∙_}
 use native.Mathlib.Omega.{arith}
 use borrow.Author.Needs.{needs}
@@ -16,7 +16,7 @@ module _ (c : tie.After-told) where
 
 -- and of two
 module _ (c : tie.After-told2) where
-  two : (c .told2 .given .0 .0 ≤ 13) × (c .told2 .given .0 .1 .0 < 4294967296)
+  two : (c .told2 .given .0 .0 < 256) × (c .told2 .given .0 .1 .0 < 4294967296)
       × (c .told2 .given .0 .1 .1 .0 < 16777216)
   two = let start : tie.Start = search in two-bounds (rw (c .told2 .given .1) at (start .pre))
 

@@ -3,7 +3,7 @@
 use Prim.Native.Nat.{ℕ, zero, suc, _+_, _*_, _/_, _%_, _≤_, _<_, min}
 use mathlib.Core.Bool.{Bool, true, false}
 use mathlib.Core.List.{List, [], _∷_, _++_, map, append-nil}
-use mathlib.Core.Logic.{⊎-elim}
+use mathlib.Core.Logic.{_⊎_, ⊎-elim}
 use mathlib.Core.Path.{_≡_, refl, sym, ap, ap₂, _∙_}
 use native.Mathlib.Omega.{arith}
 use native.Mathlib.Decide.{ℕ-discrete, decLt}
@@ -31,7 +31,7 @@ use Rattle.translation.specs.Outcome.Laws.{ten, ten-apart, ten-lines, book-firs
 use Rattle.playing.specs.Rehearsal.{longLine, moveLine, rehearsalSays}
 use Rattle.summary.specs.Summary.{summaryWords, summarySays, lengthLine, questionLine, answered, asked}
 use Rattle.summary.specs.Summary.Laws.{summary-most}
-use Rattle.editor.specs.Packed.{pack, twoValues, unpack, capped, Small}
+use Rattle.editor.specs.Packed.{pack, twoValues, unpack, unpackVerdict, capped, Small, Packs}
 
 -- ---- read back
 pub unpack-pack : (s : Said) → Small s → unpack (pack s) ≡ s
@@ -59,6 +59,32 @@ unpack-pack _ (Small.two {n} {v} {w} stops lv lw) =
     stops in
     ap₂ said number (ap₂ _∷_ value (pick-true _ _ _ two ∙ ap (λ x. x ∷ []) second))
 
+-- an answer that fits can be packed
+pub small-packs : {s : Said} → Small s → Packs s
+small-packs (Small.one ln other another lv) = Packs.one ln lv
+small-packs (Small.two {n} stops lv lw) = Packs.two {n = n} (⊎-elim (λ e. omega arith) (λ e. omega arith) stops) lv lw
+
+-- ---- a verdict is read back: one that tells a refusal or a value, and one that tells a place
+pub verdict-told : (s : Said) → Small s → (0 < s .number) ⊎ (0 < getD (s .values) 0 0) → unpackVerdict (pack s) ≡ s
+unfolding unpackVerdict pack
+verdict-told s (Small.one {n} {v} ln other another lv) h =
+    let some : 0 < n + 256 * v = ⊎-elim (λ e. omega arith) (λ e. omega arith) h in
+    pick-false _ _ _ (ne-eqb ((n + 256 * v + 1099511627776 * 0) % 1099511627776) 0 (λ e. omega arith))
+    ∙ unpack-pack s (Small.one {n = n} {v = v} ln other another lv)
+verdict-told s (Small.two {n} {v} {w} stops lv lw) h =
+    let low-number : (0 < n) × (n < 256) = ⊎-elim (λ e. (omega arith, omega arith)) (λ e. (omega arith, omega arith)) stops in
+    let (some, few) = low-number in
+    pick-false _ _ _ (ne-eqb ((n + 256 * v + 1099511627776 * w) % 1099511627776) 0 (λ e. omega arith))
+    ∙ unpack-pack s (Small.two {n = n} {v = v} {w = w} stops lv lw)
+
+pub verdict-placed : (k : ℕ) → unpackVerdict (pack (said 0 (0 ∷ k ∷ []))) ≡ said 0 (0 ∷ k ∷ [])
+unfolding unpackVerdict pack
+verdict-placed k =
+    let p = 0 + 256 * 0 + 1099511627776 * k in
+    let low : p % 1099511627776 ≡ 0 = omega arith in
+    let place : p / 1099511627776 ≡ k = omega arith in
+    pick-true _ _ _ (eq-eqb (p % 1099511627776) 0 low) ∙ ap (λ x. said 0 (0 ∷ x ∷ [])) place
+
 -- ---- an answer of a table, line by line
 any-line-says : (P : Said → Type 0) (l : Line) (ls : List Line) (rest : Said)
     → ((i : ℕ) → i < l .among → l .breaks i ≡ true → P (said (l .number i) (l .place i)))
@@ -81,7 +107,7 @@ last-says : (P : Said → Type 0) (rest : Said) → P rest → P (firstOf [] res
 last-says P rest p = rw (firstOf-none rest) p
 
 -- a refusal that fits
-abbrev Refuses : Said → Type 0
+abbrev pub Refuses : Said → Type 0
 Refuses s = (s .number ≡ 0 → ⊥) → Small s
 
 one-small : (n v : ℕ) → n < 10 → v < 4294967296 → Refuses (said n (v ∷ []))
@@ -111,7 +137,7 @@ module _ (b : List ℕ) where
   unfolding verdict
   valid-from z = keep-valid b (none-given (nine b) accepted (omega arith) (ap (λ (ls : List Line). firstOf ls accepted .number) (sym (reading-lines b)) ∙ z))
 
-  acceptance-small : Refuses (acceptance b)
+  pub acceptance-small : Refuses (acceptance b)
   unfolding acceptance verdict stopLine
   acceptance-small = elim (ℕ-discrete (verdict b .number) 0) [
     | no n ↦ rw (firstOf-stop (readingTable b) (stopLine b ∷ []) accepted accepted refl n) verdict-small

@@ -1,5 +1,5 @@
 //! The judge of another tool's listing (document 02, request 7): whether a one-to-one renaming of its placeholders turns
-//! one party's part into ours, and if not, the smallest word at which none can (refusal 22). Along our own events the
+//! one party's part into ours, and if not, the smallest word at which none can. Along our own events the
 //! renaming is built as a map, both ways, and tried on each of their words.
 
 use crate::book::{self, Refusal};

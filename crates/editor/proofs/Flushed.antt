@@ -4,8 +4,8 @@ use native.Mathlib.Omega.{arith}
 use mathlib.Core.List.{List, [], map}
 use mathlib.Core.Path.{_≡_, refl, sym, ap, _∙_}
 use lib.ListN.{length, take}
-use Rattle.words.specs.Overlay.{forward, Wrote}
-use Rattle.words.specs.Overlay.Laws.{sets-far, wrote-length, wrote-take, wrote-as}
+use Rattle.words.specs.Overlay.{Wrote}
+use Rattle.words.specs.Overlay.Laws.{wrote-length, wrote-take, wrote-as}
 use Rattle.octets.specs.Octets.{bytesOfAll}
 use Rattle.octets.specs.Octets.Laws.{bytes-none, bytes-then}
 use Rattle.terms.specs.Table.{term}
@@ -21,8 +21,7 @@ use Rattle.translation.specs.Steps.Laws.{before-none}
 use Rattle.translation.specs.Long.{stepWords}
 use Rattle.translation.specs.Long.Laws.{step-within, all-within, triples-length}
 use Rattle.holding.specs.View.{rowOf, view}
-use Rattle.holding.specs.Doing.{Doing}
-use Rattle.holding.specs.Doing.Laws.{doing-none, doing-as}
+use Rattle.holding.specs.Doing.Laws.{doing-none, doing-as, doing-counted}
 use Rattle.receiving.specs.declared.Received.{Received}
 use Rattle.receiving.specs.Receiving.{standing}
 use Rattle.walking.specs.Walk.{IdleUntil}
@@ -31,15 +30,6 @@ use Rattle.holding.specs.Partners.{Partners}
 use Rattle.walking.specs.Walking.{actDid, ActReady, Acting, Along}
 use Rattle.walking.specs.Walking.Laws.{along-more, along-fits, along-on}
 use Rattle.editor.specs.Events.{WroteEvents}
-
--- words that are only counted
-counted : (ws : List ℕ) (a : ℕ) → Wrote ws [] a [] (forward a (length ws))
-counted ws a = record { list = sym (sets-far ws [] a (omega arith)); next = refl; room = λ z. omega arith }
-
--- a doing whose words went to a buffer, as one whose words are counted from another place on
-doing-counted : {b : List ℕ} {d : Did} {n k : ℕ} {l m : List ℕ} {a : ℕ} {o s x : List ℕ} {i j q : ℕ}
-    → Doing b d n k l m a o s x i j q → (c : ℕ) → Doing b d n k l m c [] [] x i j (forward c (length (programWords (rowOf b) (d .events))))
-doing-counted f c = record { holds = f .holds; goes = f .goes; wrote = counted _ c; keeps = f .keeps }
 
 -- party p came through the first i steps: `count` words, whose bytes were written from a on. It holds the entries e, m is its next
 -- placeholder, and k the words of what it stored

@@ -1,6 +1,7 @@
 // The judge of another translator's listing of one party. `judge` answers, for any words, any number and any words of a listing, the book's
 // refusal, refusal 22, or the verdict: ours up to a one-to-one renaming of its placeholders, or the smallest word at which no renaming can
-// agree. Their listing is words and then bytes, either of which may be none, so that words and bytes are judged by one function.
+// agree. `judge_listing` is the same of a listing that is words and, behind them, the words that bytes make, either of which may be none: so
+// words and bytes are judged by one function, and neither is copied.
 //
 // Our program is made step by step, in a buffer that has room for any step's words, and read as a row of slots: what the next word is says
 // `Mode`. What they call our placeholders is kept for the step at hand, and of the steps before for those that are stored: no other is used
@@ -49,7 +50,7 @@ ghost use Rattle.book.specs.Layout.{steps as stepsOf};
 ghost use Rattle.holding.specs.Partners.{Partners};
 
 // What the next word of a program is; with a number, so many images follow behind it.
-pub enum Mode {
+enum Mode {
     // An event's code.
     Event,
     // An image's code.
@@ -138,7 +139,7 @@ fn in_image(code: u32, images: usize) -> Mode
 
 impl Mode {
     // What the word behind this one is.
-    pub fn next(self, word: u32) -> Mode
+    fn next(self, word: u32) -> Mode
         ensures { λ r. ⌜ r ≡ nextMode self word ⌝ }
     {
         match self {
@@ -180,7 +181,7 @@ impl Mode {
     }
 }
 
-// Words of 32 bits.
+// How many numbers 32 bits hold: no run goes past the last.
 struct Numbers {}
 
 impl Numbers {
@@ -391,9 +392,9 @@ fn fill(table: &mut [u32], at: usize, y: u32, n: u32) -> usize
 }
 
 // The range of all their numbers.
-pub struct Range {
-    pub low: usize,
-    pub high: usize,
+struct Range {
+    low: usize,
+    high: usize,
 }
 
 // The lower of two, and the higher.
@@ -430,11 +431,11 @@ fn widened(range: Range, y: u32, n: u32) -> Range
 }
 
 // How far their words agree: the place of the first that doesn't, or the one behind them all; and the range of their numbers.
-pub struct Far {
-    pub whole: bool,
-    pub at: usize,
-    pub low: usize,
-    pub high: usize,
+struct Far {
+    whole: bool,
+    at: usize,
+    low: usize,
+    high: usize,
 }
 
 // Their words from the place on, compared with ours, which begin with an event. What they call the placeholders that are handed out goes to

@@ -1,10 +1,11 @@
 -- Laws of what code leaves behind that does a party's doing: nothing, and one doing after another. Assumes nothing.
 use Prim.Native.Nat.{ℕ}
 use native.Mathlib.Omega.{arith}
-use mathlib.Core.List.{List}
+use mathlib.Core.List.{List, []}
 use mathlib.Core.Path.{_≡_, refl}
-use lib.ListN.{length-append}
-use Rattle.words.specs.Overlay.Laws.{wrote-then, wrote-none, wrote-as}
+use lib.ListN.{length, length-append}
+use Rattle.words.specs.Overlay.{forward}
+use Rattle.words.specs.Overlay.Laws.{wrote-then, wrote-none, wrote-as, wrote-counted}
 use Rattle.translation.specs.Receive.{Did, nothing, followed}
 use Rattle.translation.specs.Listing.{programWords, tripleWords}
 use Rattle.translation.specs.Listing.Laws.{program-append, triples-append}
@@ -19,6 +20,11 @@ doing-as f e = rw e f
 pub doing-none : {b : List ℕ} {n k : ℕ} {l : List ℕ} {a : ℕ} {o x : List ℕ} → Doing b (nothing (view b x)) n k l l a o o x n k a
 unfolding programWords tripleWords
 doing-none = record { holds = refl; goes = omega arith; wrote = wrote-none; keeps = wrote-none }
+
+-- a doing whose words went to a buffer, as one whose words are counted from another place on
+pub doing-counted : {b : List ℕ} {d : Did} {n k : ℕ} {l m : List ℕ} {a : ℕ} {o s x : List ℕ} {i j q : ℕ}
+    → Doing b d n k l m a o s x i j q → (c : ℕ) → Doing b d n k l m c [] [] x i j (forward c (length (programWords (rowOf b) (d .events))))
+doing-counted f c = record { holds = f .holds; goes = f .goes; wrote = wrote-counted _ c; keeps = f .keeps }
 
 -- one after another
 pub doing-then : (b : List ℕ) (d e : Did) {n k : ℕ} {l m z : List ℕ} {a : ℕ} {o s t x y : List ℕ} {i j q i′ j′ q′ : ℕ}

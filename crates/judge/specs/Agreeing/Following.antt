@@ -9,18 +9,18 @@ use native.Mathlib.Nat.{add-zero}
 use native.Mathlib.Numerals.{add-one}
 use lib.ListN.{length, getD, drop, length-append, List·getD-eq-default}
 use lib.Seq.{drop-cons, drop-length, getD-drop}
-use lib.Dec.{eqb, ltb, leb}
-use borrow.Author.Tests.{ne-eqb, leb-true, ltb-true, lt-ltb}
+use lib.Dec.{eqb, leb}
+use borrow.Author.Tests.{ne-eqb, leb-true}
 use Rattle.words.specs.Choice.{pick}
 use Rattle.words.specs.Choice.Laws.{pick-true, pick-false}
 use Rattle.words.specs.First.Laws.{clash}
 use Rattle.words.specs.Run.{values}
-use Rattle.words.specs.Run.Laws.{values-length}
 use Rattle.words.specs.Overlay.{Wrote}
 use Rattle.translation.specs.Long.{stepSize}
 use Rattle.translation.specs.Low.{wordLimit}
 use Rattle.renaming.specs.Slot.{Slot, InOrder, handed}
 use Rattle.renaming.specs.Renaming.{numbers, agrees, named, stands, Followed, follow}
+use Rattle.renaming.specs.Renaming.Laws.{follow-on, follow-stops, stands-within, stands-agrees, numbers-length}
 use Rattle.judge.specs.declared.Mode.{Mode}
 use Rattle.judge.specs.declared.Mode.the-variants.{Event}
 use Rattle.judge.specs.declared.Far.{Far}
@@ -85,29 +85,10 @@ run-fits names (suc (suc zero)) w (suc v) y h l = go (leb (y + suc v) wordLimit)
     go false e = absurd (clash h (pick-false _ _ _ e))
 run-fits names (suc (suc (suc c))) w v y h l = let e = other-run c v in omega arith
 
--- ---- a word stands there, and agrees
-stands-within : (ws : List ℕ) (a : ℕ) (names : List ℕ) (s : Slot) → stands ws a names s ≡ true → a < length ws
-unfolding stands
-stands-within ws a names s h = go (ltb a (length ws)) refl
-  where
-    go : (b : Bool) → ltb a (length ws) ≡ b → a < length ws
-    go true e = ltb-true a (length ws) e
-    go false e = absurd (clash h (pick-false _ _ _ e))
-
-stands-agrees : (ws : List ℕ) (a : ℕ) (names : List ℕ) (s : Slot) → stands ws a names s ≡ true → agrees names s (getD ws a 0) ≡ true
-unfolding stands
-stands-agrees ws a names s h = sym (pick-true _ _ _ (lt-ltb a (length ws) (stands-within ws a names s h))) ∙ h
-
 -- ---- a slot more, or none
-follow-on : (ws : List ℕ) (s : Slot) (ss : List Slot) (a : ℕ) (names : List ℕ) → stands ws a names s ≡ true
+follow-more : (ws : List ℕ) (s : Slot) (ss : List Slot) (a : ℕ) (names : List ℕ) → stands ws a names s ≡ true
     → follow ws (s ∷ ss) a names ≡ follow ws ss (a + 1) (named names s (getD ws a 0))
-unfolding follow
-follow-on ws s ss a names h = rw add-one (pick-true _ _ _ h)
-
-follow-off : (ws : List ℕ) (s : Slot) (ss : List Slot) (a : ℕ) (names : List ℕ) → stands ws a names s ≡ false
-    → follow ws (s ∷ ss) a names ≡ record { at = a; names = names; whole = false }
-unfolding follow
-follow-off ws s ss a names h = pick-false _ _ _ h
+follow-more ws s ss a names h = rw add-one (follow-on ws s ss a names h)
 
 follow-none : (ws : List ℕ) (a : ℕ) (names : List ℕ) → follow ws [] a names ≡ record { at = a; names = names; whole = true }
 unfolding follow
@@ -192,7 +173,7 @@ module _ {ws ours : List ℕ} {a k at : ℕ} {m : Mode} {begin filled : ℕ} {ta
     pub up-off : {t : Bool} (r : Far) → t ≡ stands ws at names (slotOf (classOf m) w v) → t ≡ false → r .whole ≡ false → r .at ≡ at
         → WordsFollowed ws ours a begin table log n called r
     up-off r s f o l =
-        let z = rest-there ∙ follow-off ws slot _ at names (ap (λ x. stands ws at names (slotOf (classOf m) w x)) (sym ahead) ∙ sym s ∙ f) in
+        let z = rest-there ∙ follow-stops ws slot _ at names (ap (λ x. stands ws at names (slotOf (classOf m) w x)) (sym ahead) ∙ sym s ∙ f) in
         record {
           at = ap (λ (x : Followed). x .at) z ∙ sym l;
           whole = ap (λ (x : Followed). x .whole) z ∙ sym o;
@@ -232,7 +213,7 @@ module _ {ws ours : List ℕ} {a k at : ℕ} {m : Mode} {begin filled : ℕ} {ta
 
         more-names : length names + runBy (classOf m) (getD ours (k + 1) 0) ≡ length (names ++ numbers y c)
         more-names =
-            let l = length-append names (numbers y c) in let z = values-length (λ j. j) y c in let i = run-is in omega arith
+            let l = length-append names (numbers y c) in let z = numbers-length y c in let i = run-is in omega arith
 
         sum-on : (filled + c) + handed (scan m′ (drop (k + 1) ours)) ≡ handed (scan Event ours)
         sum-on =
@@ -251,7 +232,7 @@ module _ {ws ours : List ℕ} {a k at : ℕ} {m : Mode} {begin filled : ℕ} {ta
             record {
               within = omega arith;
               mode = t′ ∙ mode-on ws at m w (getD ours (k + 1) 0) (u .mode) word-agrees;
-              rest = rest-there ∙ follow-on ws slot _ at names agreed
+              rest = rest-there ∙ follow-more ws slot _ at names agreed
                   ∙ ap₂ (λ (x : Mode) (l : List ℕ). follow ws (scan x (drop (k + 1) ours)) (at + 1) l) (sym t′) (sym told-there);
               calls = rw names-on (called-run (u .calls) filled y c (u .count) (omega arith) f′);
               ranged = rw names-on (ranged-run (u .ranged) wide);

@@ -6,8 +6,8 @@ use mathlib.Core.Logic.{_⊎_, inl, inr}
 use mathlib.Core.Path.{_≡_, refl, sym, ap, ap₂, _∙_}
 use native.Mathlib.Omega.{arith}
 use native.Mathlib.Numerals.{add-one}
-use lib.ListN.{length, getD, set, length-append, length-set, List·getD-append}
-use lib.Seq.{sets, getD-append-add, getD-set-same, getD-set-other}
+use lib.ListN.{length, getD, length-append, List·getD-append}
+use lib.Seq.{sets, getD-append-add}
 use lib.Dec.{eqb, ltb}
 use borrow.Author.Tests.{le-leb, lt-leb, eqb-true, eqb-false, eq-eqb, ne-eqb, ltb-true, ltb-false}
 use Rattle.words.specs.Choice.Laws.{pick-true, pick-false}
@@ -16,7 +16,7 @@ use Rattle.words.specs.First.Laws.{first-holds, any-at, any-first}
 use Rattle.words.specs.Run.{All, values}
 use Rattle.words.specs.Run.Laws.{values-length, values-getD, values-last}
 use Rattle.words.specs.Overlay.{Wrote}
-use Rattle.words.specs.Overlay.Laws.{wrote-none, wrote-then, wrote-as, wrote-length}
+use Rattle.words.specs.Overlay.Laws.{sets-before, sets-there, wrote-none, wrote-then, wrote-as, wrote-length}
 use Rattle.translation.specs.Long.{stepSize}
 use Rattle.translation.specs.Low.{wordLimit}
 use Rattle.renaming.specs.Slot.{Slot}
@@ -127,21 +127,6 @@ filled-more y j f g = wrote-as (wrote-then f g) (numbers-more y j)
 
 pub filled-all : (y : ℕ) {j n : ℕ} {o m : List ℕ} {a p : ℕ} → Wrote (numbers y j) o a m p → j ≡ n → Wrote (numbers y n) o a m p
 filled-all y f e = rw (← e) f
-
--- ---- a list over which words are laid, at a place
-sets-before : (vs l : List ℕ) (a i : ℕ) → i < a → getD (sets l a vs) i 0 ≡ getD l i 0
-sets-before [] l a i h = refl
-sets-before (v ∷ vs) l a i h = sets-before vs (set l a v) (suc a) i (omega arith) ∙ getD-set-other l a i v 0 (λ e. omega arith)
-
-sets-there : (vs l : List ℕ) (a j : ℕ) → j < length vs → a + length vs ≤ length l → getD (sets l a vs) (a + j) 0 ≡ getD vs j 0
-sets-there [] l a j h f = absurd (omega arith)
-sets-there (v ∷ vs) l a zero h f =
-    let e : a + 0 ≡ a = omega arith in
-    sets-before vs (set l a v) (suc a) (a + 0) (omega arith) ∙ ap (λ k. getD (set l a v) k 0) e ∙ getD-set-same l a v 0 (omega arith)
-sets-there (v ∷ vs) l a (suc j) h f =
-    let e : a + suc j ≡ suc a + j = omega arith in
-    let s = length-set l a v in
-    ap (λ k. getD (sets (set l a v) (suc a) vs) k 0) e ∙ sets-there vs (set l a v) (suc a) j (omega arith) (omega arith)
 
 -- ---- a run more of names
 module _ {names : List ℕ} {begin : ℕ} {table log : List ℕ} {n : ℕ} {called : List ℕ} (c : Called names begin table log n called)

@@ -11,7 +11,7 @@ use lib.Dec.{ltb}
 use borrow.Author.Tests.{ltb-true, ltb-false}
 use Rattle.words.specs.First.Laws.{clash}
 use Rattle.words.specs.Overlay.{forward, Wrote}
-use Rattle.words.specs.Overlay.Laws.{sets-far, wrote-length, wrote-take}
+use Rattle.words.specs.Overlay.Laws.{wrote-length, wrote-take}
 use Rattle.terms.specs.Term.{Term}
 use Rattle.terms.specs.Table.{term}
 use Rattle.book.specs.Layout.{table as tableOf, steps, known}
@@ -31,8 +31,7 @@ use Rattle.renaming.specs.Slot.Order.{step-ordered, step-handed, step-stored, b
 use Rattle.renaming.specs.Renaming.{Followed, follow}
 use Rattle.renaming.specs.Renaming.Laws.{follow-append-whole, follow-append-part}
 use Rattle.holding.specs.View.{rowOf, view}
-use Rattle.holding.specs.Doing.{Doing}
-use Rattle.holding.specs.Doing.Laws.{doing-none, doing-as}
+use Rattle.holding.specs.Doing.Laws.{doing-none, doing-as, doing-counted}
 use Rattle.holding.specs.Partners.{Partners}
 use Rattle.receiving.specs.declared.Received.{Received}
 use Rattle.receiving.specs.Receiving.{standing}
@@ -53,15 +52,6 @@ use Rattle.judge.specs.Agreeing.{WordsReady, AllFollowed, WordsFollowed}
 use Rattle.judge.specs.Agreeing.Following.{told-event}
 use Rattle.judge.specs.Stepping.{placeholders, Agreed, Buffers, Stepped, StepFollowed, StepsFollowed}
 use Rattle.judge.specs.Stepping.Laws.{log-at, placeholders-front, placeholders-back, at-kept, kept-stored}
-
--- words that are only counted
-counted : (ws : List ℕ) (a : ℕ) → Wrote ws [] a [] (forward a (length ws))
-counted ws a = record { list = sym (sets-far ws [] a (omega arith)); next = refl; room = λ z. omega arith }
-
--- a doing whose words went to a buffer, as one whose words are counted from another place on
-doing-counted : {b : List ℕ} {d : Did} {n k : ℕ} {l m : List ℕ} {a : ℕ} {o s x : List ℕ} {i j q : ℕ}
-    → Doing b d n k l m a o s x i j q → (c : ℕ) → Doing b d n k l m c [] [] x i j (forward c (length (programWords (rowOf b) (d .events))))
-doing-counted f c = record { holds = f .holds; goes = f .goes; wrote = counted _ c; keeps = f .keeps }
 
 agreed-as : {b : List ℕ} {d f : Did} {ws : List ℕ} {at low high m k : ℕ} {log called : List ℕ} → d ≡ f
     → Agreed b d ws at low high m k log called → Agreed b f ws at low high m k log called

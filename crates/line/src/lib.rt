@@ -29,7 +29,7 @@ pub fn put_text(line: &mut [u8], at: usize, text: &[u8]) -> usize
 
 // The same for a number in decimal with a space behind it. A word takes up to eleven bytes of the line; another number can take
 // twenty-one, and wherever a number is put, there is room for that.
-fn put_number(line: &mut [u8], at: usize, x: u64) -> usize
+pub fn put_number(line: &mut [u8], at: usize, x: u64) -> usize
     requires { ⌜ at + 21 ≤ length (now line) ⌝ }
     ensures { λ r. ⌜ PutNumber x (now (line .entry)) at (now (line .exit)) r ⌝ }
 {
@@ -74,7 +74,7 @@ fn put_told(line: &mut [u8], told: Told) -> usize
 }
 
 // Puts a newline in the last space's place; answers the line's length.
-fn end(line: &mut [u8], at: usize) -> usize
+pub fn end(line: &mut [u8], at: usize) -> usize
     requires { ⌜ (at ≤ length (now line)) × (0 < length (now line)) ⌝ }
     ensures { λ r. ⌜ Counts r (now (line .exit)) ⌝ }
     ensures { λ r. ⌜ take r (now (line .exit)) ≡ ended (take at (now (line .entry))) ⌝ }

@@ -11,33 +11,39 @@ use Rattle.book.specs.Said.{Said}
 use Rattle.book.specs.Refusals.{verdict}
 use Rattle.translation.specs.Outcome.{Outcome, acceptance, outcome}
 use Rattle.playing.specs.Rehearsal.{rehearsal}
+use Rattle.renaming.specs.Verdict.{judged}
 use Rattle.summary.specs.Summary.{summarized, asked}
 use Rattle.editor.specs.Bytes.{translationBytes, rehearsalBytes, summaryBytes, askedBytes}
 use Rattle.line.specs.Line.{readingLine, lineOf}
 use Rattle.calls.specs.Reply.{replyLine}
+use Rattle.calls.specs.Judgement.{judgementLine}
 pub mod Laws
 pub mod Numbers
 
 -- ---- the functions
 -- the numbers that are some function's
 abbrev pub Known : ℕ → Type 0
-Known f = (1 ≤ f) × (f ≤ 10)
+Known f = (1 ≤ f) × (f ≤ 11)
 
 -- the slices are of bytes: of 5, 6, 9 and 10
 unfoldable pub onBytes : ℕ → Bool
-onBytes f = pick (ltb f 5) false (pick (ltb f 7) true (ltb 8 f))
+onBytes f = pick (ltb f 5) false (pick (ltb f 7) true (pick (eqb f 11) false (ltb 8 f)))
 
 -- a question is answered: by 8 and 10
 unfoldable pub asks : ℕ → Bool
 asks f = pick (eqb f 8) true (eqb f 10)
 
+-- a listing is judged: by 11
+unfoldable pub judges : ℕ → Bool
+judges f = eqb f 11
+
 -- how many slices the function f has: a reading and a question one, a rehearsal three, the others two
 unfoldable pub slicesOf : ℕ → ℕ
 slicesOf f = pick (ltb f 3) 1 (pick (asks f) 1 (pick (eqb f 4) 3 (pick (eqb f 6) 3 2)))
 
--- how many numbers it has behind them: a question three
+-- how many numbers it has behind them: a question three, a judgement one
 unfoldable pub numbersOf : ℕ → ℕ
-numbersOf f = pick (asks f) 3 0
+numbersOf f = pick (asks f) 3 (pick (judges f) 1 0)
 
 -- the bytes of a slice of the function f whose count is n: of bytes, or of words
 unfoldable pub sliceSize : ℕ → ℕ → ℕ
@@ -75,7 +81,7 @@ bytesLine f a b c =
 abbrev pub OnBytes : ℕ → Type 0
 OnBytes f = (5 ≤ f) × (f ≤ 9) × (f ≡ 7 → ⊥) × (f ≡ 8 → ⊥)
 
--- number i of those that stand behind a slice, a word each
+-- number i of those that stand behind the slices, a word each
 abbrev pub number : List ℕ → ℕ → ℕ
 number bs i = getD (wordsIn bs) i 0
 
@@ -88,7 +94,13 @@ unfoldable pub questionLine : ℕ → List ℕ → List ℕ → List ℕ
 questionLine f a b =
     pick (eqb f 8) (replyLine (question asked (wordsIn a) b)) (pick (eqb f 10) (replyLine (question askedBytes a b)) [])
 
--- of the bytes that were read of each slice, and of a question's numbers
+-- of a listing b that is judged against the book a, of the party whose number the bytes c make: 11 `judge`
+unfoldable pub judgeLine : ℕ → List ℕ → List ℕ → List ℕ → List ℕ
+judgeLine f a b c = pick (eqb f 11) (judgementLine (judged (wordsIn a) (number c 0) (wordsIn b))) []
+
+-- of the bytes that were read of each slice, and behind them of the numbers
 unfoldable pub callLine : ℕ → List ℕ → List ℕ → List ℕ → List ℕ
 callLine f a b c =
-    pick (asks f) (questionLine f a b) (pick (onBytes f) (bytesLine f a b c) (wordsLine f (wordsIn a) (wordsIn b) (wordsIn c)))
+    pick (asks f) (questionLine f a b)
+    (pick (judges f) (judgeLine f a b c)
+    (pick (onBytes f) (bytesLine f a b c) (wordsLine f (wordsIn a) (wordsIn b) (wordsIn c))))

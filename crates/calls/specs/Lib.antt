@@ -1,3 +1,4 @@
 pub mod Call
+pub mod Judgement
 pub mod Next
 pub mod Reply

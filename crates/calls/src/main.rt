@@ -3,6 +3,7 @@
 use input::Input;
 use libc::STDERR_FILENO;
 use libc::STDIN_FILENO;
+use renaming::Verdict;
 use summary::Reply;
 use translation::Answer;
 ghost use mathlib.Core.Path.{_≡_};
@@ -12,12 +13,14 @@ ghost use lib.ListN.{length, take};
 ghost use Rattle.io.specs.Counts.{Counts};
 ghost use Rattle.octets.specs.Octets.{wordAt, wordsIn};
 ghost use Rattle.translation.specs.Outcome.{came};
+ghost use Rattle.renaming.specs.Verdict.{judged, verdictSays};
 ghost use Rattle.summary.specs.Summary.{asked};
 ghost use Rattle.summary.specs.Reply.{replySays};
 ghost use Rattle.input.specs.Input.{Within};
 ghost use Rattle.line.specs.Line.{Inside, lineOf};
-ghost use Rattle.calls.specs.Call.{Known, onBytes, asks, slicesOf, numbersOf, sliceSize};
-ghost use Rattle.calls.specs.Call.{OnWords, OnBytes, verdictLine, wordsLine, bytesLine, questionLine, callLine};
+ghost use Rattle.calls.specs.Call.{Known, onBytes, asks, judges, slicesOf, numbersOf, sliceSize};
+ghost use Rattle.calls.specs.Call.{OnWords, OnBytes, verdictLine, wordsLine, bytesLine, questionLine, judgeLine, callLine};
+ghost use Rattle.calls.specs.Judgement.{differsLine, judgementLine};
 ghost use Rattle.calls.specs.Next.{Asked};
 ghost use Rattle.calls.specs.Reply.{replyLine};
 
@@ -63,6 +66,8 @@ impl Function {
     const SUMMARY_BYTES: u32 = 9;
 
     const ASK_BYTES: u32 = 10;
+
+    const JUDGE: u32 = 11;
 }
 
 // What came next: a call of a function, or nothing more, and where that is no proper end, it was told.
@@ -81,6 +86,9 @@ fn on_bytes(function: u32) -> bool
     if function < Function::WRITE_SUMMARY {
         return true;
     }
+    if function == Function::JUDGE {
+        return false;
+    }
     Function::ASK < function
 }
 
@@ -92,6 +100,13 @@ fn is_question(function: u32) -> bool
         return true;
     }
     function == Function::ASK_BYTES
+}
+
+// The function judges a listing: a party's number stands behind its slices.
+fn is_judgement(function: u32) -> bool
+    ensures { λ r. ⌜ r ≡ judges function ⌝ }
+{
+    function == Function::JUDGE
 }
 
 // The line of a call that has no output, into the front of `line`; answers its length.
@@ -221,7 +236,54 @@ fn question_line(line: &mut [u8], function: u32, summary: &[u8], numbers: &[u8])
     reply_line(line, editor::ask(summary, party, row, step))
 }
 
-// The line of a call, of the bytes that were read of its slices; of a question the second are its numbers.
+// The verdict on a listing, of the words that the bytes of the book and those of the listing make.
+fn judge_words(book: &[u8], party: u32, listing: &[u8]) -> Verdict
+    requires { ⌜ (length (now book) ≤ 65536) × (length (now listing) ≤ 65536) ⌝ }
+    ensures { λ r. ⌜ verdictSays r ≡ judged (wordsIn (now (book .entry))) party (wordsIn (now (listing .entry))) ⌝ }
+{
+    let mut words = [0u32; Most::WORDS];
+    let n = octets::load(book, &mut words);
+    let mut theirs = [0u32; Most::WORDS];
+    let m = octets::load(listing, &mut theirs);
+    judge::judge(&words[..n], party, &theirs[..m])
+}
+
+// The line of a place at which a listing differs: the word "differs", and the place.
+fn differs_line(line: &mut [u8], place: usize) -> usize
+    requires { ⌜ 71 ≤ length (now line) ⌝ }
+    ensures { λ r. ⌜ Counts r (now (line .exit)) ⌝ }
+    ensures { λ r. ⌜ take r (now (line .exit)) ≡ differsLine place ⌝ }
+{
+    let start = line::put_text(line, 0, b"differs ");
+    let at = line::put_number(line, start, place as u64);
+    line::end(line, at)
+}
+
+// The line of a verdict on a listing: the word "same", or where it differs, or its refusal.
+fn judgement_line(line: &mut [u8], verdict: Verdict) -> usize
+    requires { ⌜ 71 ≤ length (now line) ⌝ }
+    ensures { λ r. ⌜ Counts r (now (line .exit)) ⌝ }
+    ensures { λ r. ⌜ take r (now (line .exit)) ≡ judgementLine (verdictSays verdict) ⌝ }
+{
+    match verdict {
+        Verdict::Same => line::put_text(line, 0, b"same\n"),
+        Verdict::Differs(place) => differs_line(line, place),
+        Verdict::Refused(refusal) => line::refusal_line(line, refusal),
+    }
+}
+
+// The line of a listing that is judged against a book, of the bytes of both and of the party's number.
+fn judge_line(line: &mut [u8], function: u32, book: &[u8], listing: &[u8], number: &[u8]) -> usize
+    requires { ⌜ (judges function ≡ true) × (length (now book) ≤ 65536) × (length (now listing) ≤ 65536) × (71 ≤ length (now line)) ⌝ }
+    ensures { λ r. ⌜ Counts r (now (line .exit)) ⌝ }
+    ensures { λ r. ⌜ take r (now (line .exit)) ≡ judgeLine function (now (book .entry)) (now (listing .entry)) (now (number .entry)) ⌝ }
+{
+    let party = octets::word_at(number, 0);
+    judgement_line(line, judge_words(book, party, listing))
+}
+
+// The line of a call, of the bytes that were read of its slices, and behind them of its numbers: of a question the second are those, and of
+// a listing that is judged the third.
 fn call_line(
     line: &mut [u8],
     function: u32,
@@ -235,6 +297,9 @@ fn call_line(
 {
     if is_question(function) {
         return question_line(line, function, first, second);
+    }
+    if is_judgement(function) {
+        return judge_line(line, function, first, second, third);
     }
     if on_bytes(function) {
         return bytes_line(line, function, first, second, third);
@@ -308,12 +373,15 @@ fn slices(function: u32) -> usize
     2
 }
 
-// How many numbers a function has behind its slices: a question three.
+// How many numbers a function has behind its slices: a question three, a judgement one.
 fn numbers(function: u32) -> usize
     ensures { λ r. ⌜ (r ≡ numbersOf function) × (r ≤ 3) ⌝ }
 {
     if is_question(function) {
         return Most::NUMBERS;
+    }
+    if is_judgement(function) {
+        return 1;
     }
     0
 }
@@ -400,7 +468,7 @@ fn read_next() -> Next
     if function < Function::READ {
         return stop(b"there is no function of this number\n");
     }
-    if Function::ASK_BYTES < function {
+    if Function::JUDGE < function {
         return stop(b"there is no function of this number\n");
     }
     Next::Call(function)

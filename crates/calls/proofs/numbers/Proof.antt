@@ -1,7 +1,8 @@
--- `calls::numbers` meets its contract: a question has three (`numbers-ask`), what is none has none. Assumes nothing.
+-- `calls::numbers` meets its contract: a question has three (`numbers-ask`), a judgement one (`numbers-judge`), what is
+-- neither has none. Assumes nothing.
 use native.Mathlib.Omega.{arith}
 use borrow.Author.Needs.{needs}
-use Rattle.calls.specs.Call.Laws.{numbers-ask, numbers-none}
+use Rattle.calls.specs.Call.Laws.{numbers-ask, numbers-judge, numbers-none}
 use Rattle.calls.proofs.numbers.Statement.{statement}
 use Rattle.calls.proofs.numbers.Tie as tie
 
@@ -14,10 +15,23 @@ returns c =
 
 returns-2 : tie.Need-returns-2
 returns-2 c =
+    let then2 : tie.Then2 = search in
+    let judging : tie.After-is-judgement = search in
     let else1 : tie.Else1 = search in
     let asked : tie.After-is-question = search in
     let start : tie.Start = search in
-    (numbers-none (start .args .function) (asked .is-question .ensures) (else1 .if1 .left), omega arith)
+    let one = numbers-judge (start .args .function) (asked .is-question .ensures) (else1 .if1 .left) in
+    (one (judging .is-judgement .ensures) (then2 .if2 .taken), omega arith)
+
+returns-3 : tie.Need-returns-3
+returns-3 c =
+    let else2 : tie.Else2 = search in
+    let judging : tie.After-is-judgement = search in
+    let else1 : tie.Else1 = search in
+    let asked : tie.After-is-question = search in
+    let start : tie.Start = search in
+    let none = numbers-none (start .args .function) (asked .is-question .ensures) (else1 .if1 .left) in
+    (none (judging .is-judgement .ensures) (else2 .if2 .left), omega arith)
 
 pub numbers-spec : {M : Type 1} → statement M
 numbers-spec =
@@ -25,4 +39,6 @@ numbers-spec =
     (tie.spec
     (λ c κs. search needs)  -- is-question-requires
     returns
-    returns-2)
+    (λ c κs. search needs)  -- is-judgement-requires
+    returns-2
+    returns-3)

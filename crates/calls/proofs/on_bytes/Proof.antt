@@ -1,6 +1,6 @@
 -- `calls::on_bytes` meets its contract: by the number (`bytes-before` and its kin). Assumes nothing.
 use native.Mathlib.Omega.{arith}
-use Rattle.calls.specs.Call.Laws.{bytes-before, bytes-early, bytes-late}
+use Rattle.calls.specs.Call.Laws.{bytes-before, bytes-early, bytes-judge, bytes-late}
 use Rattle.calls.proofs.on_bytes.Statement.{statement}
 use Rattle.calls.proofs.on_bytes.Tie as tie
 
@@ -11,7 +11,13 @@ returns-2 : tie.Need-returns-2
 returns-2 c = let start : tie.Start = search in bytes-early (start .args .function) (omega arith) (omega arith)
 
 returns-3 : tie.Need-returns-3
-returns-3 c = let start : tie.Start = search in bytes-late (start .args .function) (omega arith) (omega arith)
+returns-3 c = let start : tie.Start = search in bytes-judge (start .args .function) (omega arith)
+
+returns-4 : tie.Need-returns-4
+returns-4 c =
+    let else3 : tie.Else3 = search in
+    let start : tie.Start = search in
+    bytes-late (start .args .function) (omega arith) (omega arith) (else3 .if3 .left)
 
 pub on-bytes-spec : {M : Type 1} → statement M
 on-bytes-spec =
@@ -19,4 +25,5 @@ on-bytes-spec =
     (tie.spec
     returns
     returns-2
-    returns-3)
+    returns-3
+    returns-4)

@@ -20,6 +20,7 @@ use Rattle.translation.specs.Outcome.{Outcome, acceptance, outcome, came}
 use Rattle.translation.specs.declared.Answer.{Answer}
 use Rattle.translation.specs.declared.Answer.the-variants.{Written, Refused}
 use Rattle.playing.specs.Rehearsal.{rehearsal}
+use Rattle.renaming.specs.Verdict.{judged}
 use Rattle.summary.specs.Summary.{summarized, asked}
 use Rattle.summary.specs.Summary.Written.{exactly-summarized, summarized-says}
 use Rattle.editor.specs.Bytes.{uneven, odd, translationBytes, rehearsalBytes, summaryBytes, askedBytes, AsWords}
@@ -27,10 +28,11 @@ use Rattle.editor.specs.Bytes.Laws.{translation-words, rehearsal-words, summary
 use Rattle.line.specs.Line.{readingLine, lineOf, Inside}
 use Rattle.line.specs.Line.Laws.{inside-outcome, inside-rehearsal}
 use Rattle.calls.specs.Reply.{replyLine}
-use Rattle.calls.specs.Call.{Known, onBytes, asks, slicesOf, numbersOf, sliceSize, OnWords, OnBytes, inWords, number, question}
-use Rattle.calls.specs.Call.{verdictLine, wordsLine, bytesLine, questionLine, callLine}
+use Rattle.calls.specs.Judgement.{judgementLine}
+use Rattle.calls.specs.Call.{Known, onBytes, asks, judges, slicesOf, numbersOf, sliceSize, OnWords, OnBytes, inWords, number, question}
+use Rattle.calls.specs.Call.{verdictLine, wordsLine, bytesLine, questionLine, judgeLine, callLine}
 
--- ---- onBytes and asks: as the code tests the number
+-- ---- onBytes, asks and judges: as the code tests the number
 module _ (f : ℕ) where
   pub bytes-before : f < 5 → false ≡ onBytes f
   unfolding onBytes
@@ -40,9 +42,13 @@ module _ (f : ℕ) where
   unfolding onBytes
   bytes-early h l = sym (pick-false _ _ _ (le-ltb f 5 h) ∙ pick-true _ _ _ (lt-ltb f 7 l))
 
-  pub bytes-late : 5 ≤ f → 7 ≤ f → ltb 8 f ≡ onBytes f
+  pub bytes-judge : f ≡ 11 → false ≡ onBytes f
+  unfolding onBytes pick
+  bytes-judge e = ap onBytes (sym e)
+
+  pub bytes-late : 5 ≤ f → 7 ≤ f → (f ≡ 11 → ⊥) → ltb 8 f ≡ onBytes f
   unfolding onBytes
-  bytes-late h l = sym (pick-false _ _ _ (le-ltb f 5 h) ∙ pick-false _ _ _ (le-ltb f 7 l))
+  bytes-late h l n = sym (pick-false _ _ _ (le-ltb f 5 h) ∙ pick-false _ _ _ (le-ltb f 7 l) ∙ pick-false _ _ _ (ne-eqb f 11 n))
 
   bytes-from : onBytes f ≡ true → 5 ≤ f
   bytes-from e = elim (decLt f 5) [
@@ -62,28 +68,39 @@ module _ (f : ℕ) where
   pub asks-bytes : asks f ≡ true → (f ≡ 8 → ⊥) → f ≡ 10
   asks-bytes e n = eqb-true f 10 (asks-other n ∙ e)
 
+  pub judges-words : eqb f 11 ≡ judges f
+  unfolding judges
+  judges-words = refl
+
+  pub judges-is : judges f ≡ true → f ≡ 11
+  unfolding judges
+  judges-is e = eqb-true f 11 e
+
 -- a number at which a test answers otherwise is another
 apart : (test : ℕ → Bool) (f n : ℕ) → test n ≡ true → test f ≡ false → f ≡ n → ⊥
 apart test f n t e q = true≢false (sym t ∙ ap test (sym q) ∙ e)
 
--- what is no question is on words or on bytes
-module _ {f : ℕ} {t u : Bool} (known : Known f) (asking : t ≡ asks f) (no : t ≡ false) (tested : u ≡ onBytes f) where
+-- what is no question and judges nothing is on words or on bytes
+module _ {f : ℕ} {t v u : Bool} (known : Known f) (asking : t ≡ asks f) (no : t ≡ false) (judging : v ≡ judges f) (none : v ≡ false)
+    (tested : u ≡ onBytes f) where
   pub on-words : u ≡ false → OnWords f
-  unfolding onBytes asks pick
+  unfolding onBytes asks judges pick
   on-words e =
       let no-question = sym asking ∙ no in
       let no-bytes = sym tested ∙ e in
       let is-no-8 = apart asks f 8 refl no-question in
       let is-no-9 = apart onBytes f 9 refl no-bytes in
       let is-no-10 = apart asks f 10 refl no-question in
+      let is-no-11 = apart judges f 11 refl (sym judging ∙ none) in
       (known .0, omega arith, apart onBytes f 5 refl no-bytes, apart onBytes f 6 refl no-bytes)
 
   pub on-bytes : u ≡ true → OnBytes f
-  unfolding onBytes asks pick
+  unfolding onBytes asks judges pick
   on-bytes e =
       let no-question = sym asking ∙ no in
       let bytes = sym tested ∙ e in
       let is-no-10 = apart asks f 10 refl no-question in
+      let is-no-11 = apart judges f 11 refl (sym judging ∙ none) in
       (bytes-from f bytes, omega arith, apart (λ n. not (onBytes n)) f 7 refl (ap not bytes), apart asks f 8 refl no-question)
 
 -- ---- slicesOf and numbersOf
@@ -117,9 +134,15 @@ module _ (f : ℕ) where
     unfolding numbersOf
     numbers-ask e = sym (pick-true _ _ _ (sym tested ∙ e))
 
-    pub numbers-none : t ≡ false → 0 ≡ numbersOf f
-    unfolding numbersOf
-    numbers-none e = sym (pick-false _ _ _ (sym tested ∙ e))
+    -- and where it does not, by whether it judges
+    module _ {u : Bool} (no : t ≡ false) (judging : u ≡ judges f) where
+      pub numbers-judge : u ≡ true → 1 ≡ numbersOf f
+      unfolding numbersOf
+      numbers-judge e = sym (pick-false _ _ _ (sym tested ∙ no) ∙ pick-true _ _ _ (sym judging ∙ e))
+
+      pub numbers-none : u ≡ false → 0 ≡ numbersOf f
+      unfolding numbersOf
+      numbers-none e = sym (pick-false _ _ _ (sym tested ∙ no) ∙ pick-false _ _ _ (sym judging ∙ e))
 
 -- ---- sliceSize: of bytes, and of words
 module _ (f : ℕ) {n m : ℕ} {t : Bool} (tested : t ≡ onBytes f) where
@@ -193,20 +216,38 @@ module _ (f : ℕ) (a b : List ℕ) {s : Said} {p r t : ℕ} (party : p ≡ numb
   unfolding questionLine pick
   calls-ask-bytes e q = ap replyLine (q ∙ asks-numbers askedBytes a b party row step) ∙ ap (λ n. questionLine n a b) (sym e)
 
+-- ---- judgeLine: of the party whose number was read
+module _ (f : ℕ) (a b c : List ℕ) {s : Said} {p : ℕ} (party : p ≡ number c 0) where
+  pub calls-judge : f ≡ 11 → s ≡ judged (wordsIn a) p (wordsIn b) → judgementLine s ≡ judgeLine f a b c
+  unfolding judgeLine pick
+  calls-judge e q =
+      ap judgementLine (q ∙ ap (λ n. judged (wordsIn a) n (wordsIn b)) party) ∙ ap (λ n. judgeLine n a b c) (sym e)
+
+-- of the words that were loaded of a book and of a listing
+pub judges-loaded : {a b : List ℕ} (p : ℕ) (xs ls : List ℕ) → a ≡ wordsIn xs → b ≡ wordsIn ls
+    → judged a p b ≡ judged (wordsIn xs) p (wordsIn ls)
+judges-loaded p xs ls e e2 = ap₂ (λ ws ts. judged ws p ts) e e2
+
 -- ---- callLine
 module _ (f : ℕ) (a b c : List ℕ) where
   pub calls-question : {t : Bool} → t ≡ asks f → t ≡ true → questionLine f a b ≡ callLine f a b c
   unfolding callLine
   calls-question asking e = sym (pick-true _ _ _ (sym asking ∙ e))
 
-  module _ {t u : Bool} (asking : t ≡ asks f) (no : t ≡ false) (tested : u ≡ onBytes f) where
+  pub calls-judgement : {t v : Bool} → t ≡ asks f → t ≡ false → v ≡ judges f → v ≡ true → judgeLine f a b c ≡ callLine f a b c
+  unfolding callLine
+  calls-judgement asking unasked judging e = sym (pick-false _ _ _ (sym asking ∙ unasked) ∙ pick-true _ _ _ (sym judging ∙ e))
+
+  module _ {t v u : Bool} (asking : t ≡ asks f) (no : t ≡ false) (judging : v ≡ judges f) (none : v ≡ false) (tested : u ≡ onBytes f) where
     pub calls-bytes : u ≡ true → bytesLine f a b c ≡ callLine f a b c
     unfolding callLine
-    calls-bytes e = sym (pick-false _ _ _ (sym asking ∙ no) ∙ pick-true _ _ _ (sym tested ∙ e))
+    calls-bytes e =
+        sym (pick-false _ _ _ (sym asking ∙ no) ∙ pick-false _ _ _ (sym judging ∙ none) ∙ pick-true _ _ _ (sym tested ∙ e))
 
     pub calls-words : u ≡ false → wordsLine f (wordsIn a) (wordsIn b) (wordsIn c) ≡ callLine f a b c
     unfolding callLine
-    calls-words e = sym (pick-false _ _ _ (sym asking ∙ no) ∙ pick-false _ _ _ (sym tested ∙ e))
+    calls-words e =
+        sym (pick-false _ _ _ (sym asking ∙ no) ∙ pick-false _ _ _ (sym judging ∙ none) ∙ pick-false _ _ _ (sym tested ∙ e))
 
 -- ---- what was loaded into 16,384 words, and the front of a slice
 pub loaded-words : (bs : List ℕ) {old new : List ℕ} {r : ℕ} → length old ≡ 16384 → Wrote (take (length old) (wordsIn bs)) old 0 new r

@@ -8,50 +8,53 @@ use Rattle.octets.specs.Octets.{wordsIn}
 use Rattle.book.specs.Refusals.{verdict}
 use Rattle.translation.specs.Outcome.{acceptance, outcome}
 use Rattle.playing.specs.Rehearsal.{rehearsal}
+use Rattle.renaming.specs.Verdict.{judged}
 use Rattle.summary.specs.Summary.{summarized, asked}
 use Rattle.editor.specs.Bytes.{translationBytes, rehearsalBytes, summaryBytes, askedBytes}
 use Rattle.line.specs.Line.{readingLine, lineOf}
 use Rattle.calls.specs.Reply.{replyLine}
-use Rattle.calls.specs.Call.{onBytes, asks, slicesOf, numbersOf, verdictLine, wordsLine, inWords, bytesLine, number, questionLine, callLine}
+use Rattle.calls.specs.Judgement.{judgementLine}
+use Rattle.calls.specs.Call.{onBytes, asks, judges, slicesOf, numbersOf, verdictLine, wordsLine, inWords, bytesLine, number}
+use Rattle.calls.specs.Call.{questionLine, judgeLine, callLine}
 
 abbrev all : List ℕ
-all = 1 ∷ 2 ∷ 3 ∷ 4 ∷ 5 ∷ 6 ∷ 7 ∷ 8 ∷ 9 ∷ 10 ∷ []
+all = 1 ∷ 2 ∷ 3 ∷ 4 ∷ 5 ∷ 6 ∷ 7 ∷ 8 ∷ 9 ∷ 10 ∷ 11 ∷ []
 
-pub slices-of-all : map slicesOf all ≡ 1 ∷ 1 ∷ 2 ∷ 3 ∷ 2 ∷ 3 ∷ 2 ∷ 1 ∷ 2 ∷ 1 ∷ []
+pub slices-of-all : map slicesOf all ≡ 1 ∷ 1 ∷ 2 ∷ 3 ∷ 2 ∷ 3 ∷ 2 ∷ 1 ∷ 2 ∷ 1 ∷ 2 ∷ []
 unfolding slicesOf asks pick
 slices-of-all = refl
 
-pub numbers-of-all : map numbersOf all ≡ 0 ∷ 0 ∷ 0 ∷ 0 ∷ 0 ∷ 0 ∷ 0 ∷ 3 ∷ 0 ∷ 3 ∷ []
-unfolding numbersOf asks pick
+pub numbers-of-all : map numbersOf all ≡ 0 ∷ 0 ∷ 0 ∷ 0 ∷ 0 ∷ 0 ∷ 0 ∷ 3 ∷ 0 ∷ 3 ∷ 1 ∷ []
+unfolding numbersOf asks judges pick
 numbers-of-all = refl
 
 module _ (a b c : List ℕ) where
   pub line-1 : callLine 1 a b c ≡ readingLine (verdict (wordsIn a))
-  unfolding callLine wordsLine verdictLine asks onBytes pick
+  unfolding callLine wordsLine verdictLine asks judges onBytes pick
   line-1 = refl
 
   pub line-2 : callLine 2 a b c ≡ readingLine (acceptance (wordsIn a))
-  unfolding callLine wordsLine verdictLine asks onBytes pick
+  unfolding callLine wordsLine verdictLine asks judges onBytes pick
   line-2 = refl
 
   pub line-3 : callLine 3 a b c ≡ lineOf (outcome (wordsIn a) (wordsIn b))
-  unfolding callLine wordsLine asks onBytes pick
+  unfolding callLine wordsLine asks judges onBytes pick
   line-3 = refl
 
   pub line-4 : callLine 4 a b c ≡ lineOf (rehearsal (wordsIn a) (wordsIn b) (wordsIn c))
-  unfolding callLine wordsLine asks onBytes pick
+  unfolding callLine wordsLine asks judges onBytes pick
   line-4 = refl
 
   pub line-5 : callLine 5 a b c ≡ lineOf (inWords (translationBytes a b))
-  unfolding callLine bytesLine asks onBytes pick
+  unfolding callLine bytesLine asks judges onBytes pick
   line-5 = refl
 
   pub line-6 : callLine 6 a b c ≡ lineOf (inWords (rehearsalBytes a b c))
-  unfolding callLine bytesLine asks onBytes pick
+  unfolding callLine bytesLine asks judges onBytes pick
   line-6 = refl
 
   pub line-7 : callLine 7 a b c ≡ lineOf (summarized (wordsIn a) (wordsIn b))
-  unfolding callLine wordsLine asks onBytes pick
+  unfolding callLine wordsLine asks judges onBytes pick
   line-7 = refl
 
   pub line-8 : callLine 8 a b c ≡ replyLine (asked (wordsIn a) (number b 0) (number b 1) (number b 2))
@@ -59,9 +62,13 @@ module _ (a b c : List ℕ) where
   line-8 = refl
 
   pub line-9 : callLine 9 a b c ≡ lineOf (inWords (summaryBytes a b))
-  unfolding callLine bytesLine asks onBytes pick
+  unfolding callLine bytesLine asks judges onBytes pick
   line-9 = refl
 
   pub line-10 : callLine 10 a b c ≡ replyLine (askedBytes a (number b 0) (number b 1) (number b 2))
   unfolding callLine questionLine asks pick
   line-10 = refl
+
+  pub line-11 : callLine 11 a b c ≡ judgementLine (judged (wordsIn a) (number c 0) (wordsIn b))
+  unfolding callLine judgeLine asks judges pick
+  line-11 = refl

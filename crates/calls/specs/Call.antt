@@ -13,7 +13,7 @@ use Rattle.translation.specs.Outcome.{Outcome, acceptance, outcome}
 use Rattle.playing.specs.Rehearsal.{rehearsal}
 use Rattle.renaming.specs.Verdict.{judged}
 use Rattle.summary.specs.Summary.{summarized, asked}
-use Rattle.editor.specs.Bytes.{translationBytes, rehearsalBytes, summaryBytes, askedBytes}
+use Rattle.editor.specs.Bytes.{translationBytes, rehearsalBytes, summaryBytes, askedBytes, judgedBytes}
 use Rattle.line.specs.Line.{readingLine, lineOf}
 use Rattle.calls.specs.Reply.{replyLine}
 use Rattle.calls.specs.Judgement.{judgementLine}
@@ -23,9 +23,9 @@ pub mod Numbers
 -- ---- the functions
 -- the numbers that are some function's
 abbrev pub Known : ℕ → Type 0
-Known f = (1 ≤ f) × (f ≤ 11)
+Known f = (1 ≤ f) × (f ≤ 12)
 
--- the slices are of bytes: of 5, 6, 9 and 10
+-- the slices are of bytes: of 5, 6, 9, 10 and 12
 unfoldable pub onBytes : ℕ → Bool
 onBytes f = pick (ltb f 5) false (pick (ltb f 7) true (pick (eqb f 11) false (ltb 8 f)))
 
@@ -33,9 +33,9 @@ onBytes f = pick (ltb f 5) false (pick (ltb f 7) true (pick (eqb f 11) false (lt
 unfoldable pub asks : ℕ → Bool
 asks f = pick (eqb f 8) true (eqb f 10)
 
--- a listing is judged: by 11
+-- a listing is judged: by 11 and 12
 unfoldable pub judges : ℕ → Bool
-judges f = eqb f 11
+judges f = pick (eqb f 11) true (eqb f 12)
 
 -- how many slices the function f has: a reading and a question one, a rehearsal three, the others two
 unfoldable pub slicesOf : ℕ → ℕ
@@ -94,9 +94,11 @@ unfoldable pub questionLine : ℕ → List ℕ → List ℕ → List ℕ
 questionLine f a b =
     pick (eqb f 8) (replyLine (question asked (wordsIn a) b)) (pick (eqb f 10) (replyLine (question askedBytes a b)) [])
 
--- of a listing b that is judged against the book a, of the party whose number the bytes c make: 11 `judge`
+-- of a listing b that is judged against the book a, of the party whose number the bytes c make: 11 `judge`, 12 `nghiralum_judge`
 unfoldable pub judgeLine : ℕ → List ℕ → List ℕ → List ℕ → List ℕ
-judgeLine f a b c = pick (eqb f 11) (judgementLine (judged (wordsIn a) (number c 0) (wordsIn b))) []
+judgeLine f a b c =
+    pick (eqb f 11) (judgementLine (judged (wordsIn a) (number c 0) (wordsIn b)))
+    (pick (eqb f 12) (judgementLine (judgedBytes a (number c 0) b)) [])
 
 -- of the bytes that were read of each slice, and behind them of the numbers
 unfoldable pub callLine : ℕ → List ℕ → List ℕ → List ℕ → List ℕ

@@ -68,6 +68,8 @@ impl Function {
     const ASK_BYTES: u32 = 10;
 
     const JUDGE: u32 = 11;
+
+    const JUDGE_BYTES: u32 = 12;
 }
 
 // What came next: a call of a function, or nothing more, and where that is no proper end, it was told.
@@ -106,7 +108,10 @@ fn is_question(function: u32) -> bool
 fn is_judgement(function: u32) -> bool
     ensures { λ r. ⌜ r ≡ judges function ⌝ }
 {
-    function == Function::JUDGE
+    if function == Function::JUDGE {
+        return true;
+    }
+    function == Function::JUDGE_BYTES
 }
 
 // The line of a call that has no output, into the front of `line`; answers its length.
@@ -279,7 +284,10 @@ fn judge_line(line: &mut [u8], function: u32, book: &[u8], listing: &[u8], numbe
     ensures { λ r. ⌜ take r (now (line .exit)) ≡ judgeLine function (now (book .entry)) (now (listing .entry)) (now (number .entry)) ⌝ }
 {
     let party = octets::word_at(number, 0);
-    judgement_line(line, judge_words(book, party, listing))
+    if function == Function::JUDGE {
+        return judgement_line(line, judge_words(book, party, listing));
+    }
+    judgement_line(line, editor::judge(book, party, listing))
 }
 
 // The line of a call, of the bytes that were read of its slices, and behind them of its numbers: of a question the second are those, and of
@@ -468,7 +476,7 @@ fn read_next() -> Next
     if function < Function::READ {
         return stop(b"there is no function of this number\n");
     }
-    if Function::JUDGE < function {
+    if Function::JUDGE_BYTES < function {
         return stop(b"there is no function of this number\n");
     }
     Next::Call(function)

@@ -23,7 +23,7 @@ use Rattle.playing.specs.Rehearsal.{rehearsal}
 use Rattle.renaming.specs.Verdict.{judged}
 use Rattle.summary.specs.Summary.{summarized, asked}
 use Rattle.summary.specs.Summary.Written.{exactly-summarized, summarized-says}
-use Rattle.editor.specs.Bytes.{uneven, odd, translationBytes, rehearsalBytes, summaryBytes, askedBytes, AsWords}
+use Rattle.editor.specs.Bytes.{uneven, odd, translationBytes, rehearsalBytes, summaryBytes, askedBytes, judgedBytes, AsWords}
 use Rattle.editor.specs.Bytes.Laws.{translation-words, rehearsal-words, summary-words, of-odd, of-odd-book, of-odd-schedule, of-odd-summarized}
 use Rattle.line.specs.Line.{readingLine, lineOf, Inside}
 use Rattle.line.specs.Line.Laws.{inside-outcome, inside-rehearsal}
@@ -68,13 +68,17 @@ module _ (f : ℕ) where
   pub asks-bytes : asks f ≡ true → (f ≡ 8 → ⊥) → f ≡ 10
   asks-bytes e n = eqb-true f 10 (asks-other n ∙ e)
 
-  pub judges-words : eqb f 11 ≡ judges f
+  pub judges-words : f ≡ 11 → true ≡ judges f
   unfolding judges
-  judges-words = refl
+  judges-words e = sym (pick-true _ _ _ (eq-eqb f 11 e))
 
-  pub judges-is : judges f ≡ true → f ≡ 11
+  pub judges-other : (f ≡ 11 → ⊥) → eqb f 12 ≡ judges f
   unfolding judges
-  judges-is e = eqb-true f 11 e
+  judges-other n = sym (pick-false _ _ _ (ne-eqb f 11 n))
+
+  -- what judges, and not on words, judges on bytes
+  pub judges-bytes : judges f ≡ true → (f ≡ 11 → ⊥) → f ≡ 12
+  judges-bytes e n = eqb-true f 12 (judges-other n ∙ e)
 
 -- a number at which a test answers otherwise is another
 apart : (test : ℕ → Bool) (f n : ℕ) → test n ≡ true → test f ≡ false → f ≡ n → ⊥
@@ -87,20 +91,24 @@ module _ {f : ℕ} {t v u : Bool} (known : Known f) (asking : t ≡ asks f) (no 
   unfolding onBytes asks judges pick
   on-words e =
       let no-question = sym asking ∙ no in
+      let no-judgement = sym judging ∙ none in
       let no-bytes = sym tested ∙ e in
       let is-no-8 = apart asks f 8 refl no-question in
       let is-no-9 = apart onBytes f 9 refl no-bytes in
       let is-no-10 = apart asks f 10 refl no-question in
-      let is-no-11 = apart judges f 11 refl (sym judging ∙ none) in
+      let is-no-11 = apart judges f 11 refl no-judgement in
+      let is-no-12 = apart judges f 12 refl no-judgement in
       (known .0, omega arith, apart onBytes f 5 refl no-bytes, apart onBytes f 6 refl no-bytes)
 
   pub on-bytes : u ≡ true → OnBytes f
   unfolding onBytes asks judges pick
   on-bytes e =
       let no-question = sym asking ∙ no in
+      let no-judgement = sym judging ∙ none in
       let bytes = sym tested ∙ e in
       let is-no-10 = apart asks f 10 refl no-question in
-      let is-no-11 = apart judges f 11 refl (sym judging ∙ none) in
+      let is-no-11 = apart judges f 11 refl no-judgement in
+      let is-no-12 = apart judges f 12 refl no-judgement in
       (bytes-from f bytes, omega arith, apart (λ n. not (onBytes n)) f 7 refl (ap not bytes), apart asks f 8 refl no-question)
 
 -- ---- slicesOf and numbersOf
@@ -222,6 +230,10 @@ module _ (f : ℕ) (a b c : List ℕ) {s : Said} {p : ℕ} (party : p ≡ number
   unfolding judgeLine pick
   calls-judge e q =
       ap judgementLine (q ∙ ap (λ n. judged (wordsIn a) n (wordsIn b)) party) ∙ ap (λ n. judgeLine n a b c) (sym e)
+
+  pub calls-judge-bytes : f ≡ 12 → s ≡ judgedBytes a p b → judgementLine s ≡ judgeLine f a b c
+  unfolding judgeLine pick
+  calls-judge-bytes e q = ap judgementLine (q ∙ ap (λ n. judgedBytes a n b) party) ∙ ap (λ n. judgeLine n a b c) (sym e)
 
 -- of the words that were loaded of a book and of a listing
 pub judges-loaded : {a b : List ℕ} (p : ℕ) (xs ls : List ℕ) → a ≡ wordsIn xs → b ≡ wordsIn ls

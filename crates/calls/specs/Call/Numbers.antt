@@ -10,7 +10,7 @@ use Rattle.translation.specs.Outcome.{acceptance, outcome}
 use Rattle.playing.specs.Rehearsal.{rehearsal}
 use Rattle.renaming.specs.Verdict.{judged}
 use Rattle.summary.specs.Summary.{summarized, asked}
-use Rattle.editor.specs.Bytes.{translationBytes, rehearsalBytes, summaryBytes, askedBytes}
+use Rattle.editor.specs.Bytes.{translationBytes, rehearsalBytes, summaryBytes, askedBytes, judgedBytes}
 use Rattle.line.specs.Line.{readingLine, lineOf}
 use Rattle.calls.specs.Reply.{replyLine}
 use Rattle.calls.specs.Judgement.{judgementLine}
@@ -18,13 +18,13 @@ use Rattle.calls.specs.Call.{onBytes, asks, judges, slicesOf, numbersOf,
 use Rattle.calls.specs.Call.{questionLine, judgeLine, callLine}
 
 abbrev all : List ℕ
-all = 1 ∷ 2 ∷ 3 ∷ 4 ∷ 5 ∷ 6 ∷ 7 ∷ 8 ∷ 9 ∷ 10 ∷ 11 ∷ []
+all = 1 ∷ 2 ∷ 3 ∷ 4 ∷ 5 ∷ 6 ∷ 7 ∷ 8 ∷ 9 ∷ 10 ∷ 11 ∷ 12 ∷ []
 
-pub slices-of-all : map slicesOf all ≡ 1 ∷ 1 ∷ 2 ∷ 3 ∷ 2 ∷ 3 ∷ 2 ∷ 1 ∷ 2 ∷ 1 ∷ 2 ∷ []
+pub slices-of-all : map slicesOf all ≡ 1 ∷ 1 ∷ 2 ∷ 3 ∷ 2 ∷ 3 ∷ 2 ∷ 1 ∷ 2 ∷ 1 ∷ 2 ∷ 2 ∷ []
 unfolding slicesOf asks pick
 slices-of-all = refl
 
-pub numbers-of-all : map numbersOf all ≡ 0 ∷ 0 ∷ 0 ∷ 0 ∷ 0 ∷ 0 ∷ 0 ∷ 3 ∷ 0 ∷ 3 ∷ 1 ∷ []
+pub numbers-of-all : map numbersOf all ≡ 0 ∷ 0 ∷ 0 ∷ 0 ∷ 0 ∷ 0 ∷ 0 ∷ 3 ∷ 0 ∷ 3 ∷ 1 ∷ 1 ∷ []
 unfolding numbersOf asks judges pick
 numbers-of-all = refl
 
@@ -72,3 +72,7 @@ module _ (a b c : List ℕ) where
   pub line-11 : callLine 11 a b c ≡ judgementLine (judged (wordsIn a) (number c 0) (wordsIn b))
   unfolding callLine judgeLine asks judges pick
   line-11 = refl
+
+  pub line-12 : callLine 12 a b c ≡ judgementLine (judgedBytes a (number c 0) b)
+  unfolding callLine judgeLine asks judges pick
+  line-12 = refl

@@ -1,5 +1,7 @@
 -- `judge::in_event` meets its contract: by the code, and any other is END's. Assumes nothing.
+use mathlib.Core.Path.{sym, ap}
 use borrow.Author.Needs.{needs}
+use Rattle.judge.specs.Scan.{inEvent}
 use Rattle.judge.specs.Scan.Laws.{event-other}
 use Rattle.judge.proofs.in_event.Statement.{statement}
 use Rattle.judge.proofs.in_event.Tie as tie
@@ -8,9 +10,9 @@ pub in-event-spec : {M : Type 1} → statement M
 in-event-spec =
     tie.close
     (tie.spec
-    (λ c. search needs)  -- returns
-    (λ c. search needs)  -- returns-2
-    (λ c. search needs)  -- returns-3
-    (λ c. search needs)  -- returns-4
-    (λ c. search needs)  -- returns-5
+    (λ c. sym (ap inEvent (c .if1 .taken)))  -- returns
+    (λ c. sym (ap inEvent (c .if2 .taken)))  -- returns-2
+    (λ c. sym (ap inEvent (c .if3 .taken)))  -- returns-3
+    (λ c. sym (ap inEvent (c .if4 .taken)))  -- returns-4
+    (λ c. sym (ap inEvent (c .if5 .taken)))  -- returns-5
     (λ c. search event-other))  -- returns-6

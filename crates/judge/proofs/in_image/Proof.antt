@@ -6,6 +6,12 @@ use Rattle.judge.specs.Scan.Laws.{image-other, image-code}
 use Rattle.judge.proofs.in_image.Statement.{statement}
 use Rattle.judge.proofs.in_image.Tie as tie
 
+-- a placeholder is used
+returns-2 : tie.Need-returns-2
+returns-2 c =
+    let start : tie.Start = search in
+    image-code (start .args .images) (c .if2 .taken) refl
+
 -- a cipher has its key too
 returns-4 : tie.Need-returns-4
 returns-4 c =
@@ -17,7 +23,7 @@ in-image-spec =
     tie.close
     (tie.spec
     (λ c. image-code _ (c .if1 .taken) refl)  -- returns
-    (λ c. image-code _ (c .if2 .taken) refl)  -- returns-2
+    returns-2
     (λ c. image-code _ (c .if3 .taken) refl)  -- returns-3
     (λ c κs. search needs)  -- more-requires
     returns-4

@@ -1,10 +1,11 @@
-//! Nghiralum's translator, rehearsal and summaries, called on plain byte slices.
+//! Nghiralum's translator, rehearsal, summaries and judge, called on plain byte slices.
 //!
 //! A *book* holds the narration of a handshake: rows, parties, steps and a pool, as words of 32 bits, four bytes each,
 //! low byte first. [`translate`] turns it into a *listing*, one program per party; [`rehearse`] plays these programs
 //! under a *schedule*, a row of party numbers, and counts the events that each party has done. [`write_summary`] writes
-//! a *summary*, who held what since when, and [`held_after`] answers questions from it alone. The repository's README
-//! describes books, listings and refusals.
+//! a *summary*, who held what since when, and [`held_after`] answers questions from it alone. [`judge`] says whether what
+//! another translator wrote for a party is the same program as ours. The repository's README describes books, listings
+//! and refusals.
 //!
 //! All are proved in Rattle, and this package only hands slices over: for any bytes whatever a call ends with the
 //! output or with one [`Refusal`], writes nothing but the output, and on a refusal nothing at all. No call panics.
@@ -26,6 +27,10 @@
 //! let summary = nghiralum::summary(&book).expect("it can be played");
 //! assert_eq!(nghiralum::held_after(&summary, 0, 3, 0), Ok(true));
 //!
+//! // Is this, which another translator wrote for party 0, the program of ours?
+//! let theirs = &listing[4 * 5..4 * 25];
+//! assert_eq!(nghiralum::judge(&book, 0, theirs), Ok(nghiralum::Verdict::Same));
+//!
 //! let refusal = nghiralum::listing(&book[..50]).expect_err("no whole words");
 //! assert_eq!((refusal.number(), refusal.place()), (1, 0));
 //! ```
@@ -45,8 +50,10 @@
 #![deny(missing_docs)]
 
 mod refusal;
+mod verdict;
 
 pub use refusal::Refusal;
+pub use verdict::Verdict;
 
 // As `nghiralum.h` declares them.
 unsafe extern "C" {
@@ -61,6 +68,7 @@ unsafe extern "C" {
     ) -> u64;
     fn nghiralum_summary(book: *const u8, book_len: usize, out: *mut u8, out_len: usize) -> u64;
     fn nghiralum_ask(summary: *const u8, summary_len: usize, party: u32, row: u32, step: u32) -> u64;
+    fn nghiralum_judge(book: *const u8, book_len: usize, party: u32, listing: *const u8, listing_len: usize) -> u64;
 }
 
 /// Translates a book: its listing stands in the first bytes of `out`, and the answer is the listing's length in bytes.
@@ -181,6 +189,52 @@ pub fn held_after(summary: &[u8], party: u32, row: u32, step: u32) -> Result<boo
     // SAFETY: as in `translate`; nothing is written.
     let answer = unsafe { nghiralum_ask(summary.as_ptr(), summary.len(), party, row, step) };
     refusal::unpack_reply(answer)
+}
+
+/// Judges what another translator wrote for one party of a book: whether a one-to-one renaming of its placeholders turns
+/// it into our program, and if not, the first word at which none can.
+///
+/// `listing` is the party's part alone, from its first event to its END, without the listing's head. It may be of any
+/// length and hold any words. All words but placeholders must be ours. RECEIVE and OPEN hand out a run of numbers, as many
+/// as ours do; these may be any that the part has handed out for nothing else, one behind another, none past the largest
+/// word. A run of none has our own number.
+///
+/// The time grows with the words of our program, however long the part is, as long as numbers rise, or fall, from run to
+/// run. For a run that lies between the numbers of earlier ones all words before it are gone through again; a part that
+/// is made for it takes time that grows with the square of our program's length: docs/BENCH.md has the times.
+///
+/// # Errors
+///
+/// Refusal 1 if the length of either is no multiple of four bytes; then the first of refusals 1 to 10 and 13 that applies
+/// to the book; then 22 if it has no such party, with the party's number.
+///
+/// ```
+/// use nghiralum::Verdict;
+///
+/// let book = std::fs::read("../books/example-1.book").expect("a book");
+/// let judge = |words: &[u32]| {
+///     let listing: Vec<u8> = words.iter().flat_map(|word| word.to_le_bytes()).collect();
+///     nghiralum::judge(&book, 0, &listing)
+/// };
+///
+/// // RECEIVE, SEND and END of party 0, which calls 70 what we call 0.
+/// let theirs = [3, 0, 70, 1, 2, 1, 1, 3, 2, 0, 2, 1, 70, 0, 1, 6, 1, 3, 70, 0];
+/// assert_eq!(judge(&theirs), Ok(Verdict::Same));
+///
+/// // No RECEIVE hands out 71.
+/// let mut other = theirs;
+/// other[12] = 71;
+/// assert_eq!(judge(&other), Ok(Verdict::Differs(12)));
+/// assert_eq!(judge(&theirs[..15]), Ok(Verdict::Differs(15))); // END is missing
+///
+/// let refusal = nghiralum::judge(&book, 2, &[]).expect_err("there are two parties");
+/// assert_eq!((refusal.number(), refusal.place()), (22, 2));
+/// ```
+pub fn judge(book: &[u8], party: u32, listing: &[u8]) -> Result<Verdict, Refusal> {
+    let (theirs, count) = (listing.as_ptr(), listing.len());
+    // SAFETY: as in `translate`; nothing is written.
+    let answer = unsafe { nghiralum_judge(book.as_ptr(), book.len(), party, theirs, count) };
+    verdict::unpack(answer)
 }
 
 /// The listing of a book, in as many bytes as it has.

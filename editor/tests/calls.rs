@@ -1,7 +1,7 @@
 //! Calls as an editor makes them: on the repository's books, on bytes of any length, into buffers of any length, and
 //! on the stack of a default thread.
 
-use nghiralum::{held_after, listing, rehearse, summary, translate, write_summary, Refusal};
+use nghiralum::{held_after, judge, listing, rehearse, summary, translate, write_summary, Refusal, Verdict};
 use std::fs;
 use std::path::{Path, PathBuf};
 use std::thread;
@@ -261,6 +261,15 @@ fn at_any_address() {
         shifted.extend(bytes(&SUMMARY_1));
         assert_eq!(held_after(&shifted[shift..], 1, 3, 0), Ok(true));
         assert_eq!(held_after(&shifted[shift..], 1, 4, 1), Ok(false));
+        let part = bytes(PARTS_1[1]);
+        let mut moved = vec![MARK; shift];
+        moved.extend(&part);
+        for other in 0..4 {
+            let mut shifted = vec![MARK; other];
+            shifted.extend(&book);
+            assert_eq!(judge(&shifted[other..], 1, &moved[shift..]), Ok(Verdict::Same));
+            assert_eq!(judge(&shifted[other..], 0, &moved[shift..]), Ok(Verdict::Differs(0)));
+        }
     }
 }
 
@@ -405,21 +414,248 @@ fn the_deepest_books_on_a_default_thread() {
             let Ok(listing) = listing(&book) else {
                 continue;
             };
-            deep += usize::from(
-                file.file_name()
-                    .is_some_and(|name| name.to_string_lossy().starts_with("deep-")),
-            );
+            let name = file.file_name().expect("a name").to_string_lossy();
+            let is_deep = name.starts_with("deep-");
+            deep += usize::from(is_deep);
             let parties = listing[0];
             let moves: Vec<u32> = (0..4_096).map(|number| number % u32::from(parties)).collect();
             let done = rehearse(&book, &bytes(&moves), &mut [0; 64]);
             assert_eq!(done, Ok(4 * usize::from(parties)), "{}", file.display());
             assert!(summary(&book).is_ok(), "{}", file.display());
+            for (party, part) in parts(&listing).iter().enumerate() {
+                let told = |part: &[u32]| judge(&book, party as u32, &bytes(part));
+                assert_eq!(told(part), Ok(Verdict::Same), "{name}");
+                let mut longer = part.clone();
+                longer.resize(part.len() + if is_deep { 1_000_000 } else { 1 }, 6);
+                assert_eq!(told(&longer), Ok(Verdict::Differs(part.len())), "{name}");
+            }
         }
         deep
     };
     let thread = thread::Builder::new().stack_size(2 << 20).spawn(calls);
     let deep = thread.expect("a thread").join().expect("no call fails");
     assert!(deep >= 7);
+}
+
+/// Example 1's listing in docs/RULES.md, T3: the parts of A and of B.
+const PARTS_1: [&[u32]; 2] = [
+    &[3, 0, 0, 1, 2, 1, 1, 3, 2, 0, 2, 1, 0, 0, 1, 6, 1, 3, 0, 0],
+    &[
+        1, 3, 2, 0, 1, 0, 3, 3, 1, 0, 1, 5, 0, 1, 2, 0, 2, 4, 1, 0, 3, 4, 2, 0, 1, 6, 0,
+    ],
+];
+
+/// The parts of a listing, a party each.
+fn parts(listing: &[u8]) -> Vec<Vec<u32>> {
+    let words = words(listing);
+    let part = |party: usize| words[words[1 + 2 * party] as usize..][..words[2 + 2 * party] as usize].to_vec();
+    (0..words[0] as usize).map(part).collect()
+}
+
+/// The words of a part that are placeholders: the first of a run with the run's length, or one that is used.
+fn placeholders(part: &[u32]) -> Vec<(usize, Option<u32>)> {
+    let mut found = Vec::new();
+    let mut at = 0;
+    while at < part.len() {
+        let mut images = 0;
+        match part[at] {
+            1 => at += 2,
+            2 => (images, at) = (part[at + 2], at + 3),
+            3 => {
+                found.push((at + 2, Some(part[at + 3])));
+                at += 4;
+            }
+            4 => {
+                found.push((at + 1, None));
+                (images, at) = (1, at + 2);
+            }
+            5 => {
+                found.extend([(at + 1, None), (at + 2, Some(part[at + 3]))]);
+                (images, at) = (1, at + 4);
+            }
+            _ => {
+                found.extend((at + 3..part.len()).step_by(3).map(|stored| (stored, None)));
+                at = part.len();
+            }
+        }
+        while images > 0 {
+            images -= 1;
+            match part[at] {
+                0 => at += 2,
+                1 => {
+                    found.push((at + 1, None));
+                    at += 2;
+                }
+                2 => (images, at) = (images + part[at + 2], at + 3),
+                3 => (images, at) = (images + part[at + 1] + 1, at + 2),
+                _ => (images, at) = (images + 1, at + 1),
+            }
+        }
+    }
+    found
+}
+
+/// A part under other names. Ours count from 0 on, run by run, so that a place of `names` is our placeholder; a run of none
+/// keeps its number.
+fn renamed(part: &[u32], names: &[u32]) -> Vec<u32> {
+    let mut out = part.to_vec();
+    for (at, run) in placeholders(part) {
+        if run != Some(0) {
+            out[at] = names[part[at] as usize];
+        }
+    }
+    out
+}
+
+/// The lengths of a part's runs.
+fn runs(part: &[u32]) -> Vec<u32> {
+    let found = placeholders(part);
+    found.into_iter().filter_map(|(_, run)| run).collect()
+}
+
+/// Our parts are the same as ours, and so they are with all numbers moved up, up to the largest word too, with runs from
+/// above downwards, and with runs between earlier ones.
+#[test]
+fn renamed_parts_of_the_shelf() {
+    let mut most = 0;
+    for file in shelf() {
+        let book = fs::read(&file).expect("a book");
+        let Ok(listing) = listing(&book) else {
+            continue;
+        };
+        for (party, part) in parts(&listing).iter().enumerate() {
+            let told = |part: &[u32]| judge(&book, party as u32, &bytes(part));
+            assert_eq!(told(part), Ok(Verdict::Same), "{}", file.display());
+            let runs = runs(part);
+            let count: u32 = runs.iter().sum();
+            most = most.max(count);
+            for from in [1, 70_000, u32::MAX - count + u32::from(count > 0)] {
+                let names: Vec<u32> = (0..count).map(|number| from + number).collect();
+                assert_eq!(told(&renamed(part, &names)), Ok(Verdict::Same), "{}", file.display());
+            }
+            let mut top = 0;
+            let falling = runs.iter().flat_map(|n| {
+                top += n;
+                (0..*n).map(move |number| u32::MAX - (top - 1) + number)
+            });
+            let falling: Vec<u32> = falling.collect();
+            assert_eq!(told(&renamed(part, &falling)), Ok(Verdict::Same), "{}", file.display());
+            // The first run at the top, and the second below all others. The largest program takes too long for this.
+            if (1..10_000).contains(&count) {
+                let first = runs.iter().copied().find(|n| *n > 0).unwrap_or(0);
+                let mut names: Vec<u32> = (0..count).map(|number| 2 * first + number).collect();
+                names[..first as usize].copy_from_slice(&falling[..first as usize]);
+                assert_eq!(told(&renamed(part, &names)), Ok(Verdict::Same), "{}", file.display());
+            }
+        }
+    }
+    assert_eq!(most, 232_960);
+}
+
+/// Each word of a part is changed. Where it is the first of a run, the run is called otherwise, which shows where one of
+/// its numbers is used; any other change shows at once.
+#[test]
+fn a_word_changed_at_each_place() {
+    for name in ["example-1", "example-2", "example-3", "kerberos", "trial-smallest"] {
+        let book = book(&format!("{name}.book"));
+        for (party, part) in parts(&listing(&book).expect("a listing")).iter().enumerate() {
+            let found = placeholders(part);
+            for (at, word) in part.iter().enumerate() {
+                let told = |new: u32| {
+                    let mut changed = part.clone();
+                    changed[at] = new;
+                    judge(&book, party as u32, &bytes(&changed))
+                };
+                let here = Ok(Verdict::Differs(at));
+                let run = found
+                    .iter()
+                    .find_map(|(place, run)| run.filter(|n| *place == at && *n > 0));
+                let Some(n) = run else {
+                    for new in [word.wrapping_add(1), word.wrapping_sub(1), u32::MAX, !word] {
+                        assert_eq!(told(new), here, "{name}, party {party}, word {at}");
+                    }
+                    continue;
+                };
+                let used = |(place, run): &&(usize, Option<u32>)| {
+                    run.is_none() && *place > at && (*word..*word + n).contains(&part[*place])
+                };
+                let later = match found.iter().find(used) {
+                    Some((place, _)) => Ok(Verdict::Differs(*place)),
+                    None => Ok(Verdict::Same),
+                };
+                assert_eq!(told(1 << 20), later, "{name}, party {party}, word {at}");
+                assert_eq!(told(u32::MAX - n + 1), later, "{name}, party {party}, word {at}");
+                // One past the largest word, and numbers that stand for others already.
+                if n > 1 {
+                    assert_eq!(told(u32::MAX - n + 2), here, "{name}, party {party}, word {at}");
+                }
+                if *word > 0 {
+                    for new in [word - 1, 0] {
+                        assert_eq!(told(new), here, "{name}, party {party}, word {at}");
+                    }
+                }
+            }
+        }
+    }
+}
+
+#[test]
+fn parts_cut_and_lengthened() {
+    let book = book("example-1.book");
+    for (party, part) in PARTS_1.iter().enumerate() {
+        let told = |part: &[u32]| judge(&book, party as u32, &bytes(part));
+        assert_eq!(told(part), Ok(Verdict::Same));
+        for length in 0..part.len() {
+            assert_eq!(told(&part[..length]), Ok(Verdict::Differs(length)));
+        }
+        for more in [1, 2, 1_000_000] {
+            for word in [0, 6, u32::MAX] {
+                let mut longer = part.to_vec();
+                longer.resize(part.len() + more, word);
+                assert_eq!(told(&longer), Ok(Verdict::Differs(part.len())));
+            }
+        }
+        // What is behind the first difference is not looked at.
+        for word in 0..8 {
+            let other = if part[0] == word {
+                Verdict::Differs(1)
+            } else {
+                Verdict::Differs(0)
+            };
+            assert_eq!(told(&vec![word; 1_000_000]), Ok(other));
+        }
+    }
+}
+
+/// Bytes that make no words come first, then what is wrong with the book, then the party.
+#[test]
+fn listings_that_are_not_judged() {
+    let book = book("example-1.book");
+    let part = bytes(PARTS_1[0]);
+    let one = (1, 0, None);
+    for odd in 1..4 {
+        let longer = [&part[..], &[0; 3][..odd]].concat();
+        for listing in [&longer[..], &part[..part.len() - odd], &part[..odd]] {
+            assert_eq!(refused(judge(&book, 0, listing)), one);
+            assert_eq!(refused(judge(&book, 9, listing)), one);
+            assert_eq!(refused(judge(&book[odd..], 9, listing)), one);
+            assert_eq!(refused(judge(&bytes(&[0; 8]), 9, listing)), one);
+        }
+        assert_eq!(refused(judge(&book[odd..], 0, &part)), one);
+    }
+    assert_eq!(refused(judge(&[], 0, &[])), one);
+    assert_eq!(refused(judge(&bytes(&[0; 8]), 9, &part)), (2, 0, None));
+    for party in [2, 3, 16, 256, 0x1_0000, 0x100_0000, u32::MAX] {
+        for listing in [&part[..], &[]] {
+            assert_eq!(refused(judge(&book, party, listing)), (22, party, None));
+        }
+    }
+    for file in shelf() {
+        let book = fs::read(&file).expect("a book");
+        if let Err(refusal) = listing(&book) {
+            assert_eq!(judge(&book, 99, &part), Err(refusal), "{}", file.display());
+        }
+    }
 }
 
 /// Calls share nothing, so that threads may call at the same time.

@@ -552,6 +552,31 @@ fn renamed_parts_of_the_shelf() {
     assert_eq!(most, 232_960);
 }
 
+/// The last run of the largest program there is, moved down by one, begins with a number that is another's name already.
+#[test]
+fn a_run_past_65535_that_overlaps() {
+    let book = book("full-placeholders.book");
+    let listing = listing(&book).expect("a listing");
+    let (party, part) = parts(&listing)
+        .into_iter()
+        .enumerate()
+        .max_by_key(|(_, part)| part.len())
+        .expect("a party");
+    let found = placeholders(&part);
+    let last = found
+        .iter()
+        .rev()
+        .find(|(_, run)| run.is_some_and(|n| n > 0))
+        .expect("a run")
+        .0;
+    assert!(part[last] > 65_535);
+    let mut moved = part.clone();
+    moved[last] -= 1;
+    assert_eq!(judge(&book, party as u32, &bytes(&moved)), Ok(Verdict::Differs(last)));
+    moved[last] += 2;
+    assert!(matches!(judge(&book, party as u32, &bytes(&moved)), Ok(Verdict::Differs(place)) if place > last));
+}
+
 /// Each word of a part is changed. Where it is the first of a run, the run is called otherwise, which shows where one of
 /// its numbers is used; any other change shows at once.
 #[test]

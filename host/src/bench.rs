@@ -2,6 +2,7 @@
 //! Answers are compared first, and only equal ones are timed; the outcome is told in tables.
 
 mod cases;
+mod judging;
 mod keys;
 mod plot;
 mod tables;
@@ -52,9 +53,13 @@ pub fn run(library: &Path, books: &Path, picture: Option<&Path>, out: &mut dyn W
     if library.has_rehearse() {
         rehearsals(&library, &groups, &mut say)?;
     } else {
-        say("The library has no `rehearse`.")?;
+        say("The library has no `rehearse`.\n")?;
     }
-    Ok(())
+    if library.has_judge_bytes() {
+        judging::tables(&library, &mut say)
+    } else {
+        say("The library has no `nghiralum_judge`.")
+    }
 }
 
 type Say<'a> = &'a mut dyn FnMut(&str) -> Result<(), String>;

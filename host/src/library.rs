@@ -237,6 +237,10 @@ impl Library {
         self.rehearse.is_some()
     }
 
+    pub fn has_judge_bytes(&self) -> bool {
+        self.judge_bytes.is_some()
+    }
+
     /// The proved `translator::translate`, which the library must have.
     pub fn translate(&self, book: &[u32], out: &mut [u32]) -> Result<usize, Refusal> {
         let translate = self.translate.expect("the library has `translate`");

@@ -7,7 +7,7 @@ mod listing;
 mod question;
 mod shape;
 
-pub use listing::{listing, Listing};
+pub use listing::{lay, listing, runs, spelt, Listing, Run};
 pub use question::{question, Question};
 
 use crate::book::Book;

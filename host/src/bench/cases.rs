@@ -126,7 +126,7 @@ pub fn worst() -> Vec<Group> {
     kinds.into_iter().map(alone).collect()
 }
 
-fn row(kind: u32, parts: &[u32]) -> Row {
+pub fn row(kind: u32, parts: &[u32]) -> Row {
     Row {
         kind,
         tag: 0,

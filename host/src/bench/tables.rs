@@ -46,7 +46,7 @@ pub fn times(name: &str, lines: &[Line]) -> String {
 }
 
 /// The median and, in brackets, the quartiles.
-fn ratio([lower, middle, upper]: [f64; 3]) -> String {
+pub fn ratio([lower, middle, upper]: [f64; 3]) -> String {
     match middle {
         _ if middle < 10.0 => format!("{middle:.2} ({lower:.2} to {upper:.2})"),
         _ => format!("{middle:.1} ({lower:.1} to {upper:.1})"),
@@ -103,7 +103,7 @@ fn rate(megabytes: f64) -> String {
 }
 
 /// Nanoseconds as microseconds, to three places or more.
-fn microseconds(time: f64) -> String {
+pub fn microseconds(time: f64) -> String {
     let time = time / 1e3;
     match time {
         _ if time < 10.0 => format!("{time:.2}"),
@@ -112,12 +112,12 @@ fn microseconds(time: f64) -> String {
     }
 }
 
-/// A whole number below a thousand thousands, the thousands apart from the rest.
-fn grouped(number: f64) -> String {
+/// A whole number, thousands apart.
+pub fn grouped(number: f64) -> String {
     let whole = number.round() as u64;
     match whole / 1_000 {
         0 => format!("{whole}"),
-        thousands => format!("{thousands},{:03}", whole % 1_000),
+        thousands => format!("{},{:03}", grouped(thousands as f64), whole % 1_000),
     }
 }
 
@@ -129,6 +129,7 @@ mod tests {
     fn times_are_told() {
         let told = [1_234.0, 12_345.0, 123_456.0, 1_234_567.0].map(microseconds);
         assert_eq!(told, ["1.23", "12.3", "123", "1,235"]);
+        assert_eq!([0.4, 999.6, 1_002_003.0].map(grouped), ["0", "1,000", "1,002,003"]);
         assert_eq!([1.26, 12.3, 1_234.5].map(rate), ["1.3", "12", "1,235"]);
     }
 

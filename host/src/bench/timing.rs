@@ -63,8 +63,7 @@ pub fn measure(books: usize, rounds: usize, mut sides: [&mut dyn FnMut(usize); 3
         // Once to warm up, once to learn how long it takes.
         runs.push([0, 1, 2].map(|side| {
             stretch(1, || sides[side](book));
-            let time = stretch(1, || sides[side](book));
-            (STRETCH / time.max(1.0)).ceil().max(1.0) as usize
+            repeats(stretch(1, || sides[side](book)))
         }));
         all.push([0, 1, 2].map(|_| Vec::with_capacity(rounds)));
     }
@@ -92,8 +91,13 @@ fn order(round: usize) -> [usize; 3] {
     }
 }
 
+/// How often a run that takes so many nanoseconds is repeated.
+pub fn repeats(time: f64) -> usize {
+    (STRETCH / time.max(1.0)).ceil().max(1.0) as usize
+}
+
 /// The mean time of a run, in nanoseconds.
-fn stretch(runs: usize, mut run: impl FnMut()) -> f64 {
+pub fn stretch(runs: usize, mut run: impl FnMut()) -> f64 {
     let start = now();
     for _ in 0..runs {
         run();
@@ -110,7 +114,7 @@ pub fn outcome(books: &[Times]) -> Outcome {
     });
     let proved_to = |side: usize| -> [f64; 3] {
         let ratios: Vec<f64> = sums[PROVED].iter().zip(&sums[side]).map(|(p, s)| p / s).collect();
-        [0.25, 0.5, 0.75].map(|share| quantile(&ratios, share))
+        quartiles(&ratios)
     };
     let own = |times: &Times| median(&times[PROVED]) / median(&times[HOST]);
     let own: Vec<f64> = books.iter().map(own).collect();
@@ -123,6 +127,11 @@ pub fn outcome(books: &[Times]) -> Outcome {
         best: own.iter().copied().fold(f64::INFINITY, f64::min),
         worst: (own[worst], worst),
     }
+}
+
+/// The lower quartile, the median and the upper quartile.
+pub fn quartiles(values: &[f64]) -> [f64; 3] {
+    [0.25, 0.5, 0.75].map(|share| quantile(values, share))
 }
 
 pub fn median(values: &[f64]) -> f64 {

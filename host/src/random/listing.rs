@@ -13,9 +13,9 @@ pub struct Listing {
 }
 
 /// The placeholders that a RECEIVE or an OPEN hands out: the first of them in the listing, and how many there are.
-struct Run {
-    theirs: u32,
-    n: u32,
+pub struct Run {
+    pub theirs: u32,
+    pub n: u32,
 }
 
 /// So many numbers there are, and one past them none.
@@ -60,7 +60,7 @@ fn any_words(random: &mut Random) -> Vec<u32> {
 }
 
 /// The runs of a program, under our own numbers.
-fn runs(program: &Program) -> Vec<Run> {
+pub fn runs(program: &Program) -> Vec<Run> {
     let mut runs = Vec::new();
     let mut put = |slot: Slot| {
         if let Slot::Run { first, n } = slot {
@@ -103,7 +103,7 @@ fn rename(random: &mut Random, runs: &mut [Run]) -> &'static str {
 }
 
 /// Lays the runs one behind another in an order, from a number on, with a gap before each. Those of none keep our number.
-fn lay(runs: &mut [Run], order: &[usize], from: u64, mut gap: impl FnMut() -> u64) {
+pub fn lay(runs: &mut [Run], order: &[usize], from: u64, mut gap: impl FnMut() -> u64) {
     let mut next = from;
     for at in order {
         let run = &mut runs[*at];
@@ -153,7 +153,7 @@ fn some(random: &mut Random, from: &[usize]) -> Option<usize> {
 
 /// The program's words, its placeholders renamed by the runs; those past the largest number begin anew. And where the
 /// runs' counts stand.
-fn spelt(program: &Program, runs: &[Run]) -> (Vec<u32>, Vec<usize>) {
+pub fn spelt(program: &Program, runs: &[Run]) -> (Vec<u32>, Vec<usize>) {
     // Ours count from 0, run by run.
     let names: Vec<u32> = (runs.iter())
         .flat_map(|run| (0..run.n).map(|at| run.theirs.wrapping_add(at)))

@@ -18,7 +18,8 @@ pub mod Laws
 pub mod Following
 
 -- a word of ours, w, can be compared with the word at the place a, of t words
-pub record AgreeReady (ws : List ℕ) (t a : ℕ) (m : Mode) (w begin : ℕ) (table log : List ℕ) (n : ℕ) (called : List ℕ) (low high : ℕ) : Type 0 where
+pub record AgreeReady (ws : List ℕ) (t a : ℕ) (m : Mode) (w begin : ℕ) (table log : List ℕ) (n : ℕ) (called : List ℕ) (low high : ℕ)
+    : Type 0 where
   pub total : t ≡ length ws
   pub mode : m ≡ modeAt ws a
   pub calls : Called (told ws a m w) begin table log n called

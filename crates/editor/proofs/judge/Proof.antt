@@ -1,4 +1,5 @@
--- `editor::judge` meets its contract: bytes that make whole words are judged, of the book those that were loaded, which are enough
+-- `editor::judge` meets its contract: bytes that make whole words are judged, of the book those that were loaded, which
+-- are enough
 -- (`long-judged-book`). Assumes nothing.
 use Prim.Native.Nat.{ℕ, _≤_}
 use mathlib.Core.List.{List}
@@ -34,7 +35,8 @@ returns-2 c =
     let tested : tie.After-is-uneven = search in
     let start : tie.Start = search in
     let a = start .args in
-    sym (of-odd-listing (a .book .now) (a .party) (a .listing .now) (sym (tested .is-uneven .ensures) ∙ else1 .if1 .left)
+    sym (of-odd-listing (a .book .now) (a .party) (a .listing .now)
+    (sym (tested .is-uneven .ensures) ∙ else1 .if1 .left)
     (sym (tested2 .is-uneven2 .ensures) ∙ c .if2 .taken))
 
 -- they are, and the words that were loaded are as good as all
@@ -51,7 +53,8 @@ returns-3 c =
     let bytes = a .book .now in
     let listing = a .listing .now in
     after-judge-listing .judge-listing .ensures
-    ∙ ap (λ (b : List ℕ). judged b (a .party) (wordsIn listing)) (loaded-front bytes refl (after-load .load .ensures) (omega arith))
+    ∙ ap (λ (b : List ℕ). judged b (a .party) (wordsIn listing))
+    (loaded-front bytes refl (after-load .load .ensures) (omega arith))
     ∙ long-judged-book (wordsIn bytes) (a .party) (wordsIn listing)
     ∙ sym (of-whole-judged bytes (a .party) listing (sym (tested .is-uneven .ensures) ∙ else1 .if1 .left)
     (sym (tested2 .is-uneven2 .ensures) ∙ else2 .if2 .left))

@@ -36,7 +36,8 @@ pack-told-requires-3 c κs =
     let after-told-of : tie.After-told-of = search in
     let after-reply : tie.After-reply = search in
     let start : tie.Start = search in
-    rw (c .capped .ensures, after-told-of .told-of .ensures) (small-packs (rw (after-reply .reply .given .1) at (start .pre)))
+    rw (c .capped .ensures, after-told-of .told-of .ensures)
+    (small-packs (rw (after-reply .reply .given .1) at (start .pre)))
 
 returns-3 : tie.Need-returns-3
 returns-3 c =

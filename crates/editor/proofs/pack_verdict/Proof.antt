@@ -1,4 +1,5 @@
--- `editor::pack_verdict` meets its contract: the same is told as 1, a difference as 0 and its place, and a refusal as `told_of` tells it.
+-- `editor::pack_verdict` meets its contract: the same is told as 1, a difference as 0 and its place, and a refusal as
+-- `told_of` tells it.
 -- Assumes nothing.
 use mathlib.Core.Path.{sym, ap, _∙_}
 use borrow.Author.Needs.{needs}

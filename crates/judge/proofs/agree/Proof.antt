@@ -1,4 +1,5 @@
--- `judge::agree` meets its contract: by what the word is (`agree-use`, `agree-first`, `agree-plain`), if there is one. Assumes nothing.
+-- `judge::agree` meets its contract: by what the word is (`agree-use`, `agree-first`, `agree-plain`), if there is one.
+-- Assumes nothing.
 use borrow.Author.Needs.{needs}
 use Rattle.judge.specs.Agreeing.Laws.{agree-past, agree-use, agree-first, agree-ranged, agree-plain}
 use Rattle.judge.proofs.agree.Statement.{statement}

@@ -28,15 +28,19 @@ returns c =
     let then1 : in-find tie.Then1 = search in
     let after-word : in-find tie.After-word = search in
     let at-loop : in-find tie.At-loop = search in
-    first-at _ _ _ (search needs) (at-loop .loop .inv .1) (eq-eqb _ _ (sym (after-word .word .ensures) ∙ then1 .if1 .taken))
+    first-at _ _ _ (search needs) (at-loop .loop .inv .1)
+    (eq-eqb _ _ (sym (after-word .word .ensures) ∙ then1 .if1 .taken))
 
 loop-again : in-find tie.Need-loop-again
 loop-again c =
     let else1 : in-find tie.Else1 = search in
     let after-word : in-find tie.After-word = search in
     let at-loop : in-find tie.At-loop = search in
-    let start : in-find tie.Start = search in
-    (omega arith, found-not (start .args .log .now) _ _ _ (after-word .word .ensures) (else1 .if1 .left) (at-loop .loop .inv .1))
+    let start : in-find tie.Start = search in (
+      omega arith,
+      found-not (start .args .log .now) _ _ _ (after-word .word .ensures) (else1 .if1 .left)
+          (at-loop .loop .inv .1),
+    )
 
 returns-2 : in-find tie.Need-returns-2
 returns-2 c =

@@ -1,4 +1,5 @@
--- `judge::follow_program` meets its contract: the steps don't all agree, or END is compared behind them. Assumes nothing.
+-- `judge::follow_program` meets its contract: the steps don't all agree, or END is compared behind them. Assumes
+-- nothing.
 use mathlib.Core.Path.{refl, sym, _∙_}
 use native.Mathlib.Omega.{arith}
 use borrow.Author.Needs.{needs}
@@ -33,14 +34,16 @@ returns c =
     let then1 : tie.Then1 = c in
     let after-follow-steps : tie.After-follow-steps = search in
     let start = followed-start after-follow-steps in
-    program-broken _ (start .pre .0 .party) (after-follow-steps .follow-steps .ensures .0) (not-true _ (then1 .if1 .taken)) refl refl
+    program-broken _ (start .pre .0 .party) (after-follow-steps .follow-steps .ensures .0)
+    (not-true _ (then1 .if1 .taken)) refl refl
 
 narrow-requires : tie.Need-narrow-requires
 narrow-requires c κs =
     let else1 : tie.Else1 = search in
     let after-follow-steps = whole-followed else1 in
     let start = followed-start after-follow-steps in
-    end-narrow (start .pre .0 .valid) (start .pre .0 .party) (after-follow-steps .follow-steps .ensures .0) (not-false _ (else1 .if1 .left))
+    end-narrow (start .pre .0 .valid) (start .pre .0 .party) (after-follow-steps .follow-steps .ensures .0)
+    (not-false _ (else1 .if1 .left))
     (after-follow-steps .follow-steps .ensures .1)
 
 put-all-requires : tie.Need-put-all-requires
@@ -49,7 +52,8 @@ put-all-requires c κs =
     let else1 = narrow-whole (put2-narrow after-put2) in
     let after-follow-steps = whole-followed else1 in
     let start = followed-start after-follow-steps in
-    end-kept (start .pre .0 .valid) (start .pre .0 .party) (after-follow-steps .follow-steps .ensures .0) (not-false _ (else1 .if1 .left))
+    end-kept (start .pre .0 .valid) (start .pre .0 .party) (after-follow-steps .follow-steps .ensures .0)
+    (not-false _ (else1 .if1 .left))
     (after-follow-steps .follow-steps .ensures .1)
 
 prefix : tie.Need-slice-reshare-prefix-follow-words
@@ -60,8 +64,10 @@ prefix c =
     let else1 = narrow-whole after-narrow in
     let after-follow-steps = whole-followed else1 in
     let start = followed-start after-follow-steps in
-    end-few (start .pre .0 .valid) (start .pre .0 .party) (after-follow-steps .follow-steps .ensures .0) (not-false _ (else1 .if1 .left))
-    (after-follow-steps .follow-steps .ensures .1) (after-narrow .narrow .ensures) (after-put2 .put2 .ensures) (after-put-all .put-all .ensures)
+    end-few (start .pre .0 .valid) (start .pre .0 .party) (after-follow-steps .follow-steps .ensures .0)
+    (not-false _ (else1 .if1 .left))
+    (after-follow-steps .follow-steps .ensures .1) (after-narrow .narrow .ensures) (after-put2 .put2 .ensures)
+    (after-put-all .put-all .ensures)
 
 sized : tie.Need-slice-aggregate-follow-words
 sized c =
@@ -71,8 +77,10 @@ sized c =
     let else1 = narrow-whole after-narrow in
     let after-follow-steps = whole-followed else1 in
     let start = followed-start after-follow-steps in
-    end-sized (start .pre .0 .valid) (start .pre .0 .party) (after-follow-steps .follow-steps .ensures .0) (not-false _ (else1 .if1 .left))
-    (after-follow-steps .follow-steps .ensures .1) (after-narrow .narrow .ensures) (after-put2 .put2 .ensures) (after-put-all .put-all .ensures)
+    end-sized (start .pre .0 .valid) (start .pre .0 .party) (after-follow-steps .follow-steps .ensures .0)
+    (not-false _ (else1 .if1 .left))
+    (after-follow-steps .follow-steps .ensures .1) (after-narrow .narrow .ensures) (after-put2 .put2 .ensures)
+    (after-put-all .put-all .ensures)
 
 -- END can be compared
 follow-words-requires : tie.Need-follow-words-requires
@@ -83,8 +91,10 @@ follow-words-requires c κs =
     let else1 = narrow-whole after-narrow in
     let after-follow-steps = whole-followed else1 in
     let start = followed-start after-follow-steps in
-    end-compare (start .pre .0 .valid) (start .pre .0 .party) (after-follow-steps .follow-steps .ensures .0) (not-false _ (else1 .if1 .left))
-    (after-follow-steps .follow-steps .ensures .1) (after-narrow .narrow .ensures) (after-put2 .put2 .ensures) (after-put-all .put-all .ensures)
+    end-compare (start .pre .0 .valid) (start .pre .0 .party) (after-follow-steps .follow-steps .ensures .0)
+    (not-false _ (else1 .if1 .left))
+    (after-follow-steps .follow-steps .ensures .1) (after-narrow .narrow .ensures) (after-put2 .put2 .ensures)
+    (after-put-all .put-all .ensures)
 
 -- the buffer is as long as it was
 same-length-5 : tie.Need-same-length-5
@@ -109,8 +119,10 @@ returns-2 c =
     let else1 = narrow-whole after-narrow in
     let after-follow-steps = whole-followed else1 in
     let start = followed-start after-follow-steps in
-    end-followed (start .pre .0 .valid) (start .pre .0 .party) (after-follow-steps .follow-steps .ensures .0) (not-false _ (else1 .if1 .left))
-    (after-follow-steps .follow-steps .ensures .1) (after-narrow .narrow .ensures) (after-put2 .put2 .ensures) (after-put-all .put-all .ensures)
+    end-followed (start .pre .0 .valid) (start .pre .0 .party) (after-follow-steps .follow-steps .ensures .0)
+    (not-false _ (else1 .if1 .left))
+    (after-follow-steps .follow-steps .ensures .1) (after-narrow .narrow .ensures) (after-put2 .put2 .ensures)
+    (after-put-all .put-all .ensures)
     (after-follow-words .follow-words .ensures)
 
 pub follow-program-spec : {M : Type 1} → statement M

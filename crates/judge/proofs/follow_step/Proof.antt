@@ -1,4 +1,5 @@
--- `judge::follow_step` meets its contract: the step's words agree, and what they call what it stored is kept (`stepped-on`), or they don't
+-- `judge::follow_step` meets its contract: the step's words agree, and what they call what it stored is kept
+-- (`stepped-on`), or they don't
 -- (`stepped-broken`). Assumes nothing.
 use mathlib.Core.Path.{refl}
 use native.Mathlib.Omega.{arith}

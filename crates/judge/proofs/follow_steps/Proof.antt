@@ -1,4 +1,5 @@
--- `judge::follow_steps` meets its contract: the steps before the party's next one agree (`Stepped`), and each turn compares one step.
+-- `judge::follow_steps` meets its contract: the steps before the party's next one agree (`Stepped`), and each turn
+-- compares one step.
 -- Assumes nothing.
 use Prim.Native.Nat.{_-_, _<_}
 use mathlib.Core.Bool.{true}
@@ -15,11 +16,13 @@ use Rattle.judge.proofs.follow_steps.Statement.{statement}
 use Rattle.judge.proofs.follow_steps.Tie as tie
 
 abbrev Inv-loop : tie.InvT-loop
-Inv-loop book since partners party words bytes step₀ table₀ log₀ called₀ n entries₀ reached₀ i₀ step table log called entries reached i =
+Inv-loop book since partners party words bytes step₀ table₀ log₀ called₀ n entries₀ reached₀ i₀
+    step table log called entries reached i =
     Stepped book party i (theirs words bytes) step table log called entries reached × (reached .whole ≡ true)
 
 abbrev μ-loop : tie.MeasureT-loop
-μ-loop book since partners party words bytes step₀ table₀ log₀ called₀ n entries₀ reached₀ i₀ step table log called entries reached i = n - i
+μ-loop book since partners party words bytes step₀ table₀ log₀ called₀ n entries₀ reached₀ i₀
+    step table log called entries reached i = n - i
 
 -- a place or a need, by its name
 abbrev in-steps : (tie.InvT-loop → tie.MeasureT-loop → Type 0) → Type 0
@@ -29,8 +32,11 @@ in-steps P = P Inv-loop μ-loop
 loop-holds : in-steps tie.Need-loop-holds
 loop-holds c =
     let after-start : in-steps tie.After-start = search in
-    let start : in-steps tie.Start = search in
-    (stepped-start (start .pre .0 .valid) (search needs) (after-start .start .ensures) (c .next-own .ensures) (start .pre .1), refl)
+    let start : in-steps tie.Start = search in (
+      stepped-start (start .pre .0 .valid) (search needs) (after-start .start .ensures) (c .next-own .ensures)
+          (start .pre .1),
+      refl,
+    )
 
 -- the loop runs while there are steps
 module _ (c : in-steps tie.In-loop) where
@@ -59,22 +65,26 @@ follow-step-requires c κs =
 same-length : in-steps tie.Need-same-length
 same-length c =
     let after-follow-step : in-steps tie.After-follow-step = search in
-    after-follow-step .follow-step .ensures .buffers .step-size ∙ sym (start (followed-in after-follow-step) .pre .1 .step-size)
+    after-follow-step .follow-step .ensures .buffers .step-size ∙ sym
+    (start (followed-in after-follow-step) .pre .1 .step-size)
 
 same-length-2 : in-steps tie.Need-same-length-2
 same-length-2 c =
     let after-follow-step : in-steps tie.After-follow-step = search in
-    after-follow-step .follow-step .ensures .buffers .table-size ∙ sym (start (followed-in after-follow-step) .pre .1 .table-size)
+    after-follow-step .follow-step .ensures .buffers .table-size ∙ sym
+    (start (followed-in after-follow-step) .pre .1 .table-size)
 
 same-length-3 : in-steps tie.Need-same-length-3
 same-length-3 c =
     let after-follow-step : in-steps tie.After-follow-step = search in
-    after-follow-step .follow-step .ensures .buffers .log-size ∙ sym (start (followed-in after-follow-step) .pre .1 .log-size)
+    after-follow-step .follow-step .ensures .buffers .log-size ∙ sym
+    (start (followed-in after-follow-step) .pre .1 .log-size)
 
 same-length-4 : in-steps tie.Need-same-length-4
 same-length-4 c =
     let after-follow-step : in-steps tie.After-follow-step = search in
-    after-follow-step .follow-step .ensures .buffers .called-size ∙ sym (start (followed-in after-follow-step) .pre .1 .called-size)
+    after-follow-step .follow-step .ensures .buffers .called-size ∙ sym
+    (start (followed-in after-follow-step) .pre .1 .called-size)
 
 same-length-5 : in-steps tie.Need-same-length-5
 same-length-5 c =
@@ -104,8 +114,10 @@ same-length-8 c =
 returns : in-steps tie.Need-returns
 returns c =
     let after-follow-step : in-steps tie.After-follow-step = search in
-    let then1 : in-steps tie.Then1 = c in
-    (steps-broken (after-follow-step .follow-step .ensures) (not-true _ (then1 .if1 .taken)), after-follow-step .follow-step .ensures .buffers)
+    let then1 : in-steps tie.Then1 = c in (
+      steps-broken (after-follow-step .follow-step .ensures) (not-true _ (then1 .if1 .taken)),
+      after-follow-step .follow-step .ensures .buffers,
+    )
 
 -- behind the step there are steps, or their end
 next-own-requires-2 : in-steps tie.Need-next-own-requires-2
@@ -128,7 +140,8 @@ returns-2 c =
     let after-loop : in-steps tie.After-loop = search in
     let at-loop : in-steps tie.At-loop = search in
     let after-steps : in-steps tie.After-steps = search in (
-      steps-all (after-steps .steps .ensures) (after-loop .loop-test .left) (at-loop .loop .inv .0) (at-loop .loop .inv .1),
+      steps-all (after-steps .steps .ensures) (after-loop .loop-test .left) (at-loop .loop .inv .0)
+          (at-loop .loop .inv .1),
       at-loop .loop .inv .0 .buffers,
     )
 

@@ -1,4 +1,5 @@
--- `judge::follow_words` meets its contract: ours are compared up to a word (`UpTo`), and each turn goes a word on. Assumes nothing.
+-- `judge::follow_words` meets its contract: ours are compared up to a word (`UpTo`), and each turn goes a word on.
+-- Assumes nothing.
 use Prim.Native.Nat.{_+_, _-_, _<_}
 use mathlib.Core.Path.{refl, sym, _∙_}
 use lib.ListN.{length}
@@ -12,11 +13,13 @@ use Rattle.judge.proofs.follow_words.Statement.{statement}
 use Rattle.judge.proofs.follow_words.Tie as tie
 
 abbrev Inv-loop : tie.InvT-loop
-Inv-loop ours words bytes place begin table₀ log n called low high total count mode₀ at₀ filled₀ range₀ k₀ table mode at filled range k =
+Inv-loop ours words bytes place begin table₀ log n called low high total count mode₀ at₀ filled₀ range₀ k₀
+    table mode at filled range k =
     UpTo (theirs words bytes) ours place k at mode begin filled table log n called (range .low) (range .high)
 
 abbrev μ-loop : tie.MeasureT-loop
-μ-loop ours words bytes place begin table₀ log n called low high total count mode₀ at₀ filled₀ range₀ k₀ table mode at filled range k =
+μ-loop ours words bytes place begin table₀ log n called low high total count mode₀ at₀ filled₀ range₀ k₀
+    table mode at filled range k =
     count - k
 
 -- a place or a need, by its name
@@ -67,7 +70,8 @@ returns c =
     let after-agree : in-words tie.After-agree = search in
     let after-word : in-words tie.After-word = search in
     let in-loop : in-words tie.In-loop = search in
-    up-off (at-loop in-loop .loop .inv) (more in-loop) (after-word .word .ensures) _ (after-agree .agree .ensures) (not-true _ (then1 .if1 .taken)) refl
+    up-off (at-loop in-loop .loop .inv) (more in-loop) (after-word .word .ensures) _ (after-agree .agree .ensures)
+    (not-true _ (then1 .if1 .taken)) refl
     refl
 
 fill-requires : in-words tie.Need-fill-requires
@@ -78,7 +82,8 @@ fill-requires c κs =
     let after-agree : in-words tie.After-agree = search in
     let after-word : in-words tie.After-word = search in
     let in-loop : in-words tie.In-loop = search in
-    up-fits (at-loop in-loop .loop .inv) (more in-loop) (after-word .word .ensures) (after-agree .agree .ensures) (not-false _ (else1 .if1 .left))
+    up-fits (at-loop in-loop .loop .inv) (more in-loop) (after-word .word .ensures) (after-agree .agree .ensures)
+    (not-false _ (else1 .if1 .left))
     (after-their .their .ensures) (omega arith) (after-run-of .run-of .ensures)
 
 -- a word stands at the place, so there is a place behind it
@@ -88,7 +93,8 @@ add-at c =
     let after-agree : in-words tie.After-agree = search in
     let after-word : in-words tie.After-word = search in
     let in-loop : in-words tie.In-loop = search in
-    let there = up-there (at-loop in-loop .loop .inv) (more in-loop) (after-word .word .ensures) (after-agree .agree .ensures)
+    let there = up-there (at-loop in-loop .loop .inv) (more in-loop) (after-word .word .ensures)
+    (after-agree .agree .ensures)
     (not-false _ (else1 .if1 .left)) in
     let after-size : in-words tie.After-size = search in
     omega arith
@@ -104,8 +110,10 @@ loop-again c =
     let after-agree : in-words tie.After-agree = search in
     let after-word : in-words tie.After-word = search in
     let in-loop : in-words tie.In-loop = search in
-    up-on (at-loop in-loop .loop .inv) (more in-loop) (after-word .word .ensures) (after-agree .agree .ensures) (not-false _ (else1 .if1 .left))
-    (after-their .their .ensures) (after-run-of .run-of .ensures) (after-next .next .ensures) (after-fill .fill .ensures)
+    up-on (at-loop in-loop .loop .inv) (more in-loop) (after-word .word .ensures) (after-agree .agree .ensures)
+    (not-false _ (else1 .if1 .left))
+    (after-their .their .ensures) (after-run-of .run-of .ensures) (after-next .next .ensures)
+    (after-fill .fill .ensures)
     (after-widened .widened .ensures)
 
 -- all agree

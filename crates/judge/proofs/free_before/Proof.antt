@@ -9,7 +9,8 @@ use Rattle.judge.proofs.free_before.Statement.{statement}
 use Rattle.judge.proofs.free_before.Tie as tie
 
 abbrev Inv-loop : tie.InvT-loop
-Inv-loop words bytes place y n mode₀ last₀ free₀ i₀ mode last free i = (i ≤ place) × Hunted (theirs words bytes) y n i mode last free
+Inv-loop words bytes place y n mode₀ last₀ free₀ i₀ mode last free i =
+    (i ≤ place) × Hunted (theirs words bytes) y n i mode last free
 
 abbrev μ-loop : tie.MeasureT-loop
 μ-loop words bytes place y n mode₀ last₀ free₀ i₀ mode last free i = place - i
@@ -26,7 +27,8 @@ loop-again c =
     let after-their : in-hunt tie.After-their = search in
     let at-loop : in-hunt tie.At-loop = search in (
       omega arith,
-      hunted-on (at-loop .loop .inv .1) (after-their .their .ensures) (after-class .class .ensures) (after-still .still .ensures)
+      hunted-on (at-loop .loop .inv .1) (after-their .their .ensures) (after-class .class .ensures)
+          (after-still .still .ensures)
           (after-next .next .ensures),
     )
 

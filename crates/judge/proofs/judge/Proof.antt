@@ -9,7 +9,8 @@ use Rattle.judge.proofs.judge.Tie as tie
 returns : tie.Need-returns
 returns c =
     let start : tie.Start = search in
-    c .judge-listing .ensures ∙ ap (judged (start .args .book .now) (start .args .party)) (theirs-alone (start .args .listing .now))
+    c .judge-listing .ensures ∙ ap (judged (start .args .book .now) (start .args .party))
+    (theirs-alone (start .args .listing .now))
 
 pub judge-spec : {M : Type 1} → statement M
 judge-spec =

@@ -39,7 +39,12 @@ judge-program-requires c κs =
     let told = after-survey after-enum-told .survey .ensures in
     let writable = told .writable (accepted after-enum-told) in (
       surveyed-plays told (accepted after-enum-told),
-      record { valid = writable .valid; partners = writable .partners; party = rw (after-parties .parties .ensures) at (else1 .if1 .left) },
+      record {
+        valid = writable .valid;
+        partners = writable .partners;
+        party = rw (after-parties .parties .ensures) at
+            (else1 .if1 .left);
+      },
     )
 
 -- the survey's refusal

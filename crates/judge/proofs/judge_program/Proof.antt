@@ -24,7 +24,8 @@ returns c =
     let then1 : tie.Then1 = c in
     let after-follow-program : tie.After-follow-program = search in
     let start = followed-start after-follow-program in
-    judged-broken (start .pre .0) (start .pre .1 .party) (after-follow-program .follow-program .ensures) (not-true _ (then1 .if1 .taken))
+    judged-broken (start .pre .0) (start .pre .1 .party) (after-follow-program .follow-program .ensures)
+    (not-true _ (then1 .if1 .taken))
 
 -- theirs go on
 returns-2 : tie.Need-returns-2
@@ -34,7 +35,8 @@ returns-2 c =
     let else1 : tie.Else1 = search in
     let after-follow-program = whole-followed else1 in
     let start = followed-start after-follow-program in
-    judged-longer (start .pre .0) (start .pre .1 .party) (after-follow-program .follow-program .ensures) (not-false _ (else1 .if1 .left))
+    judged-longer (start .pre .0) (start .pre .1 .party) (after-follow-program .follow-program .ensures)
+    (not-false _ (else1 .if1 .left))
     (after-size .size .ensures) (then2 .if2 .taken)
 
 -- all agree
@@ -45,7 +47,8 @@ returns-3 c =
     let else1 : tie.Else1 = search in
     let after-follow-program = whole-followed else1 in
     let start = followed-start after-follow-program in
-    judged-same (start .pre .0) (start .pre .1 .party) (after-follow-program .follow-program .ensures) (not-false _ (else1 .if1 .left))
+    judged-same (start .pre .0) (start .pre .1 .party) (after-follow-program .follow-program .ensures)
+    (not-false _ (else1 .if1 .left))
     (after-size .size .ensures) (else2 .if2 .left)
 
 pub judge-program-spec : {M : Type 1} → statement M

@@ -1,4 +1,5 @@
--- `judge::keep_names` meets its contract: the names of the first triples are written, and each turn writes the next. Assumes nothing.
+-- `judge::keep_names` meets its contract: the names of the first triples are written, and each turn writes the next.
+-- Assumes nothing.
 use Prim.Native.Nat.{_-_, _≤_}
 use mathlib.Core.Path.{sym, ap, _∙_}
 use mathlib.Core.List.{[], _∷_}

@@ -15,7 +15,8 @@ returns-2 : tie.Need-returns-2
 returns-2 c =
     let else1 : tie.Else1 = search in
     let start : tie.Start = search in
-    c .word-at .ensures ∙ theirs-bytes (start .args .words .now) (start .args .bytes .now) (start .args .i) (else1 .if1 .left)
+    c .word-at .ensures ∙ theirs-bytes (start .args .words .now) (start .args .bytes .now) (start .args .i)
+    (else1 .if1 .left)
 
 pub their-spec : {M : Type 1} → statement M
 their-spec =

@@ -98,7 +98,9 @@ follow-none ws a names = refl
 scan-on : (m : Mode) (ours : List ℕ) (k : ℕ) → k < length ours
     → scan m (drop k ours) ≡ slotOf (classOf m) (getD ours k 0) (getD ours (k + 1) 0) ∷ scan (nextMode m (getD ours k 0)) (drop (k + 1) ours)
 unfolding scan
-scan-on m ours k h = rw (add-one, drop-cons ours k 0 h) (ap (λ v. slotOf (classOf m) (getD ours k 0) v ∷ scan (nextMode m (getD ours k 0)) (drop (suc k) ours)) ahead)
+scan-on m ours k h =
+    rw (add-one, drop-cons ours k 0 h)
+    (ap (λ v. slotOf (classOf m) (getD ours k 0) v ∷ scan (nextMode m (getD ours k 0)) (drop (suc k) ours)) ahead)
   where
     ahead : getD (drop (suc k) ours) 0 0 ≡ getD ours (suc k) 0
     ahead = getD-drop (suc k) ours 0 0 ∙ ap (λ j. getD ours j 0) (omega arith)

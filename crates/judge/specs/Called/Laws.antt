@@ -29,7 +29,8 @@ all-append : (P : ℕ → Type 0) (a b : List ℕ) → All P a → All P b → A
 all-append P [] b h k = k
 all-append P (x ∷ a) b h k = (h .0, all-append P a b (h .1) k)
 
-all-wider : (l h l′ h′ : ℕ) → l′ ≤ l → h ≤ h′ → (names : List ℕ) → All (λ m. (l ≤ m) × (m < h)) names → All (λ m. (l′ ≤ m) × (m < h′)) names
+all-wider : (l h l′ h′ : ℕ) → l′ ≤ l → h ≤ h′ → (names : List ℕ) → All (λ m. (l ≤ m) × (m < h)) names
+    → All (λ m. (l′ ≤ m) × (m < h′)) names
 all-wider l h l′ h′ p q [] a = tt
 all-wider l h l′ h′ p q (m ∷ names) a = let b = a .0 in ((omega arith, omega arith), all-wider l h l′ h′ p q names (a .1))
 

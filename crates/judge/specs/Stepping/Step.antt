@@ -271,7 +271,8 @@ module _ {b : List ℕ} {p i : ℕ} (h : i < steps b) {ws step table log called 
             ranged = a .ranged;
             begins = omega arith;
             order = rw slots (rw (same, q) (order-more (λ x o. kept-stored (past .stored) older-at n o) (step-ordered b p i row)));
-            room = rw slots (rw same (let d = step-handed b p i row in let f = step-within b (g .valid) row p i h (past .dictionary) (length (past .given)) .given in
+            room = rw slots (rw same (let d = step-handed b p i row in
+                let f = step-within b (g .valid) row p i h (past .dictionary) (length (past .given)) .given in
                 omega arith));
           }
 
@@ -337,7 +338,8 @@ module _ {b : List ℕ} {p i : ℕ} (h : i < steps b) {ws step table log called 
           names-many =
               let c = rw names-are at (all .count) in
               let s = ap handed slots in
-              let d = ap (λ (x : Did). handed (programSlots row (x .events))) same ∙ step-handed b p i row ∙ ap (λ (x : Did). length (x .given)) (sym same) in
+              let d = ap (λ (x : Did). handed (programSlots row (x .events))) same ∙ step-handed b p i row
+              ∙ ap (λ (x : Did). length (x .given)) (sym same) in
               omega arith
 
           pub stepped-keep : (k / 3 ≤ y .dictionary .kept / 3) × (y .dictionary .kept / 3 ≤ 1024)
@@ -404,7 +406,8 @@ module _ {b : List ℕ} {p i : ℕ} (h : i < steps b) {ws step table log called 
                   let all-goes = next-along .goes in
                   record {
                     follows = followed-is _ (ap (λ (x : Followed). x .at) follow-step ∙ f .at)
-                        (ap (λ (x : Followed). x .names) follow-step ∙ all .names ∙ names-are) (ap (λ (x : Followed). x .whole) follow-step ∙ f .whole ∙ o);
+                        (ap (λ (x : Followed). x .names) follow-step ∙ all .names ∙ names-are)
+                        (ap (λ (x : Followed). x .whole) follow-step ∙ f .whole ∙ o);
                     mode = all .mode ∙ ends;
                     names = let n = names-many in omega arith;
                     given = omega arith;

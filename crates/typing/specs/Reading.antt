@@ -12,6 +12,7 @@ use Rattle.typing.specs.Term.{Term, Effect}
 use Rattle.typing.specs.Bag.{bag}
 use Rattle.typing.specs.Types.{Ty, Environment, _⦂_}
 use Rattle.typing.specs.Process.{Process}
+pub mod Laws
 
 -- what was read, and the words behind it
 abbrev pub Read : Type 0 → Type 0
@@ -89,6 +90,11 @@ types (suc f) (suc t) (suc (suc (suc (suc (suc (suc c))))) ∷ w) = none
 
 unfoldable pub typeAt : List ℕ → Read Ty
 typeAt w = only (types (length w) 1 w)
+
+-- n of what one reader reads, one behind another
+unfoldable pub several : {A : Type 0} → (List ℕ → Read A) → ℕ → List ℕ → Read (List A)
+several r zero w = some ([], w)
+several r (suc n) w = then (r w) (λ p. ahead (p .0) (several r n (p .1)))
 
 -- an environment, the entry that was added last first: 1 is φ; 2, x, T and the older entries
 unfoldable pub entries : ℕ → List ℕ → Read Environment

@@ -21,7 +21,7 @@ ghost use Rattle.spans.specs.Behind.{At, restOf, typeOwn};
 ghost use Rattle.alike.specs.Same.{termIn, effectIn, effectsIn, typeIn, environmentIn, test, ownEffects, isName};
 
 // The n words from a on and those from b on are the same.
-fn same_run(u: &[u32], a: usize, v: &[u32], b: usize, n: usize) -> bool
+pub fn same_run(u: &[u32], a: usize, v: &[u32], b: usize, n: usize) -> bool
     requires { ⌜ (a + n ≤ length (now u)) × (b + n ≤ length (now v)) ⌝ }
     ensures { λ r. ⌜ r ≡ sameWords (run (now (u .entry)) a n) (run (now (v .entry)) b n) ⌝ }
 {
@@ -69,7 +69,7 @@ fn one(so: bool) -> usize
 
 // How often the effect from b to f stands among the k effects from a to end.
 fn count_effect(u: &[u32], a: usize, k: usize, end: usize, v: &[u32], b: usize, f: usize) -> usize
-    requires { ⌜ (0 < a) × (restOf (effects k (drop a (now u))) ≡ some (drop end (now u))) × At (now v) b (restOf (effectOf (drop b (now v)))) f ⌝ }
+    requires { ⌜ (restOf (effects k (drop a (now u))) ≡ some (drop end (now u))) × At (now v) b (restOf (effectOf (drop b (now v)))) f ⌝ }
     ensures { λ r. ⌜ r ≡ count (effectIn (now (v .entry)) b) (effectsIn (now (u .entry)) a k) ⌝ }
 {
     let mut i = a;
@@ -95,7 +95,7 @@ pub fn same_bag(
     l: usize,
     last: usize,
 ) -> bool
-    requires { ⌜ (0 < a) × (0 < b) × (restOf (effects k (drop a (now u))) ≡ some (drop end (now u))) × (restOf (effects l (drop b (now v))) ≡ some (drop last (now v))) ⌝ }
+    requires { ⌜ (restOf (effects k (drop a (now u))) ≡ some (drop end (now u))) × (restOf (effects l (drop b (now v))) ≡ some (drop last (now v))) ⌝ }
     ensures { λ r. ⌜ r ≡ test (sameEffects (bag (effectsIn (now (u .entry)) a k)) (bag (effectsIn (now (v .entry)) b l))) ⌝ }
 {
     if k != l {
@@ -237,7 +237,7 @@ pub fn term_closed(w: &[u32], a: usize, end: usize) -> bool
 
 // The name x is one of those of the k effects from a to end.
 pub fn effects_mention(w: &[u32], a: usize, k: usize, end: usize, x: u32) -> bool
-    requires { ⌜ (0 < a) × (restOf (effects k (drop a (now w))) ≡ some (drop end (now w))) ⌝ }
+    requires { ⌜ restOf (effects k (drop a (now w))) ≡ some (drop end (now w)) ⌝ }
     ensures { λ r. ⌜ r ≡ mentions x (effectsIn (now (w .entry)) a k) ⌝ }
 {
     let mut i = a;

@@ -166,7 +166,7 @@ pub fn environment_end(w: &[u32], a: usize) -> usize
 }
 
 // The place behind k terms; 0 where they are not there.
-fn terms_end(w: &[u32], a: usize, k: usize) -> usize
+pub fn terms_end(w: &[u32], a: usize, k: usize) -> usize
     requires { ⌜ (0 < a) × (a ≤ length (now w)) ⌝ }
     ensures { λ r. ⌜ Ends (now (w .entry)) a (times skipTerm k (drop a (now (w .entry)))) r ⌝ }
 {
@@ -184,7 +184,7 @@ fn terms_end(w: &[u32], a: usize, k: usize) -> usize
 }
 
 // The place behind k types; 0 where they are not there.
-fn types_end(w: &[u32], a: usize, k: usize) -> usize
+pub fn types_end(w: &[u32], a: usize, k: usize) -> usize
     requires { ⌜ (0 < a) × (a ≤ length (now w)) ⌝ }
     ensures { λ r. ⌜ Ends (now (w .entry)) a (times skipType k (drop a (now (w .entry)))) r ⌝ }
 {
@@ -217,7 +217,7 @@ fn skip(w: &[u32], a: usize, names: usize, terms: usize, types: usize) -> usize
 }
 
 // The place behind a count and so many effects; 0 where they are not there.
-fn list_end(w: &[u32], a: usize) -> usize
+pub fn list_end(w: &[u32], a: usize) -> usize
     requires { ⌜ (0 < a) × (a ≤ length (now w)) ⌝ }
     ensures { λ r. ⌜ Ends (now (w .entry)) a (skipEffects (drop a (now (w .entry)))) r ⌝ }
 {

@@ -28,7 +28,7 @@ same-effect-requires c κs =
     let start : tie.Start Inv-loop μ-loop = search in (
       tally-end _ _ _ _ _ _ _ _ (at-loop .loop .inv) (in-loop .loop-test .taken) _
           (after-term-end .term-end .ensures),
-      start .pre .2,
+      start .pre .1,
     )
 
 pub count-effect-spec : {M : Type 1} → statement M

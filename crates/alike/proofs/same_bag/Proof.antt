@@ -18,7 +18,7 @@ add-term-end c =
     let in-loop : tie.In-loop Inv-loop μ-loop = search in
     let at-loop : tie.At-loop Inv-loop μ-loop = search in
     let start : tie.Start Inv-loop μ-loop = search in
-    let l = weighing-inside _ _ _ (start .args .end) _ _ _ (start .args .last) (start .pre .2) (start .pre .3) _ _
+    let l = weighing-inside _ _ _ (start .args .end) _ _ _ (start .args .last) (start .pre .0) (start .pre .1) _ _
     (at-loop .loop .inv) (in-loop .loop-test .taken) in
     omega arith
 
@@ -28,9 +28,9 @@ count-effect-requires c κs =
     let in-loop : tie.In-loop Inv-loop μ-loop = search in
     let at-loop : tie.At-loop Inv-loop μ-loop = search in
     let start : tie.Start Inv-loop μ-loop = search in
-    let own = weighing-end _ _ _ (start .args .end) _ _ _ (start .args .last) (start .pre .2) (start .pre .3) _ _
+    let own = weighing-end _ _ _ (start .args .end) _ _ _ (start .args .last) (start .pre .0) (start .pre .1) _ _
     (at-loop .loop .inv) (in-loop .loop-test .taken) _ (after-term-end .term-end .ensures) in
-    (start .pre .0, start .pre .2, own)
+    (start .pre .0, own)
 
 count-effect-requires-2 : tie.Need-count-effect-requires-2 Inv-loop μ-loop
 count-effect-requires-2 c κs =
@@ -38,9 +38,9 @@ count-effect-requires-2 c κs =
     let in-loop : tie.In-loop Inv-loop μ-loop = search in
     let at-loop : tie.At-loop Inv-loop μ-loop = search in
     let start : tie.Start Inv-loop μ-loop = search in
-    let own = weighing-end _ _ _ (start .args .end) _ _ _ (start .args .last) (start .pre .2) (start .pre .3) _ _
+    let own = weighing-end _ _ _ (start .args .end) _ _ _ (start .args .last) (start .pre .0) (start .pre .1) _ _
     (at-loop .loop .inv) (in-loop .loop-test .taken) _ (after-term-end .term-end .ensures) in
-    (start .pre .1, start .pre .3, own)
+    (start .pre .1, own)
 
 pub same-bag-spec : {M : Type 1} → statement M
 same-bag-spec =

@@ -78,8 +78,6 @@ same-bag-requires c κs =
     let start : tie.Start = search in
     let l = nonce-inside _ _ _ (start .pre .0) (start .pre .2) (else1 .if1 .left) in
     let r = nonce-inside _ _ _ (start .pre .1) (start .pre .3) (sym (start .pre .4) ∙ else1 .if1 .left) in (
-      omega arith,
-      omega arith,
       nonce-reads _ _ _ (start .pre .0) (start .pre .2) (else1 .if1 .left) _ (after-wide .wide .ensures .0),
       nonce-reads _ _ _ (start .pre .1) (start .pre .3) (sym (start .pre .4)
           ∙ else1 .if1 .left) _ (after-wide2 .wide2 .ensures .0),

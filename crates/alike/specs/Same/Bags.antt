@@ -64,9 +64,9 @@ pub record Tally (u : List ℕ) (a k end : ℕ) (x : Effect) (i j n : ℕ) : Typ
 sub-zero : (k : ℕ) → k - 0 ≡ k
 sub-zero k = omega arith
 
-pub tally-begin : (u : List ℕ) (a k end : ℕ) (x : Effect) → restOf (effects k (drop a u)) ≡ some (drop end u) → 0 < a → Tally u a k end x a 0 0
-tally-begin u a k end x h l =
-    record { along = record { reads = rw (sub-zero k) h; low = l }; sum = rw (sub-zero k) (omega arith); few = omega arith; small = omega arith }
+pub tally-begin : (u : List ℕ) (a k end : ℕ) (x : Effect) → restOf (effects k (drop a u)) ≡ some (drop end u) → Tally u a k end x a 0 0
+tally-begin u a k end x h =
+    record { along = record { reads = rw (sub-zero k) h }; sum = rw (sub-zero k) (omega arith); few = omega arith; small = omega arith }
 
 module _ (u : List ℕ) (a k end : ℕ) (x : Effect) (i j n : ℕ) (t : Tally u a k end x i j n) where
   due : j < k → 0 < k - j
@@ -123,10 +123,10 @@ pub record Weighing (u : List ℕ) (a k : ℕ) (v : List ℕ) (b l fin i j : ℕ
   pub passed : (x : Effect) → 0 < count x (effectsIn v b l)
       → (count x (effectsIn u a k) ≡ count x (effectsIn v b l)) ⊎ (0 < count x (effectsIn v i (l - j)))
 
-pub weighing-begin : (u : List ℕ) (a k : ℕ) (v : List ℕ) (b l fin : ℕ) → restOf (effects l (drop b v)) ≡ some (drop fin v) → 0 < b
+pub weighing-begin : (u : List ℕ) (a k : ℕ) (v : List ℕ) (b l fin : ℕ) → restOf (effects l (drop b v)) ≡ some (drop fin v)
     → Weighing u a k v b l fin b 0
-weighing-begin u a k v b l fin h lo =
-    record { along = record { reads = rw (sub-zero l) h; low = lo }; few = omega arith; passed = λ x c. inr (rw (sub-zero l) c) }
+weighing-begin u a k v b l fin h =
+    record { along = record { reads = rw (sub-zero l) h }; few = omega arith; passed = λ x c. inr (rw (sub-zero l) c) }
 
 module _ (u : List ℕ) (a k end : ℕ) (v : List ℕ) (b l fin : ℕ) (s : restOf (effects k (drop a u)) ≡ some (drop end u))
     (w : restOf (effects l (drop b v)) ≡ some (drop fin v)) where

@@ -121,7 +121,6 @@ word-of (suc (suc (suc c)) ∷ u) v e = absurd (let z : _≡_ {A = ℕ} 0 1 = cc
 -- ---- along k effects: at the place i, m of them are still to come; they end at `end`
 pub record Along (w : List ℕ) (end m i : ℕ) : Type 0 where
   pub reads : restOf (effects m (drop i w)) ≡ some (drop end w)
-  pub low : 0 < i
 
 module _ (w : List ℕ) (end m i : ℕ) (t : Along w end m i) where
   more : 0 < m → m ≡ suc (m - 1)
@@ -172,7 +171,7 @@ module _ (w : List ℕ) (end m i : ℕ) (t : Along w end m i) where
   pub along-again : 0 < m → (r : ℕ) → Ends w (i + 1) (restOf (term (drop (i + 1) w))) r → Along w end (m - 1) r
   along-again h r q =
       let b = along-end h r q in
-      record { reads = ap (λ (u : List ℕ). restOf (effects (m - 1) u)) (sym (behind-is h r b)) ∙ head h .others; low = b .some-word }
+      record { reads = ap (λ (u : List ℕ). restOf (effects (m - 1) u)) (sym (behind-is h r b)) ∙ head h .others }
 
   effect-is : (h : 0 < m) → head h .effect ≡ effectIn w i
   unfolding effectIn valueOr

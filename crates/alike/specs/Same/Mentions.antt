@@ -52,8 +52,8 @@ pub record Walk (w : List ℕ) (a k end x i j : ℕ) : Type 0 where
 sub-zero : (k : ℕ) → k - 0 ≡ k
 sub-zero k = omega arith
 
-pub walk-begin : (w : List ℕ) (a k end x : ℕ) → 0 < a → restOf (effects k (drop a w)) ≡ some (drop end w) → Walk w a k end x a 0
-walk-begin w a k end x l h = record { along = record { reads = rw (sub-zero k) h; low = l }; same = rw (sub-zero k) refl; few = omega arith }
+pub walk-begin : (w : List ℕ) (a k end x : ℕ) → restOf (effects k (drop a w)) ≡ some (drop end w) → Walk w a k end x a 0
+walk-begin w a k end x h = record { along = record { reads = rw (sub-zero k) h }; same = rw (sub-zero k) refl; few = omega arith }
 
 module _ (w : List ℕ) (a k end x i j : ℕ) (t : Walk w a k end x i j) where
   due : j < k → 0 < k - j

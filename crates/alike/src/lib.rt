@@ -58,7 +58,7 @@ fn same_effect(u: &[u32], a: usize, e: usize, v: &[u32], b: usize, f: usize) -> 
 }
 
 // 1 where it is so, else 0.
-fn one(so: bool) -> usize
+pub fn one(so: bool) -> usize
     ensures { λ r. ⌜ (r ≡ pick so 1 0) × (r ≤ 1) ⌝ }
 {
     if so {

@@ -16,7 +16,7 @@ use Rattle.typing.specs.Reading.{effectOf, effects, term}
 use Rattle.spans.specs.Behind.{restOf, At, Ends}
 use Rattle.alike.specs.Same.{effectIn, effectsIn, test}
 use Rattle.alike.specs.Same.Laws.{test-yes, test-no}
-use Rattle.alike.specs.Same.Effects.{Along, along-inside, along-end, along-again, along-list, list-none, list-length}
+use Rattle.alike.specs.Same.Effects.{Along, along-inside, along-end, along-term, along-again, along-list, list-none, list-length}
 
 -- ---- counts
 count-split : (x f : Effect) (fs : List Effect) → count x (f ∷ fs) ≡ count x (f ∷ []) + count x fs
@@ -80,6 +80,9 @@ module _ (u : List ℕ) (a k end : ℕ) (x : Effect) (i j n : ℕ) (t : Tally u 
 
   pub tally-end : j < k → (r : ℕ) → Ends u (i + 1) (restOf (term (drop (i + 1) u))) r → At u i (restOf (effectOf (drop i u))) r
   tally-end h r q = along-end u end (k - j) i (t .along) (due h) r q
+
+  pub tally-term : j < k → (r : ℕ) → Ends u (i + 1) (restOf (term (drop (i + 1) u))) r → At u (i + 1) (restOf (term (drop (i + 1) u))) r
+  tally-term h r q = along-term u end (k - j) i (t .along) (due h) r q
 
   turn : j < k → (r : ℕ) → Ends u (i + 1) (restOf (term (drop (i + 1) u))) r → effectsIn u i (k - j) ≡ effectIn u i ∷ effectsIn u r (k - (j + 1))
   turn h r q = along-list u end (k - j) i (t .along) (due h) r q ∙ ap (λ (m : ℕ). effectIn u i ∷ effectsIn u r m) less

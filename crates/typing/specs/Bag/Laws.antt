@@ -10,7 +10,7 @@ use native.Mathlib.Decide.{decLt}
 use lib.Dec.{ltb, eqb}
 use borrow.Author.Tests.{lt-ltb, le-ltb, eq-eqb, ne-eqb}
 use Rattle.words.specs.Choice.{choose}
-use Rattle.words.specs.Choice.Laws.{pick-true, pick-false, pick-ind, choose-yes, choose-no}
+use Rattle.words.specs.Choice.Laws.{pick-true, pick-false, pick-ind, choose-yes, choose-no, choose-ind}
 use Rattle.words.specs.First.Laws.{clash}
 use Rattle.typing.specs.Term.{Term, Effect, sameEffect, termWords, effectWords}
 use Rattle.typing.specs.Bag.{upTo, insert, plus, bag, remove, minus, count}
@@ -235,6 +235,25 @@ plus-ordered (e ∷ es) fs o = insert-ordered e (plus es fs) (plus-ordered es fs
 pub bag-ordered : (es : List Effect) → Ordered (bag es)
 unfolding bag
 bag-ordered es = plus-ordered es [] tt
+
+least-remove : (e f : Effect) (fs : List Effect) → Least e fs → Least e (remove f fs)
+unfolding remove
+least-remove e f [] l = tt
+least-remove e f (g ∷ fs) l =
+    let r = least-remove e f fs (l .1) in
+    choose-ind (Least e) (sameEffect f g) fs (g ∷ remove f fs) (λ _. l .1) (λ _. (l .0, r))
+
+remove-ordered : (f : Effect) (es : List Effect) → Ordered es → Ordered (remove f es)
+unfolding remove
+remove-ordered f [] o = tt
+remove-ordered f (g ∷ es) o =
+    let r = remove-ordered f es (o .1) in
+    choose-ind Ordered (sameEffect f g) es (g ∷ remove f es) (λ _. o .1) (λ _. (least-remove g f es (o .0), r))
+
+pub minus-ordered : (es fs : List Effect) → Ordered es → Ordered (minus es fs)
+unfolding minus
+minus-ordered es [] o = o
+minus-ordered es (f ∷ fs) o = minus-ordered (remove f es) fs (remove-ordered f es o)
 
 -- the first of a list in order is no later than what is counted in it
 least-counted : (e f : Effect) (fs : List Effect) → Least f fs → 0 < count e fs → upTo (effectWords f) (effectWords e) ≡ true

@@ -68,7 +68,15 @@ pub fn one(so: bool) -> usize
 }
 
 // How often the effect from b to f stands among the k effects from a to end.
-fn count_effect(u: &[u32], a: usize, k: usize, end: usize, v: &[u32], b: usize, f: usize) -> usize
+pub fn count_effect(
+    u: &[u32],
+    a: usize,
+    k: usize,
+    end: usize,
+    v: &[u32],
+    b: usize,
+    f: usize,
+) -> usize
     requires { ⌜ (restOf (effects k (drop a (now u))) ≡ some (drop end (now u))) × At (now v) b (restOf (effectOf (drop b (now v)))) f ⌝ }
     ensures { λ r. ⌜ r ≡ count (effectIn (now (v .entry)) b) (effectsIn (now (u .entry)) a k) ⌝ }
 {

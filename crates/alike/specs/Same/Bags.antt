@@ -182,7 +182,7 @@ module _ (u : List ℕ) (a k end : ℕ) (v : List ℕ) (b l fin : ℕ) (s : rest
         go x z (inr p) =
             absurd (omega (arith, ap (λ (m : ℕ). count x (effectsIn v i m)) z, ap (count x) (list-none v i), count-none x))
 
-length-same : (es fs : List Effect) → ((x : Effect) → count x es ≡ count x fs) → length es ≡ length fs
+pub length-same : (es fs : List Effect) → ((x : Effect) → count x es ≡ count x fs) → length es ≡ length fs
 length-same [] [] h = refl
 length-same [] (f ∷ fs) h = absurd (omega (arith, h f, count-here f f fs refl, count-none f))
 length-same (e ∷ es) fs h =

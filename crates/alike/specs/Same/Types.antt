@@ -81,23 +81,23 @@ types-form f t (suc (suc (suc (suc (suc zero))))) (n ∷ u) v z o r =
 types-form f t (suc (suc (suc (suc (suc (suc c)))))) u v z o r = absurd (let y : _≡_ {A = ℕ} 0 1 = cc in omega arith)
 
 -- ---- forms
-codeOf : Ty → ℕ
+pub codeOf : Ty → ℕ
 codeOf Ty.Un = 1
 codeOf (Ty.pair T U) = 2
 codeOf (Ty.channel T) = 3
 codeOf (Ty.symkey T) = 4
 codeOf (Ty.nonce es) = 5
 
-headCode : List Ty → ℕ
+pub headCode : List Ty → ℕ
 headCode [] = 0
 headCode (T ∷ l) = codeOf T
 
 -- a word that begins a type
-Begins : ℕ → Type 0
+abbrev pub Begins : ℕ → Type 0
 Begins c = (0 < c) × (c ≤ 5)
 
-form-code : (c : ℕ) (es : List Effect) (l : List Ty) → Begins c → typeParts c ≤ length l → headCode (form c es l) ≡ c
-unfolding form typeParts headCode codeOf joined altered Begins
+pub form-code : (c : ℕ) (es : List Effect) (l : List Ty) → Begins c → typeParts c ≤ length l → headCode (form c es l) ≡ c
+unfolding form typeParts headCode codeOf joined altered
 form-code zero es l b h = absurd (omega arith)
 form-code (suc zero) es l b h = refl
 form-code (suc (suc zero)) es [] b h = absurd (omega arith)
@@ -110,9 +110,9 @@ form-code (suc (suc (suc (suc zero)))) es (T ∷ l) b h = refl
 form-code (suc (suc (suc (suc (suc zero))))) es l b h = refl
 form-code (suc (suc (suc (suc (suc (suc c)))))) es l b h = absurd (omega arith)
 
-form-rest : (c : ℕ) (es fs : List Effect) (l m : List Ty) → Begins c → typeParts c ≤ length l → typeParts c ≤ length m
+pub form-rest : (c : ℕ) (es fs : List Effect) (l m : List Ty) → Begins c → typeParts c ≤ length l → typeParts c ≤ length m
     → form c es l ≡ form c fs m → l ≡ m
-unfolding form typeParts joined altered Begins
+unfolding form typeParts joined altered
 form-rest zero es fs l m b h k e = absurd (omega arith)
 form-rest (suc zero) es fs l m b h k e = cc
 form-rest (suc (suc zero)) es fs [] m b h k e = absurd (omega arith)
@@ -129,12 +129,12 @@ form-rest (suc (suc (suc (suc zero)))) es fs (T ∷ l) (R ∷ m) b h k e = cc
 form-rest (suc (suc (suc (suc (suc zero))))) es fs l m b h k e = cc
 form-rest (suc (suc (suc (suc (suc (suc c)))))) es fs l m b h k e = absurd (omega arith)
 
-form-effects : (es fs : List Effect) (l m : List Ty) → form 5 es l ≡ form 5 fs m → es ≡ fs
+pub form-effects : (es fs : List Effect) (l m : List Ty) → form 5 es l ≡ form 5 fs m → es ≡ fs
 unfolding form
 form-effects es fs l m e = cc
 
 own-begins : (c : ℕ) (u v : List ℕ) → typeOwn (c ∷ u) ≡ some v → Begins c
-unfolding typeOwn Begins
+unfolding typeOwn
 own-begins zero u v o = absurd (let z : _≡_ {A = ℕ} 0 1 = cc in omega arith)
 own-begins (suc zero) u v o = (omega arith, omega arith)
 own-begins (suc (suc zero)) u v o = (omega arith, omega arith)
@@ -154,7 +154,7 @@ pub record Along (w : List ℕ) (end i due : ℕ) : Type 0 where
 pub listOf : (w : List ℕ) (end i due : ℕ) → Along w end i due → List Ty
 listOf w end i due t = valueOr [] (types (t .fuel) due (drop i w))
 
-along-begin : (w : List ℕ) (a end : ℕ) → At w a (restOf (typeAt (drop a w))) end → Along w end a 1
+pub along-begin : (w : List ℕ) (a end : ℕ) → At w a (restOf (typeAt (drop a w))) end → Along w end a 1
 along-begin w a end h =
     record { fuel = length (drop a w); enough = omega (arith, length-drop a w); reads = sym (rest-type (drop a w)) ∙ h .rest; few = omega arith }
 
@@ -168,7 +168,7 @@ one-list (some p) c z e = go (p .0) (p .1) (c (p .0) (p .1) refl)
     go (T ∷ []) x d = refl
     go (T ∷ U ∷ l) x d = absurd (omega arith)
 
-begin-list : (w : List ℕ) (a end : ℕ) (h : At w a (restOf (typeAt (drop a w))) end) → listOf w end a 1 (along-begin w a end h) ≡ typeIn w a ∷ []
+pub begin-list : (w : List ℕ) (a end : ℕ) (h : At w a (restOf (typeAt (drop a w))) end) → listOf w end a 1 (along-begin w a end h) ≡ typeIn w a ∷ []
 unfolding listOf along-begin typeIn typeAt
 begin-list w a end h = one-list (types (length (drop a w)) 1 (drop a w)) (types-counted (length (drop a w)) 1 (drop a w)) (drop end w)
     (sym (rest-type (drop a w)) ∙ h .rest)
@@ -187,7 +187,7 @@ length-of f due u z e =
     let r = read-value [] (types f due u) z e in
     types-counted f due u (valueOr [] (types f due u)) z r
 
-parts-small : (c : ℕ) → typeParts c ≤ 2
+pub parts-small : (c : ℕ) → typeParts c ≤ 2
 unfolding typeParts
 parts-small zero = omega arith
 parts-small (suc zero) = omega arith
@@ -234,7 +234,7 @@ module _ (w : List ℕ) (end i due : ℕ) (t : Along w end i due) where
 
   pub along-turn : 0 < due → (r : ℕ) → Ends w (i + 1) (typeOwn (drop i w)) r → (n : ℕ) → n ≡ typeParts (getD w i 0) → n ≤ 2
       → Turn w end i due t r n
-  unfolding listOf Begins
+  unfolding listOf
   along-turn h r q n e k =
       let b = along-own h r q in
       let c = drop-cons w i 0 (along-inside h) in
@@ -274,7 +274,7 @@ own-past : ownEffects [] ≡ []
 unfolding ownEffects
 own-past = refl
 
-own-not : (w : List ℕ) (i : ℕ) → (getD w i 0 ≡ 5 → ⊥) → ownEffects (drop i w) ≡ []
+pub own-not : (w : List ℕ) (i : ℕ) → (getD w i 0 ≡ 5 → ⊥) → ownEffects (drop i w) ≡ []
 own-not w i d = elim (decLt i (length w)) [
   | yes l ↦ ap ownEffects (drop-cons w i 0 l) ∙ own-other (getD w i 0) (drop (suc i) w) d
   | no l ↦ ap ownEffects (drop-of-length-le w {i = i} (omega arith)) ∙ own-past
@@ -323,7 +323,6 @@ module _ (u : List ℕ) (a e : ℕ) (v : List ℕ) (b f i j due : ℕ) (t : Pair
 
   pub pairing-words : 0 < due → (r : ℕ) → Ends u (i + 1) (typeOwn (drop i u)) r → (s : ℕ) → Ends v (j + 1) (typeOwn (drop j v)) s
       → (getD u i 0 ≡ getD v j 0 → ⊥) → false ≡ test (sameType (typeIn u a) (typeIn v b))
-  unfolding Begins
   pairing-words h r q s p d =
       let x = along-turn u e i due (t .left) h r q (typeParts (getD u i 0)) refl (parts-small (getD u i 0)) in
       let y = along-turn v f j due (t .right) h s p (typeParts (getD v j 0)) refl (parts-small (getD v j 0)) in
@@ -353,7 +352,6 @@ module _ (u : List ℕ) (a e : ℕ) (v : List ℕ) (b f i j due : ℕ) (t : Pair
   pub pairing-again : 0 < due → (r : ℕ) → Ends u (i + 1) (typeOwn (drop i u)) r → (s : ℕ) → Ends v (j + 1) (typeOwn (drop j v)) s
       → getD u i 0 ≡ getD v j 0 → (c : Bool) → c ≡ test (sameEffects (ownEffects (drop i u)) (ownEffects (drop j v))) → not c ≡ false
       → (n : ℕ) → n ≡ typeParts (getD u i 0) → n ≤ 2 → Pairing u a e v b f r s (due + n - 1)
-  unfolding Begins
   pairing-again h r q s p same c d g n k l =
       let x = along-turn u e i due (t .left) h r q n k l in
       let y = along-turn v f j due (t .right) h s p n (k ∙ ap typeParts same) l in
@@ -388,7 +386,7 @@ unfolding typeOwn
 own-cut c [] v e o = absurd (let q : none ≡ some v = rw e at o in let z : _≡_ {A = ℕ} 0 1 = cc in omega arith)
 own-cut c (n ∷ x) v e o = omega arith
 
-own-list : (c n : ℕ) (x : List ℕ) → c ≡ 5 → (typeOwn (c ∷ n ∷ x) ≡ restOf (effects n x)) ×
+pub own-list : (c n : ℕ) (x : List ℕ) → c ≡ 5 → (typeOwn (c ∷ n ∷ x) ≡ restOf (effects n x)) ×
     (ownEffects (c ∷ n ∷ x) ≡ bag (valueOr [] (effects n x)))
 unfolding typeOwn ownEffects
 own-list c n x e = (rw e, pick-true (eqb c 5) _ _ (eq-eqb c 5 e))

@@ -26,7 +26,7 @@ module _ {A : Type 0} (r : List ℕ → Read A) (d : A) (same : (x y : A) → De
   item w a = valueOr d (r (drop a w))
 
   -- the first of several, and the others
-  first-of : (k : ℕ) (u z : List ℕ) → restOf (several r (suc k) u) ≡ some z
+  pub first-of : (k : ℕ) (u z : List ℕ) → restOf (several r (suc k) u) ≡ some z
       → (v : List ℕ) × (r u ≡ some (valueOr d (r u), v)) × (restOf (several r k v) ≡ some z)
       × (valueOr [] (several r (suc k) u) ≡ valueOr d (r u) ∷ valueOr [] (several r k v))
   unfolding several then valueOr restOf ahead

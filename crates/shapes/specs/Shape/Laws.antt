@@ -313,6 +313,13 @@ first-word (suc zero) u v e d = refl
 first-word (suc (suc zero)) u v e d = absurd (d refl)
 first-word (suc (suc (suc c))) u v e d = absurd (let z : _≡_ {A = ℕ} 0 1 = cc in omega arith)
 
+first-is : (c : ℕ) (u v : List ℕ) → restOf (environmentAt (c ∷ u)) ≡ some v → (c ≡ 2 → ⊥) → c ≡ 1
+unfolding environmentAt entries restOf
+first-is zero u v e d = absurd (let z : _≡_ {A = ℕ} 0 1 = cc in omega arith)
+first-is (suc zero) u v e d = refl
+first-is (suc (suc zero)) u v e d = absurd (d refl)
+first-is (suc (suc (suc c))) u v e d = absurd (let z : _≡_ {A = ℕ} 0 1 = cc in omega arith)
+
 entry-go : (x : ℕ) (o : Read Ty) (v : List ℕ) → restOf (then o (λ p. after (λ (E : Environment). (x ⦂ p .0) ∷ E) (environmentAt (p .1)))) ≡ some v
     → (y : List ℕ) × (restOf o ≡ some y) × (restOf (environmentAt y) ≡ some v)
     × (valueOr [] (then o (λ p. after (λ (E : Environment). (x ⦂ p .0) ∷ E) (environmentAt (p .1)))) ≡ (x ⦂ valueOr Ty.Un o) ∷ valueOr [] (environmentAt y))
@@ -417,6 +424,38 @@ module _ (w : List ℕ) (a : ℕ) (t : Reads environmentAt w a) where
         where
           olders : (getD w (a + 1) 0 ⦂ typeIn w (a + 2)) ∷ environmentIn w e ≡ (x ⦂ T) ∷ E → environmentIn w e ≡ E
           olders z = cc
+
+-- ---- no entry, and the newest entry's name
+module _ (w : List ℕ) (a : ℕ) (t : Reads environmentAt w a) where
+  reads-words : restOf (environmentAt (getD w a 0 ∷ drop (a + 1) w)) ≡ some (t .behind)
+  reads-words = sym (ap (λ (u : List ℕ). restOf (environmentAt u)) (words w a t)) ∙ t .reads
+
+  some-entry : {p : Entry} {E : Environment} → [] ≡ p ∷ E → ⊥
+  some-entry z = let y : _≡_ {A = ℕ} 0 1 = cc in omega arith
+
+  none-is : (getD w a 0 ≡ 2 → ⊥) → environmentIn w a ≡ []
+  unfolding environmentIn
+  none-is d =
+      ap (λ (u : List ℕ). valueOr [] (environmentAt u)) (words w a t) ∙ first-word (getD w a 0) (drop (a + 1) w) (t .behind) reads-words d
+
+  pub is-none : eqb (getD w a 0) 1 ≡ test (sameEnvironment (environmentIn w a) [])
+  is-none = elim (decEq (getD w a 0) 2) [
+    | yes two ↦
+        ne-eqb (getD w a 0) 1 (λ e. omega arith)
+        ∙ sym (test-no (sameEnvironment (environmentIn w a) []) (λ z. some-entry (sym z ∙ entry-is w a t two .3)))
+    | no d ↦
+        eq-eqb (getD w a 0) 1 (first-is (getD w a 0) (drop (a + 1) w) (t .behind) reads-words d)
+        ∙ sym (test-yes (sameEnvironment (environmentIn w a) []) (none-is d))
+  ]
+
+  pub newest-name : (n : ℕ) → n ≡ getD w (a + 1) 0 → (y : ℕ) (U : Ty) (F : Environment) → environmentIn w a ≡ (y ⦂ U) ∷ F → n ≡ y
+  newest-name n m y U F e = elim (decEq (getD w a 0) 2) [
+    | yes two ↦ m ∙ names (sym (entry-is w a t two .3) ∙ e)
+    | no d ↦ absurd (some-entry (sym (none-is d) ∙ e))
+  ]
+    where
+      names : {T : Ty} {E : Environment} → (getD w (a + 1) 0 ⦂ T) ∷ E ≡ (y ⦂ U) ∷ F → getD w (a + 1) 0 ≡ y
+      names z = cc
 
 -- ---- types that are made, by how
 made-there : (w : List ℕ) (made m : Made) → made ≡ m → There w made → There w m

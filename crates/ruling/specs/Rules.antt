@@ -2,3 +2,4 @@
 use Prim.Native.Nat.{ℕ}
 pub mod Decide
 pub mod First
+pub mod Terms

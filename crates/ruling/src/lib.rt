@@ -1,12 +1,19 @@
-// Whether a line follows by its rule from the lines that it names: the rules of environments, effects and types.
+// Whether a line follows by its rule from the lines that it names: the rules of environments, effects, types and terms.
+use alike::entry_stands;
 use balance::Effects;
 use balance::balanced;
+use changed::By;
+use changed::same_changed;
 use shapes::Made;
 use shapes::environments_alike;
 use shapes::extended;
 use shapes::same_as;
+use shapes::terms_alike;
+use shapes::types_alike;
 use spans::effects_end;
+use spans::environment_end;
 use spans::term_end;
+use spans::type_end;
 ghost use mathlib.Core.Path.{_≡_};
 ghost use mathlib.Core.List.{[], _∷_};
 ghost use mathlib.Core.Option.{some};
@@ -15,7 +22,10 @@ ghost use lib.ListN.{length, drop, getD};
 ghost use mathlib.Core.Bool.{_&&_};
 ghost use Rattle.typing.specs.Rule.{Rule};
 ghost use Rattle.typing.specs.Check.{follows};
-ghost use Rattle.typing.specs.Reading.{effects};
+ghost use Rattle.typing.specs.Term.{sameTerm};
+ghost use Rattle.typing.specs.Types.{sameEnvironment};
+ghost use Rattle.typing.specs.Reading.{term, effects, environmentAt};
+ghost use Rattle.alike.specs.Same.{termIn, environmentIn, test};
 ghost use Rattle.spans.specs.Behind.{restOf};
 ghost use Rattle.shapes.specs.Shape.{Reads};
 ghost use Rattle.ruling.specs.Line.{saysEnvironment, saysType, saysEffect, saysTerm, EnvironmentThere, TypeThere, EffectThere, TermThere};
@@ -217,4 +227,106 @@ pub fn by_type_nonce(w: &[u32], i: Line, j: Line) -> bool
     let own = effects_behind(w, j.f, j.k);
     let b = same_as(w, i.t, Made::Nonce(j.f, j.k, own));
     both(a, b)
+}
+
+// Line j gives a term in line i's environment: the one at m.
+pub fn term_premise(w: &[u32], i: Line, j: Line, m: usize) -> bool
+    requires { ⌜ Reads environmentAt (now w) (i .e) × TermThere (now w) j × Reads term (now w) m ⌝ }
+    ensures { λ r. ⌜ r ≡ (test (sameEnvironment (environmentIn (now (w .entry)) (j .e)) (environmentIn (now (w .entry)) (i .e))) && test (sameTerm (termIn (now (w .entry)) (j .s)) (termIn (now (w .entry)) m))) ⌝ }
+{
+    let a = environments_alike(w, j.e, i.e);
+    let b = terms_alike(w, j.s, m);
+    both(a, b)
+}
+
+// E′, x : T, E″ ⊢ ⋄  ⟹  E′, x : T, E″ ⊢ x : T
+pub fn by_name(w: &[u32], i: Line, j: Line) -> bool
+    requires { ⌜ TermThere (now w) i × EnvironmentThere (now w) j ⌝ }
+    ensures { λ r. ⌜ r ≡ follows Rule.name (saysEnvironment (now (w .entry)) j ∷ []) (saysTerm (now (w .entry)) i) ⌝ }
+{
+    if word(w, i.s) != 1 {
+        return false;
+    }
+    let x = word(w, i.s + 1);
+    let a = environments_alike(w, j.e, i.e);
+    let e = environment_end(w, i.e);
+    let f = type_end(w, i.t);
+    let b = entry_stands(w, i.e, e, x, w, i.t, f);
+    both(a, b)
+}
+
+// E ⊢ M : T, E ⊢ N : U[M/x]  ⟹  E ⊢ (M, N) : (x : T, U)
+pub fn by_pair(w: &[u32], i: Line, j: Line, k: Line) -> bool
+    requires { ⌜ TermThere (now w) i × TermThere (now w) j × TermThere (now w) k ⌝ }
+    ensures { λ r. ⌜ r ≡ follows Rule.pair (saysTerm (now (w .entry)) j ∷ saysTerm (now (w .entry)) k ∷ []) (saysTerm (now (w .entry)) i) ⌝ }
+{
+    if word(w, i.s) != 2 {
+        return false;
+    }
+    if word(w, i.t) != 2 {
+        return false;
+    }
+    let left = i.s + 1;
+    let right = term_end(w, left);
+    let second = type_end(w, i.t + 1);
+    let a = term_premise(w, i, j, left);
+    let b = term_premise(w, i, k, right);
+    let c = types_alike(w, i.t + 1, j.t);
+    let e = type_end(w, k.t);
+    let f = type_end(w, second);
+    let d = same_changed(w, k.t, e, second, f, By::Put(left, right));
+    all4(a, b, c, d)
+}
+
+// E ⊢ M : T, E ⊢ N : symkey(T)  ⟹  E ⊢ {M}N : Un
+pub fn by_cipher(w: &[u32], i: Line, j: Line, k: Line) -> bool
+    requires { ⌜ TermThere (now w) i × TermThere (now w) j × TermThere (now w) k ⌝ }
+    ensures { λ r. ⌜ r ≡ follows Rule.cipher (saysTerm (now (w .entry)) j ∷ saysTerm (now (w .entry)) k ∷ []) (saysTerm (now (w .entry)) i) ⌝ }
+{
+    if word(w, i.s) != 3 {
+        return false;
+    }
+    let left = i.s + 1;
+    let right = term_end(w, left);
+    let a = term_premise(w, i, j, left);
+    let b = term_premise(w, i, k, right);
+    let c = same_as(w, i.t, Made::Un);
+    let d = same_as(w, k.t, Made::Symkey(j.t));
+    all4(a, b, c, d)
+}
+
+// E ⊢ M : Un, E ⊢ N : Un  ⟹  E ⊢ {M}N : Un
+pub fn by_cipher_Un(w: &[u32], i: Line, j: Line, k: Line) -> bool
+    requires { ⌜ TermThere (now w) i × TermThere (now w) j × TermThere (now w) k ⌝ }
+    ensures { λ r. ⌜ r ≡ follows Rule.cipher-Un (saysTerm (now (w .entry)) j ∷ saysTerm (now (w .entry)) k ∷ []) (saysTerm (now (w .entry)) i) ⌝ }
+{
+    if word(w, i.s) != 3 {
+        return false;
+    }
+    let left = i.s + 1;
+    let right = term_end(w, left);
+    let a = term_premise(w, i, j, left);
+    let b = term_premise(w, i, k, right);
+    let c = same_as(w, i.t, Made::Un);
+    let d = same_as(w, j.t, Made::Un);
+    let e = same_as(w, k.t, Made::Un);
+    all5(a, b, c, d, e)
+}
+
+// E ⊢ M : Un, E ⊢ N : Un  ⟹  E ⊢ (M, N) : Un
+pub fn by_pair_Un(w: &[u32], i: Line, j: Line, k: Line) -> bool
+    requires { ⌜ TermThere (now w) i × TermThere (now w) j × TermThere (now w) k ⌝ }
+    ensures { λ r. ⌜ r ≡ follows Rule.pair-Un (saysTerm (now (w .entry)) j ∷ saysTerm (now (w .entry)) k ∷ []) (saysTerm (now (w .entry)) i) ⌝ }
+{
+    if word(w, i.s) != 2 {
+        return false;
+    }
+    let left = i.s + 1;
+    let right = term_end(w, left);
+    let a = term_premise(w, i, j, left);
+    let b = term_premise(w, i, k, right);
+    let c = same_as(w, i.t, Made::Un);
+    let d = same_as(w, j.t, Made::Un);
+    let e = same_as(w, k.t, Made::Un);
+    all5(a, b, c, d, e)
 }

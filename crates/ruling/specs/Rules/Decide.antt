@@ -1,7 +1,7 @@
 -- A test that holds exactly if a rule is written out from its parts is the rule's own. Assumes nothing.
-use mathlib.Core.Bool.{Bool, true, false, true≢false}
+use mathlib.Core.Bool.{Bool, true, false, _&&_, true≢false}
 use mathlib.Core.List.{List}
-use mathlib.Core.Path.{_≡_, refl, sym, _∙_}
+use mathlib.Core.Path.{_≡_, refl, sym, _∙_, ap}
 use Rattle.words.specs.Choice.{choose}
 use Rattle.words.specs.Choice.Laws.{choose-yes, choose-no}
 use Rattle.words.specs.First.Laws.{clash}
@@ -47,3 +47,7 @@ held d b e h = test-true d (sym e ∙ h)
 
 pub holds-so : {P : Type 0} (d : Dec P) (b : Bool) → b ≡ test d → P → b ≡ true
 holds-so d b e p = e ∙ test-yes d p
+
+-- two tests put together
+pub two-tests : (a b p q r : Bool) → a ≡ p → b ≡ q → r ≡ (a && b) → r ≡ (p && q)
+two-tests a b p q r d e f = f ∙ ap (λ (z : Bool). z && b) d ∙ ap (λ (z : Bool). p && z) e

@@ -193,6 +193,9 @@ module _ (w : List ℕ) (a : ℕ) (t : Reads typeAt w a) where
           clash (test-yes (sameType (typeIn w (a + 1)) T) (injective (typeIn w (a + 1)) T (sym (wrapped-is .1) ∙ z))) (sym d)))
 
   -- a pair
+  pub pair-word : (S R : Ty) → typeIn w a ≡ Ty.pair S R → getD w a 0 ≡ 2
+  pair-word S R e = sym type-code ∙ ap codeOf e
+
   pub pair-other : (T U : Ty) → (getD w a 0 ≡ 2 → ⊥) → false ≡ test (sameType (typeIn w a) (Ty.pair T U))
   pair-other T U d = type-other (Ty.pair T U) d
 

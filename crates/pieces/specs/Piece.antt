@@ -44,11 +44,14 @@ module _ (w : List ℕ) (s : ℕ) (r : Pieces) where
 
 -- the process at s has these pieces
 pub record Pieced (w : List ℕ) (s : ℕ) (r : Pieces) : Type 0 where
+  pub low : 0 < getD w s 0
+  pub high : getD w s 0 ≤ 12
   pub inside : s < length w
   pub names : s + namesOf (getD w s 0) < length w
   pub one : (getD w s 0 ≡ 4 → ⊥) → (getD w s 0 ≡ 5 → ⊥) → (processIn w s ≡ built w s r (getD w s 0)) × Reads processAt w (r .p)
   pub two : getD w s 0 ≡ 4 → (q : ℕ) → Ends w (r .p) (restOf (processAt (drop (r .p) w))) q
       → (processIn w s ≡ Process.parallel (processIn w (r .p)) (processIn w q)) × Reads processAt w (r .p) × Reads processAt w q
+  pub parallel : getD w s 0 ≡ 4 → (P : Process) × (Q : Process) × (processIn w s ≡ Process.parallel P Q)
   pub stop : getD w s 0 ≡ 5 → processIn w s ≡ Process.stop
   pub first-term : 1 ≤ termsOf (getD w s 0) → Reads term w (r .m)
   pub second-term : 2 ≤ termsOf (getD w s 0) → Reads term w (r .n)

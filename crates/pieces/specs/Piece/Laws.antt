@@ -181,6 +181,22 @@ module _ (w : List ℕ) (s : ℕ) (t : Reads processAt w s) where
           record { behind = y; reads = ap (λ (u : List ℕ). restOf (processAt u)) (sym is) ∙ rest-some _ _ _ e },
         )
 
+    inner-parallel : getD w s 0 ≡ 4 → (A : Process) × (B : Process) × (processIn w s ≡ Process.parallel A B)
+    unfolding formed ownIn joined
+    inner-parallel d =
+        let two : processParts (getD w s 0) ≡ 2 = sym (parts-parallel (getD w s 0) d) in
+        let (p, h) = inner in
+        let there = ap (λ (k : ℕ). restOf (several processAt k (drop (r .next) w))) (sym two) ∙ p in
+        let (x, a, b, c) = first-process 1 (drop (r .next) w) (t .behind) there in
+        let (y, e, f, g) = first-process 0 x (t .behind) b in
+        let form : formed o (valueOr [] (several processAt (processParts (getD w s 0)) (drop (r .next) w)))
+        ≡ joined Process.parallel (valueOr [] (several processAt 2 (drop (r .next) w))) =
+        pick-true (eqb (getD w s 0) 4) _ _ (eq-eqb (getD w s 0) 4 d)
+        ∙ ap (λ (k : ℕ). joined Process.parallel (valueOr [] (several processAt k (drop (r .next) w)))) two in
+        let list = c ∙ ap (λ (l : List Process). valueOr Process.stop (processAt (drop (r .next) w)) ∷ l)
+        (g ∙ ap (λ (l : List Process). valueOr Process.stop (processAt x) ∷ l) (none-left y)) in
+        (_, _, heads (h ∙ form ∙ ap (joined Process.parallel) list))
+
     -- STOP
     inner-stop : getD w s 0 ≡ 5 → processIn w s ≡ Process.stop
     unfolding formed ownIn
@@ -290,14 +306,18 @@ module _ (w : List ℕ) (s : ℕ) (t : Reads processAt w s) where
       around-built d e = built-by (getD w s 0) refl (pl .exact .low) (pl .exact .high) d e
 
       pub pieced : Pieced w s R
+      unfolding ownIn
       pieced =
           record {
+            low = pl .exact .low;
+            high = pl .exact .high;
             inside = process-inside;
             names = pl .names;
             one = λ d e.
                 let (p, q) = inner-one d e in
                 (p ∙ around-built d e, q);
             two = λ d q z. inner-two d q z;
+            parallel = inner-parallel;
             stop = inner-stop;
             first-term = λ l. is-m l .0;
             second-term = λ l. is-n l .0;

@@ -128,7 +128,7 @@ module _ (w : List ℕ) (a : ℕ) (t : Reads typeAt w a) where
   reads-whole : restOf (typeAt (getD w a 0 ∷ drop (a + 1) w)) ≡ some (t .behind)
   reads-whole = sym (ap (λ (u : List ℕ). restOf (typeAt u)) whole) ∙ t .reads
 
-  type-code : codeOf (typeIn w a) ≡ getD w a 0
+  pub type-code : codeOf (typeIn w a) ≡ getD w a 0
   unfolding typeIn
   type-code = ap (λ (u : List ℕ). codeOf (valueOr Ty.Un (typeAt u))) whole ∙ code-from (getD w a 0) (drop (a + 1) w) (t .behind) reads-whole
 
@@ -248,6 +248,9 @@ module _ (w : List ℕ) (a : ℕ) (t : Reads typeAt w a) where
         firsts z = cc
 
   -- a nonce
+  pub nonce-word : (es : List Effect) → typeIn w a ≡ Ty.nonce es → getD w a 0 ≡ 5
+  nonce-word es e = sym type-code ∙ ap codeOf e
+
   pub nonce-other : (es : List Effect) → (getD w a 0 ≡ 5 → ⊥) → false ≡ test (sameType (typeIn w a) (Ty.nonce es))
   nonce-other es d = type-other (Ty.nonce es) d
 

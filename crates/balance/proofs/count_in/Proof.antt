@@ -26,7 +26,8 @@ returns-2 c =
     let after-s : tie.After-s = search in
     let start : tie.Start = search in
     let (there, low, high, other) = start .pre in (
-      in-one _ _ _ _ _ (after-s .s .given .1) there _ _ low high (else1 .if1 .left) _ (after-same-term .same-term .ensures) _
+      in-one _ _ _ _ _ (after-s .s .given .1) there _ _ low high (else1 .if1 .left) _
+          (after-same-term .same-term .ensures) _
           (c .one .ensures .0),
       omega (arith, other .some-word, other .inside, c .one .ensures .1),
     )

@@ -57,7 +57,8 @@ by-same c d M N l h k m e = elim (decEq c 1) [
   ]
 ]
 
-pub by-other : (c d : ℕ) (M N : Term) → 0 < c → c ≤ 2 → 0 < d → d ≤ 2 → (c ≡ d → ⊥) → false ≡ test (sameEffect (effectBy c M) (effectBy d N))
+pub by-other : (c d : ℕ) (M N : Term) → 0 < c → c ≤ 2 → 0 < d → d ≤ 2 → (c ≡ d → ⊥)
+    → false ≡ test (sameEffect (effectBy c M) (effectBy d N))
 by-other c d M N l h k m e = sym (test-no (sameEffect (effectBy c M) (effectBy d N)) (λ z. e (by-same c d M N l h k m z .0)))
 
 pub by-one : (c d : ℕ) (M N : Term) → 0 < c → c ≤ 2 → c ≡ d → (b : Bool) → b ≡ test (sameTerm M N)
@@ -342,7 +343,8 @@ module _ (w : List ℕ) (r a b d : Effects) where
   pub balance-given : (p : Bool) → p ≡ every L A → not p ≡ true → false ≡ test (sameEffects (bag R) X)
   balance-given p e z = fails-in A p e z
 
-  pub balance-added : (p : Bool) → p ≡ every L R → not p ≡ false → (q : Bool) → q ≡ every L A → not q ≡ false → (s : Bool) → s ≡ every L D
+  pub balance-added : (p : Bool) → p ≡ every L R → not p ≡ false → (q : Bool) → q ≡ every L A → not q ≡ false → (s : Bool)
+      → s ≡ every L D
       → s ≡ test (sameEffects (bag R) X)
   balance-added p e x q f y true g =
       sym (test-yes (sameEffects (bag R) X) (all-level (sym e ∙ not-false p x) (sym f ∙ not-false q y) (sym g)))

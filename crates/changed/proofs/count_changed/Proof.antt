@@ -30,8 +30,10 @@ is-changed-requires c κs =
     let (reads, own, own-term, there) = start .pre in (
       own,
       own-term,
-      tally-end _ _ _ _ _ _ _ _ _ (at-loop .loop .inv) (in-loop .loop-test .taken) _ (after-term-end .term-end .ensures),
-      tally-term _ _ _ _ _ _ _ _ _ (at-loop .loop .inv) (in-loop .loop-test .taken) _ (after-term-end .term-end .ensures),
+      tally-end _ _ _ _ _ _ _ _ _ (at-loop .loop .inv) (in-loop .loop-test .taken) _
+          (after-term-end .term-end .ensures),
+      tally-term _ _ _ _ _ _ _ _ _ (at-loop .loop .inv) (in-loop .loop-test .taken) _
+          (after-term-end .term-end .ensures),
       there,
     )
 

@@ -10,7 +10,8 @@ returns c =
     let after-wide : tie.After-wide = search in
     let then1 : tie.Then1 = search in
     let after-by : tie.After-by = search in
-    bind-bound _ _ _ _ (after-by .by .given .1) _ _ _ (then1 .if1 .taken) _ (after-wide .wide .ensures .0) (c .pair-end .ensures)
+    bind-bound _ _ _ _ (after-by .by .given .1) _ _ _ (then1 .if1 .taken) _ (after-wide .wide .ensures .0)
+    (c .pair-end .ensures)
 
 returns-2 : tie.Need-returns-2
 returns-2 c =
@@ -47,7 +48,8 @@ returns-5 c =
     let else2 : tie.Else2 = search in
     let else1 : tie.Else1 = search in
     let after-by : tie.After-by = search in
-    bind-name _ _ _ _ (after-by .by .given .1) _ _ _ (else1 .if1 .left) (else2 .if2 .left) _ (after-wide2 .wide2 .ensures .0)
+    bind-name _ _ _ _ (after-by .by .given .1) _ _ _ (else1 .if1 .left) (else2 .if2 .left) _
+    (after-wide2 .wide2 .ensures .0)
     (c .pair-end3 .ensures)
 
 returns-6 : tie.Need-returns-6

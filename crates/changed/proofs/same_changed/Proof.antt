@@ -53,7 +53,8 @@ returns c =
     let after-type-own2 : tie.After-type-own2 Inv-loop μ-loop = search in
     let in-loop : tie.In-loop Inv-loop μ-loop = search in
     let at-loop : tie.At-loop Inv-loop μ-loop = search in
-    pairing-words _ _ _ _ _ _ _ _ _ (at-loop .loop .inv) (in-loop .loop-test .taken) _ (after-type-own .type-own .ensures) _
+    pairing-words _ _ _ _ _ _ _ _ _ (at-loop .loop .inv) (in-loop .loop-test .taken) _
+    (after-type-own .type-own .ensures) _
     (after-type-own2 .type-own2 .ensures) (c .if1 .taken)
 
 same-changed-own-requires : tie.Need-same-changed-own-requires Inv-loop μ-loop
@@ -66,7 +67,8 @@ same-changed-own-requires c κs =
     let start : tie.Start Inv-loop μ-loop = search in (
       pairing-left _ _ _ _ _ _ _ _ _ (at-loop .loop .inv) (in-loop .loop-test .taken),
       pairing-right _ _ _ _ _ _ _ _ _ (at-loop .loop .inv) (in-loop .loop-test .taken),
-      pairing-own _ _ _ _ _ _ _ _ _ (at-loop .loop .inv) (in-loop .loop-test .taken) _ (after-type-own .type-own .ensures),
+      pairing-own _ _ _ _ _ _ _ _ _ (at-loop .loop .inv) (in-loop .loop-test .taken) _
+          (after-type-own .type-own .ensures),
       pairing-other _ _ _ _ _ _ _ _ _ (at-loop .loop .inv) (in-loop .loop-test .taken) _
           (after-type-own2 .type-own2 .ensures),
       else1 .if1 .left,
@@ -81,7 +83,8 @@ returns-2 c =
     let after-type-own2 : tie.After-type-own2 Inv-loop μ-loop = search in
     let in-loop : tie.In-loop Inv-loop μ-loop = search in
     let at-loop : tie.At-loop Inv-loop μ-loop = search in
-    pairing-effects _ _ _ _ _ _ _ _ _ (at-loop .loop .inv) (in-loop .loop-test .taken) _ (after-type-own .type-own .ensures)
+    pairing-effects _ _ _ _ _ _ _ _ _ (at-loop .loop .inv) (in-loop .loop-test .taken) _
+    (after-type-own .type-own .ensures)
     _ (after-type-own2 .type-own2 .ensures) (else1 .if1 .left) _ (after-same-changed-own .same-changed-own .ensures)
     (c .if2 .taken)
 
@@ -104,7 +107,8 @@ loop-again c =
     let after-type-own2 : tie.After-type-own2 Inv-loop μ-loop = search in
     let in-loop : tie.In-loop Inv-loop μ-loop = search in
     let at-loop : tie.At-loop Inv-loop μ-loop = search in
-    pairing-again _ _ _ _ _ _ _ _ _ (at-loop .loop .inv) (in-loop .loop-test .taken) _ (after-type-own .type-own .ensures) _
+    pairing-again _ _ _ _ _ _ _ _ _ (at-loop .loop .inv) (in-loop .loop-test .taken) _
+    (after-type-own .type-own .ensures) _
     (after-type-own2 .type-own2 .ensures) (else1 .if1 .left) _ (after-same-changed-own .same-changed-own .ensures)
     (else2 .if2 .left) _ (after-type-parts .type-parts .ensures .0) (after-type-parts .type-parts .ensures .1)
 

@@ -38,7 +38,8 @@ module _ (c : tie.In-loop Inv-loop μ-loop) where
 
   inside : at-loop .loop .i < length (start .args .w .now)
   inside =
-      weighing-inside _ (changeBy (start .args .w .now) (start .args .by)) _ _ (start .args .end) _ _ (start .args .last) (start .pre .0) (start .pre .1) _ _
+      weighing-inside _ (changeBy (start .args .w .now) (start .args .by)) _ _ (start .args .end) _ _
+      (start .args .last) (start .pre .0) (start .pre .1) _ _
       (at-loop .loop .inv) (c .loop-test .taken)
 
 count-effect-requires : tie.Need-count-effect-requires Inv-loop μ-loop
@@ -49,7 +50,8 @@ count-effect-requires c κs =
     let start : tie.Start Inv-loop μ-loop = search in
     let (first, second, there) = start .pre in (
       first,
-      weighing-end _ (changeBy (start .args .w .now) (start .args .by)) _ _ (start .args .end) _ _ (start .args .last) first second _ _ (at-loop .loop .inv)
+      weighing-end _ (changeBy (start .args .w .now) (start .args .by)) _ _ (start .args .end) _ _ (start .args .last)
+          first second _ _ (at-loop .loop .inv)
           (in-loop .loop-test .taken) _ (after-term-end .term-end .ensures),
     )
 
@@ -61,9 +63,11 @@ count-changed-requires c κs =
     let start : tie.Start Inv-loop μ-loop = search in
     let (first, second, there) = start .pre in (
       second,
-      weighing-end _ (changeBy (start .args .w .now) (start .args .by)) _ _ (start .args .end) _ _ (start .args .last) first second _ _ (at-loop .loop .inv)
+      weighing-end _ (changeBy (start .args .w .now) (start .args .by)) _ _ (start .args .end) _ _ (start .args .last)
+          first second _ _ (at-loop .loop .inv)
           (in-loop .loop-test .taken) _ (after-term-end .term-end .ensures),
-      weighing-term _ (changeBy (start .args .w .now) (start .args .by)) _ _ (start .args .end) _ _ (start .args .last) first second _ _ (at-loop .loop .inv)
+      weighing-term _ (changeBy (start .args .w .now) (start .args .by)) _ _ (start .args .end) _ _ (start .args .last)
+          first second _ _ (at-loop .loop .inv)
           (in-loop .loop-test .taken) _ (after-term-end .term-end .ensures),
       there,
     )
@@ -74,7 +78,8 @@ returns-2 c =
     let after-count-effect : tie.After-count-effect Inv-loop μ-loop = search in
     let start : tie.Start Inv-loop μ-loop = search in
     let (first, second, there) = start .pre in
-    bags-differ _ _ _ _ (start .args .end) _ _ (start .args .last) first second _ _ _ (after-count-effect .count-effect .ensures)
+    bags-differ _ _ _ _ (start .args .end) _ _ (start .args .last) first second _ _ _
+    (after-count-effect .count-effect .ensures)
     (after-count-changed .count-changed .ensures) (c .if2 .taken)
 
 loop-again : tie.Need-loop-again Inv-loop μ-loop
@@ -87,7 +92,8 @@ loop-again c =
     let at-loop : tie.At-loop Inv-loop μ-loop = search in
     let start : tie.Start Inv-loop μ-loop = search in
     let (first, second, there) = start .pre in
-    weighing-again _ _ _ _ (start .args .end) _ _ (start .args .last) first second _ _ (at-loop .loop .inv) (in-loop .loop-test .taken) _
+    weighing-again _ _ _ _ (start .args .end) _ _ (start .args .last) first second _ _ (at-loop .loop .inv)
+    (in-loop .loop-test .taken) _
     (after-term-end .term-end .ensures) _ _ (after-count-effect .count-effect .ensures)
     (after-count-changed .count-changed .ensures) (else2 .if2 .left)
 
@@ -97,7 +103,8 @@ returns-3 c =
     let else1 : tie.Else1 Inv-loop μ-loop = search in
     let start : tie.Start Inv-loop μ-loop = search in
     let (first, second, there) = start .pre in
-    weighing-done _ _ _ _ (start .args .end) _ _ (start .args .last) first second _ _ (at-loop .loop .inv) (else1 .if1 .left) (c .loop-test .left)
+    weighing-done _ _ _ _ (start .args .end) _ _ (start .args .last) first second _ _ (at-loop .loop .inv)
+    (else1 .if1 .left) (c .loop-test .left)
 
 pub same-changed-bag-spec : {M : Type 1} → statement M
 same-changed-bag-spec =

@@ -1,4 +1,5 @@
--- `changed::step_end` meets its contract: a word of two parts stays, and a leaf becomes what the change makes of it. Assumes nothing.
+-- `changed::step_end` meets its contract: a word of two parts stays, and a leaf becomes what the change makes of it.
+-- Assumes nothing.
 use borrow.Author.Needs.{needs}
 use native.Mathlib.Omega.{arith}
 use Rattle.changed.specs.Put.Laws.{step-two, step-leaf, leaf-inside}
@@ -12,7 +13,8 @@ leaf-end-requires c κs =
     let start : tie.Start = search in
     let (first, second, behind, begins, there) = start .pre in (
       first,
-      leaf-inside (start .args .w .now) _ _ behind begins (after-term-turn .term-turn .ensures .0) (after-term-turn .term-turn .ensures .1)
+      leaf-inside (start .args .w .now) _ _ behind begins (after-term-turn .term-turn .ensures .0)
+          (after-term-turn .term-turn .ensures .1)
           (else1 .if1 .left),
       there,
     )

@@ -194,7 +194,8 @@ module _ (w : List ℕ) (i : ℕ) (by : By) (m end : ℕ) (q : by ≡ Put m end)
       stood-as w i r _ _ (rw (q, leaf-bound c n d, less) (ap (λ (z : ℕ). termWords (atBound (Change.put (termIn w m)) z)) (pred n e))) s
 
 -- ---- one step
-pub step-two : (w : List ℕ) (i r : ℕ) (ch : Change) (c n t : ℕ) → t ≡ termTurn c → t ≡ 2 → Stood w i (c ∷ []) r → Stood w i (stepWords ch c n) r
+pub step-two : (w : List ℕ) (i r : ℕ) (ch : Change) (c n t : ℕ) → t ≡ termTurn c → t ≡ 2 → Stood w i (c ∷ []) r
+    → Stood w i (stepWords ch c n) r
 unfolding stepWords
 step-two w i r ch c n t e d s = stood-as w i r _ _ (pick-true (eqb (termTurn c) 2) _ _ (eq-eqb (termTurn c) 2 (sym e ∙ d))) s
 
@@ -204,7 +205,8 @@ pub step-leaf : (w : List ℕ) (i r : ℕ) (ch : Change) (c n t : ℕ) → t ≡
 unfolding stepWords
 step-leaf w i r ch c n t e d s = stood-as w i r _ _ (pick-false (eqb (termTurn c) 2) _ _ (ne-eqb (termTurn c) 2 (λ z. d (e ∙ z)))) s
 
-pub leaf-inside : (w : List ℕ) (j t : ℕ) → (termTurn (getD w j 0) ≡ 1 → j + 1 < length w) → 0 < termTurn (getD w j 0) → t ≡ termTurn (getD w j 0)
+pub leaf-inside : (w : List ℕ) (j t : ℕ) → (termTurn (getD w j 0) ≡ 1 → j + 1 < length w) → 0 < termTurn (getD w j 0)
+    → t ≡ termTurn (getD w j 0)
     → t ≤ 2
     → (t ≡ 2 → ⊥) → j + 1 < length w
 leaf-inside w j t f l e k d = f (omega arith)
@@ -448,7 +450,11 @@ module _ (w : List ℕ) (ch : Change) (a b f i j due : ℕ) (t : Along w ch a b 
   along-done h =
       let z : due ≡ 0 = omega arith in
       sym (test-yes (sameTerm (termIn w a) (changeTerm ch (termIn w b)))
-      (t .from (drop i w, sym (ap (λ (u : List ℕ). u ++ drop i w) (ap (λ (m : ℕ). changedWords ch (valueOr [] (terms (drop j w) m))) z ∙ go (drop j w))))))
+      (t .from (
+        drop i w,
+        sym (ap (λ (u : List ℕ). u ++ drop i w)
+            (ap (λ (m : ℕ). changedWords ch (valueOr [] (terms (drop j w) m))) z ∙ go (drop j w))),
+      )))
     where
       go : (u : List ℕ) → changedWords ch (valueOr [] (terms u 0)) ≡ []
       go [] = words-none ch

@@ -110,7 +110,8 @@ module _ (w : List ℕ) (ch : Change) (a e b f i j due : ℕ) (t : Pairing w ch 
           ∙ ap headCode (sym (x .list) ∙ g ∙ right-list (typeParts (getD w j 0)) y)
           ∙ form-code (getD w j 0) _ _ (y .begins) (right-long (typeParts (getD w j 0)) y)))
 
-      module _ (same : getD w i 0 ≡ getD w j 0) (c : Bool) (d : c ≡ test (sameEffects (ownEffects (drop i w)) (changedOwn ch (ownEffects (drop j w))))) where
+      module _ (same : getD w i 0 ≡ getD w j 0) (c : Bool)
+          (d : c ≡ test (sameEffects (ownEffects (drop i w)) (changedOwn ch (ownEffects (drop j w))))) where
         pub pairing-effects : not c ≡ true → false ≡ test (sameType (typeIn w a) (changeType ch (typeIn w b)))
         pairing-effects g =
             let x = along-turn w e i due (t .left) h r q (typeParts (getD w i 0)) refl (parts-small (getD w i 0)) in

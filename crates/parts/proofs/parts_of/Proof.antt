@@ -29,7 +29,8 @@ list-end-requires c κs =
     let after-terms-end : tie.After-terms-end = search in
     let after-counts-of : tie.After-counts-of = search in
     let start : tie.Start = search in
-    found-types-inside _ _ (start .pre) _ _ _ (after-counts-of .counts-of .ensures) _ (after-terms-end .terms-end .ensures) _
+    found-types-inside _ _ (start .pre) _ _ _ (after-counts-of .counts-of .ensures) _
+    (after-terms-end .terms-end .ensures) _
     (after-types-end .types-end .ensures)
 
 pub parts-of-spec : {M : Type 1} → statement M

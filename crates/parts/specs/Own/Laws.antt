@@ -72,14 +72,19 @@ pub counted-check : (c : ℕ) → c ≡ 12 → Counted c 0 2 0
 unfolding namesOf termsOf typesOf pick
 counted-check c e = counted-at c 12 e (omega arith) (omega arith) (omega arith)
 
-pub counted-none : (c : ℕ) → (c ≡ 6 → ⊥) → (c ≡ 7 → ⊥) → (c ≡ 8 → ⊥) → (c ≡ 3 → ⊥) → (c ≡ 1 → ⊥) → (c ≡ 11 → ⊥) → (c ≡ 2 → ⊥) → (c ≡ 12 → ⊥) → (c ≡ 9 → ⊥) → (c ≡ 10 → ⊥)
+pub counted-none : (c : ℕ) → (c ≡ 6 → ⊥) → (c ≡ 7 → ⊥) → (c ≡ 8 → ⊥) → (c ≡ 3 → ⊥) → (c ≡ 1 → ⊥)
+    → (c ≡ 11 → ⊥) → (c ≡ 2 → ⊥) → (c ≡ 12 → ⊥) → (c ≡ 9 → ⊥) → (c ≡ 10 → ⊥)
     → Counted c 0 0 0
 unfolding namesOf termsOf typesOf
 counted-none c d6 d7 d8 d3 d1 d11 d2 d12 d9 d10 =
     record {
-      names = sym (pick-false (eqb c 6) _ _ (ne-eqb c 6 d6) ∙ pick-false (eqb c 1) _ _ (ne-eqb c 1 d1) ∙ pick-false (eqb c 3) _ _ (ne-eqb c 3 d3) ∙ pick-false (eqb c 7) _ _ (ne-eqb c 7 d7) ∙ pick-false (eqb c 8) _ _ (ne-eqb c 8 d8) ∙ pick-false (eqb c 11) _ _ (ne-eqb c 11 d11));
-      terms = sym (pick-false (eqb c 2) _ _ (ne-eqb c 2 d2) ∙ pick-false (eqb c 7) _ _ (ne-eqb c 7 d7) ∙ pick-false (eqb c 8) _ _ (ne-eqb c 8 d8) ∙ pick-false (eqb c 12) _ _ (ne-eqb c 12 d12) ∙ pick-false (eqb c 3) _ _ (ne-eqb c 3 d3) ∙ pick-false (eqb c 6) _ _ (ne-eqb c 6 d6) ∙ pick-false (eqb c 9) _ _ (ne-eqb c 9 d9) ∙ pick-false (eqb c 10) _ _ (ne-eqb c 10 d10) ∙ pick-false (eqb c 11) _ _ (ne-eqb c 11 d11));
-      types = sym (pick-false (eqb c 6) _ _ (ne-eqb c 6 d6) ∙ pick-false (eqb c 1) _ _ (ne-eqb c 1 d1) ∙ pick-false (eqb c 3) _ _ (ne-eqb c 3 d3) ∙ pick-false (eqb c 7) _ _ (ne-eqb c 7 d7) ∙ pick-false (eqb c 8) _ _ (ne-eqb c 8 d8));
+      names = sym (pick-false (eqb c 6) _ _ (ne-eqb c 6 d6) ∙ pick-false (eqb c 1) _ _ (ne-eqb c 1 d1) ∙ pick-false (eqb c 3) _ _ (ne-eqb c 3 d3)
+          ∙ pick-false (eqb c 7) _ _ (ne-eqb c 7 d7) ∙ pick-false (eqb c 8) _ _ (ne-eqb c 8 d8) ∙ pick-false (eqb c 11) _ _ (ne-eqb c 11 d11));
+      terms = sym (pick-false (eqb c 2) _ _ (ne-eqb c 2 d2) ∙ pick-false (eqb c 7) _ _ (ne-eqb c 7 d7) ∙ pick-false (eqb c 8) _ _ (ne-eqb c 8 d8)
+          ∙ pick-false (eqb c 12) _ _ (ne-eqb c 12 d12) ∙ pick-false (eqb c 3) _ _ (ne-eqb c 3 d3) ∙ pick-false (eqb c 6) _ _ (ne-eqb c 6 d6)
+          ∙ pick-false (eqb c 9) _ _ (ne-eqb c 9 d9) ∙ pick-false (eqb c 10) _ _ (ne-eqb c 10 d10) ∙ pick-false (eqb c 11) _ _ (ne-eqb c 11 d11));
+      types = sym (pick-false (eqb c 6) _ _ (ne-eqb c 6 d6) ∙ pick-false (eqb c 1) _ _ (ne-eqb c 1 d1) ∙ pick-false (eqb c 3) _ _ (ne-eqb c 3 d3)
+          ∙ pick-false (eqb c 7) _ _ (ne-eqb c 7 d7) ∙ pick-false (eqb c 8) _ _ (ne-eqb c 8 d8));
       few-names = omega arith;
       few-terms = omega arith;
       few-types = omega arith;
@@ -97,7 +102,8 @@ with-then (n ∷ u) k g = simp then-assoc
 
 pub processes-own : (f p q c : ℕ) (u : List ℕ) → q ≡ p + processParts c
     → processes (suc f) (suc p) (c ∷ u) ≡ then (ownOf (c ∷ u)) (λ z. after (formed (z .0)) (processes f q (z .1)))
-unfolding processes ownOf ownBehind namesOf termsOf typesOf processParts pick then several name ahead castEffects withTerm withType withEffects formed around aroundBy fore next
+unfolding processes ownOf ownBehind namesOf termsOf typesOf processParts pick then several name ahead castEffects withTerm withType withEffects formed around
+    aroundBy fore next
 processes-own f p q zero u e = refl
 processes-own f p q (suc zero) [] e = refl
 processes-own f p q (suc zero) (x ∷ u) e =

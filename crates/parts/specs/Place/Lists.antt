@@ -69,7 +69,8 @@ module _ (w : List ℕ) (c a e : ℕ) (b : At w a (restOf (castEffects c (drop a
 
 pub lists-bags : (u v : List ℕ) (c a e b f : ℕ) → At u a (restOf (castEffects c (drop a u))) e → At v b (restOf (castEffects c (drop b v))) f
     → c ≡ 11
-    → (n m : ℕ) → n ≡ getD u a 0 → m ≡ getD v b 0 → (r : Bool) → r ≡ test (sameEffects (bag (effectsIn u (a + 1) n)) (bag (effectsIn v (b + 1) m)))
+    → (n m : ℕ) → n ≡ getD u a 0 → m ≡ getD v b 0 → (r : Bool)
+    → r ≡ test (sameEffects (bag (effectsIn u (a + 1) n)) (bag (effectsIn v (b + 1) m)))
     → r ≡ test (sameEffects (valueOr [] (castEffects c (drop a u))) (valueOr [] (castEffects c (drop b v))))
 lists-bags u v c a e b f s t cast n m x y r d =
     d ∙ ap (λ (es : List Effect). test (sameEffects es (bag (effectsIn v (b + 1) m)))) (list-value u c a e s cast n x)

@@ -38,7 +38,8 @@ unfolding then ahead restOf
 one-rest none = refl
 one-rest (some p) = refl
 
-one-value : (o : Read Process) (v : List ℕ) → restOf o ≡ some v → valueOr [] (then o (λ p. ahead (p .0) (some ([], p .1)))) ≡ valueOr Process.stop o ∷ []
+one-value : (o : Read Process) (v : List ℕ) → restOf o ≡ some v
+    → valueOr [] (then o (λ p. ahead (p .0) (some ([], p .1)))) ≡ valueOr Process.stop o ∷ []
 unfolding then ahead restOf valueOr
 one-value none v e = absurd (let z : _≡_ {A = ℕ} 0 1 = cc in omega arith)
 one-value (some p) v e = refl
@@ -122,7 +123,8 @@ module _ (w : List ℕ) (end i due : ℕ) (t : Along w end i due) (h : 0 < due) 
   along-parts r p = along-turn r p (processParts (getD w i 0)) refl (few-parts (getD w i 0))
     where
       few-parts : (c : ℕ) → processParts c ≤ 2
-      few-parts c = pick-ind (λ (k : ℕ). k ≤ 2) (eqb c 4) 2 _ (λ _. omega arith) (λ _. pick-ind (λ (k : ℕ). k ≤ 2) (eqb c 5) 0 1 (λ _. omega arith) (λ _. omega arith))
+      few-parts c = pick-ind (λ (k : ℕ). k ≤ 2) (eqb c 4) 2 _ (λ _. omega arith)
+          (λ _. pick-ind (λ (k : ℕ). k ≤ 2) (eqb c 5) 0 1 (λ _. omega arith) (λ _. omega arith))
 
 list-none : (w : List ℕ) (i : ℕ) → listIn processAt w i 0 ≡ []
 unfolding listIn several valueOr
@@ -204,7 +206,8 @@ module _ (u : List ℕ) (a e : ℕ) (v : List ℕ) (b f i j due : ℕ) (t : Pair
             let (w, k, l, o, r) = parted z in
             clash (m ∙ same-own (ownIn u i p) (ownIn v j q) w k l o) (not-true _ n))
 
-        pub pairing-again : (c : Bool) → c ≡ sameOwn (ownIn u i p) (ownIn v j q) → not c ≡ false → (n : ℕ) → n ≡ processParts (getD u i 0) → n ≤ 2
+        pub pairing-again : (c : Bool) → c ≡ sameOwn (ownIn u i p) (ownIn v j q) → not c ≡ false → (n : ℕ) → n ≡ processParts (getD u i 0)
+            → n ≤ 2
             → Pairing u a e v b f (p .next) (q .next) (due + n - 1)
         unfolding ownIn
         pairing-again c m o n k l =

@@ -142,7 +142,8 @@ module _ (w : List ℕ) (s : ℕ) (t : Reads processAt w s) where
         (p, sym (single .1) ∙ ap (valueOr []) e ∙ q)
 
     -- a process with one in it
-    inner-one : (getD w s 0 ≡ 4 → ⊥) → (getD w s 0 ≡ 5 → ⊥) → (processIn w s ≡ around o (processIn w (r .next))) × Reads processAt w (r .next)
+    inner-one : (getD w s 0 ≡ 4 → ⊥) → (getD w s 0 ≡ 5 → ⊥) → (processIn w s ≡ around o (processIn w (r .next)))
+        × Reads processAt w (r .next)
     unfolding formed ownIn processIn altered
     inner-one d e =
         let one : processParts (getD w s 0) ≡ 1 = sym (parts-other (getD w s 0) d e) in

@@ -1,4 +1,5 @@
--- `ruling::by_name` meets its contract: the term is a name, and stands in the environment with its type. Assumes nothing.
+-- `ruling::by_name` meets its contract: the term is a name, and stands in the environment with its type. Assumes
+-- nothing.
 use borrow.Author.Needs.{needs}
 use mathlib.Core.Path.{sym, _∙_, ap}
 use native.Mathlib.Omega.{arith}
@@ -45,7 +46,8 @@ returns-2 c =
     let start : tie.Start = search in
     let named = term-name _ _ (start .pre .0 .term) (sym (after-word .word .ensures) ∙ else1 .if1 .left) in
     name _ _ _ _ _ (named ∙ ap Term.name (sym (after-word2 .word2 .ensures))) _ _ _
-    (after-environments-alike .environments-alike .ensures) (after-entry-stands .entry-stands .ensures) (c .both .ensures)
+    (after-environments-alike .environments-alike .ensures) (after-entry-stands .entry-stands .ensures)
+    (c .both .ensures)
 
 pub by-name-spec : {M : Type 1} → statement M
 by-name-spec =

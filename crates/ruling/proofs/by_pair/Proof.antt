@@ -1,4 +1,5 @@
--- `ruling::by_pair` meets its contract: the term and the type by their parts, and the second type with the first term put in. Assumes nothing.
+-- `ruling::by_pair` meets its contract: the term and the type by their parts, and the second type with the first term
+-- put in. Assumes nothing.
 use borrow.Author.Needs.{needs}
 use mathlib.Core.Path.{sym, _∙_, ap}
 use native.Mathlib.Omega.{arith}

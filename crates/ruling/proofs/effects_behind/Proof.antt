@@ -27,7 +27,8 @@ returns-2 c =
     let after-term-end : tie.After-term-end = search in
     let else1 : tie.Else1 = search in
     let start : tie.Start = search in
-    behind-others _ _ _ (start .pre) (else1 .if1 .left) _ (after-term-end .term-end .ensures) _ (c .effects-end .ensures)
+    behind-others _ _ _ (start .pre) (else1 .if1 .left) _ (after-term-end .term-end .ensures) _
+    (c .effects-end .ensures)
 
 pub effects-behind-spec : {M : Type 1} → statement M
 effects-behind-spec =

@@ -8,7 +8,8 @@ returns : tie.Need-returns
 returns c =
     let after-terms-alike : tie.After-terms-alike = search in
     let after-environments-alike : tie.After-environments-alike = search in
-    two-tests _ _ _ _ _ (after-environments-alike .environments-alike .ensures) (after-terms-alike .terms-alike .ensures)
+    two-tests _ _ _ _ _ (after-environments-alike .environments-alike .ensures)
+    (after-terms-alike .terms-alike .ensures)
     (c .both .ensures)
 
 pub term-premise-spec : {M : Type 1} → statement M

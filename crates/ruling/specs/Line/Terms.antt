@@ -69,7 +69,8 @@ term-cipher : (u : List ℕ) → term (3 ∷ u) ≡ twoOf term Term.cipher u
 unfolding term terms
 term-cipher u = ap (λ (r : Read (List Term)). only (after (joined Term.cipher) r)) (one-by-one (length u) u 2 (omega arith)) ∙ two-joined term Term.cipher u
 
-two-go : (f : Term → Term → Term) (o : Read Term) (v : List ℕ) → restOf (then o (λ p. then (term (p .1)) (λ q. some (f (p .0) (q .0), q .1)))) ≡ some v
+two-go : (f : Term → Term → Term) (o : Read Term) (v : List ℕ)
+    → restOf (then o (λ p. then (term (p .1)) (λ q. some (f (p .0) (q .0), q .1)))) ≡ some v
     → (x : List ℕ) × (restOf o ≡ some x) × (restOf (term x) ≡ some v)
     × (valueOr (Term.bound 0) (then o (λ p. then (term (p .1)) (λ q. some (f (p .0) (q .0), q .1))))
     ≡ f (valueOr (Term.bound 0) o) (valueOr (Term.bound 0) (term x)))
@@ -104,7 +105,8 @@ code-from (suc (suc (suc (suc zero)))) [] v e = absurd (let z : _≡_ {A = ℕ} 
 code-from (suc (suc (suc (suc zero)))) (n ∷ u) v e = ap (λ (r : Read Term). codeOf (valueOr (Term.bound 0) r)) (leaf-from (Term.bound n) u)
 code-from (suc (suc (suc (suc (suc c))))) u v e = absurd (let z : _≡_ {A = ℕ} 0 1 = cc in omega arith)
 
-name-from : (u v : List ℕ) → restOf (term (1 ∷ u)) ≡ some v → (n : ℕ) × (x : List ℕ) × (u ≡ n ∷ x) × (valueOr (Term.bound 0) (term (1 ∷ u)) ≡ Term.name n)
+name-from : (u v : List ℕ) → restOf (term (1 ∷ u)) ≡ some v → (n : ℕ) × (x : List ℕ) × (u ≡ n ∷ x)
+    × (valueOr (Term.bound 0) (term (1 ∷ u)) ≡ Term.name n)
 unfolding term terms restOf only then valueOr ahead
 name-from [] v e = absurd (let z : _≡_ {A = ℕ} 0 1 = cc in omega arith)
 name-from (n ∷ u) v e = (n, u, refl, ap (λ (r : Read Term). valueOr (Term.bound 0) r) (leaf-from (Term.name n) u))
@@ -176,7 +178,8 @@ module _ (w : List ℕ) (s : ℕ) (t : Reads term w s) where
     pub pair-left : Reads term w (s + 1)
     pair-left = first-reads 2 Term.pair term-pair e
 
-    pub pair-parts : (r : ℕ) → Ends w (s + 1) (restOf (term (drop (s + 1) w))) r → Reads term w r × (termIn w s ≡ Term.pair (termIn w (s + 1)) (termIn w r))
+    pub pair-parts : (r : ℕ) → Ends w (s + 1) (restOf (term (drop (s + 1) w))) r → Reads term w r
+        × (termIn w s ≡ Term.pair (termIn w (s + 1)) (termIn w r))
     pair-parts r q = both-parts 2 Term.pair term-pair e r q
 
   module _ (e : getD w s 0 ≡ 3) where

@@ -41,7 +41,8 @@ pub pair : (E E1 E2 : Environment) (M0 A B M1 M2 : Term) (T0 T S T1 T2 : Ty) →
     → r ≡ follows Rule.pair (Judgement.term E1 M1 T1 ∷ Judgement.term E2 M2 T2 ∷ []) (Judgement.term E M0 T0)
 unfolding left right nameOf second promised partsOf environmentOf termOf typeOf effectsOf processOf first rest printed asks
 pair E E1 E2 M0 A B M1 M2 T0 T S T1 T2 m n a b c d r d0 d1 d2 d3 f =
-    rw (m, n) (f ∙ decide Rule.pair (Judgement.term E1 M1 T1 ∷ Judgement.term E2 M2 T2 ∷ []) (Judgement.term E (Term.pair A B) (Ty.pair T S)) (a && (b && (c && d)))
+    rw (m, n) (f ∙ decide Rule.pair (Judgement.term E1 M1 T1 ∷ Judgement.term E2 M2 T2 ∷ []) (Judgement.term E (Term.pair A B) (Ty.pair T S))
+    (a && (b && (c && d)))
     (λ z.
     let (z0, y0) = both a (b && (c && d)) z in
     let (z1, y1) = both b (c && d) y0 in
@@ -58,8 +59,10 @@ pair E E1 E2 M0 A B M1 M2 T0 T S T1 T2 m n a b c d r d0 d1 d2 d3 f =
     (λ w.
     let p = w .premises in
     let q = w .conclusion in
-    (and-both a (b && (c && d)) (d0 ∙ and-both (test (sameEnvironment E1 E)) (test (sameTerm M1 A)) (test-yes (sameEnvironment E1 E) (cc)) (test-yes (sameTerm M1 A) (cc)))
-    (and-both b (c && d) (d1 ∙ and-both (test (sameEnvironment E2 E)) (test (sameTerm M2 B)) (test-yes (sameEnvironment E2 E) (cc)) (test-yes (sameTerm M2 B) (cc)))
+    (and-both a (b && (c && d)) (d0 ∙ and-both (test (sameEnvironment E1 E)) (test (sameTerm M1 A)) (test-yes (sameEnvironment E1 E) (cc))
+    (test-yes (sameTerm M1 A) (cc)))
+    (and-both b (c && d) (d1 ∙ and-both (test (sameEnvironment E2 E)) (test (sameTerm M2 B)) (test-yes (sameEnvironment E2 E) (cc))
+    (test-yes (sameTerm M2 B) (cc)))
     (and-both c d (holds-so (sameType T T1) c d2 (cc))
     (holds-so (sameType T2 (putting A S)) d d3 (cc)))))))
 
@@ -87,8 +90,10 @@ cipher E E1 E2 M0 A B M1 M2 T T1 T2 m a b c d r d0 d1 d2 d3 f =
     (λ w.
     let p = w .premises in
     let q = w .conclusion in
-    (and-both a (b && (c && d)) (d0 ∙ and-both (test (sameEnvironment E1 E)) (test (sameTerm M1 A)) (test-yes (sameEnvironment E1 E) (cc)) (test-yes (sameTerm M1 A) (cc)))
-    (and-both b (c && d) (d1 ∙ and-both (test (sameEnvironment E2 E)) (test (sameTerm M2 B)) (test-yes (sameEnvironment E2 E) (cc)) (test-yes (sameTerm M2 B) (cc)))
+    (and-both a (b && (c && d)) (d0 ∙ and-both (test (sameEnvironment E1 E)) (test (sameTerm M1 A)) (test-yes (sameEnvironment E1 E) (cc))
+    (test-yes (sameTerm M1 A) (cc)))
+    (and-both b (c && d) (d1 ∙ and-both (test (sameEnvironment E2 E)) (test (sameTerm M2 B)) (test-yes (sameEnvironment E2 E) (cc))
+    (test-yes (sameTerm M2 B) (cc)))
     (and-both c d (holds-so (sameType T Ty.Un) c d2 (cc))
     (holds-so (sameType T2 (Ty.symkey T1)) d d3 (cc)))))))
 
@@ -99,7 +104,8 @@ pub cipher-Un : (E E1 E2 : Environment) (M0 A B M1 M2 : Term) (T T1 T2 : Ty) →
     → r ≡ follows Rule.cipher-Un (Judgement.term E1 M1 T1 ∷ Judgement.term E2 M2 T2 ∷ []) (Judgement.term E M0 T)
 unfolding left right nameOf second promised partsOf environmentOf termOf typeOf effectsOf processOf first rest printed asks
 cipher-Un E E1 E2 M0 A B M1 M2 T T1 T2 m a b c d g r d0 d1 d2 d3 d4 f =
-    rw (m) (f ∙ decide Rule.cipher-Un (Judgement.term E1 M1 T1 ∷ Judgement.term E2 M2 T2 ∷ []) (Judgement.term E (Term.cipher A B) T) (a && (b && (c && (d && g))))
+    rw (m) (f ∙ decide Rule.cipher-Un (Judgement.term E1 M1 T1 ∷ Judgement.term E2 M2 T2 ∷ []) (Judgement.term E (Term.cipher A B) T)
+    (a && (b && (c && (d && g))))
     (λ z.
     let (z0, y0) = both a (b && (c && (d && g))) z in
     let (z1, y1) = both b (c && (d && g)) y0 in
@@ -118,8 +124,10 @@ cipher-Un E E1 E2 M0 A B M1 M2 T T1 T2 m a b c d g r d0 d1 d2 d3 d4 f =
     (λ w.
     let p = w .premises in
     let q = w .conclusion in
-    (and-both a (b && (c && (d && g))) (d0 ∙ and-both (test (sameEnvironment E1 E)) (test (sameTerm M1 A)) (test-yes (sameEnvironment E1 E) (cc)) (test-yes (sameTerm M1 A) (cc)))
-    (and-both b (c && (d && g)) (d1 ∙ and-both (test (sameEnvironment E2 E)) (test (sameTerm M2 B)) (test-yes (sameEnvironment E2 E) (cc)) (test-yes (sameTerm M2 B) (cc)))
+    (and-both a (b && (c && (d && g))) (d0 ∙ and-both (test (sameEnvironment E1 E)) (test (sameTerm M1 A)) (test-yes (sameEnvironment E1 E) (cc))
+    (test-yes (sameTerm M1 A) (cc)))
+    (and-both b (c && (d && g)) (d1 ∙ and-both (test (sameEnvironment E2 E)) (test (sameTerm M2 B)) (test-yes (sameEnvironment E2 E) (cc))
+    (test-yes (sameTerm M2 B) (cc)))
     (and-both c (d && g) (holds-so (sameType T Ty.Un) c d2 (cc))
     (and-both d g (holds-so (sameType T1 Ty.Un) d d3 (cc))
     (holds-so (sameType T2 Ty.Un) g d4 (cc))))))))
@@ -131,7 +139,8 @@ pub pair-Un : (E E1 E2 : Environment) (M0 A B M1 M2 : Term) (T T1 T2 : Ty) → M
     → r ≡ follows Rule.pair-Un (Judgement.term E1 M1 T1 ∷ Judgement.term E2 M2 T2 ∷ []) (Judgement.term E M0 T)
 unfolding left right nameOf second promised partsOf environmentOf termOf typeOf effectsOf processOf first rest printed asks
 pair-Un E E1 E2 M0 A B M1 M2 T T1 T2 m a b c d g r d0 d1 d2 d3 d4 f =
-    rw (m) (f ∙ decide Rule.pair-Un (Judgement.term E1 M1 T1 ∷ Judgement.term E2 M2 T2 ∷ []) (Judgement.term E (Term.pair A B) T) (a && (b && (c && (d && g))))
+    rw (m) (f ∙ decide Rule.pair-Un (Judgement.term E1 M1 T1 ∷ Judgement.term E2 M2 T2 ∷ []) (Judgement.term E (Term.pair A B) T)
+    (a && (b && (c && (d && g))))
     (λ z.
     let (z0, y0) = both a (b && (c && (d && g))) z in
     let (z1, y1) = both b (c && (d && g)) y0 in
@@ -150,14 +159,17 @@ pair-Un E E1 E2 M0 A B M1 M2 T T1 T2 m a b c d g r d0 d1 d2 d3 d4 f =
     (λ w.
     let p = w .premises in
     let q = w .conclusion in
-    (and-both a (b && (c && (d && g))) (d0 ∙ and-both (test (sameEnvironment E1 E)) (test (sameTerm M1 A)) (test-yes (sameEnvironment E1 E) (cc)) (test-yes (sameTerm M1 A) (cc)))
-    (and-both b (c && (d && g)) (d1 ∙ and-both (test (sameEnvironment E2 E)) (test (sameTerm M2 B)) (test-yes (sameEnvironment E2 E) (cc)) (test-yes (sameTerm M2 B) (cc)))
+    (and-both a (b && (c && (d && g))) (d0 ∙ and-both (test (sameEnvironment E1 E)) (test (sameTerm M1 A)) (test-yes (sameEnvironment E1 E) (cc))
+    (test-yes (sameTerm M1 A) (cc)))
+    (and-both b (c && (d && g)) (d1 ∙ and-both (test (sameEnvironment E2 E)) (test (sameTerm M2 B)) (test-yes (sameEnvironment E2 E) (cc))
+    (test-yes (sameTerm M2 B) (cc)))
     (and-both c (d && g) (holds-so (sameType T Ty.Un) c d2 (cc))
     (and-both d g (holds-so (sameType T1 Ty.Un) d d3 (cc))
     (holds-so (sameType T2 Ty.Un) g d4 (cc))))))))
 
 -- ---- another term
-pub name-other : (Js : List Judgement) (E : Environment) (M : Term) (T : Ty) → (codeOf M ≡ 1 → ⊥) → false ≡ follows Rule.name Js (Judgement.term E M T)
+pub name-other : (Js : List Judgement) (E : Environment) (M : Term) (T : Ty) → (codeOf M ≡ 1 → ⊥)
+    → false ≡ follows Rule.name Js (Judgement.term E M T)
 unfolding left right nameOf second promised partsOf environmentOf termOf typeOf effectsOf processOf first rest printed asks
 name-other Js E M T d =
     decide Rule.name Js (Judgement.term E M T) false (λ z. absurd (let y : _≡_ {A = ℕ} 0 1 = cc in omega arith))
@@ -166,7 +178,8 @@ name-other Js E M T d =
     subject : {N : Term} {S : Ty} → Judgement.term E M T ≡ Judgement.term E N S → M ≡ N
     subject z = cc
 
-pub pair-other : (Js : List Judgement) (E : Environment) (M : Term) (T : Ty) → (codeOf M ≡ 2 → ⊥) → false ≡ follows Rule.pair Js (Judgement.term E M T)
+pub pair-other : (Js : List Judgement) (E : Environment) (M : Term) (T : Ty) → (codeOf M ≡ 2 → ⊥)
+    → false ≡ follows Rule.pair Js (Judgement.term E M T)
 unfolding left right nameOf second promised partsOf environmentOf termOf typeOf effectsOf processOf first rest printed asks
 pair-other Js E M T d =
     decide Rule.pair Js (Judgement.term E M T) false (λ z. absurd (let y : _≡_ {A = ℕ} 0 1 = cc in omega arith))
@@ -175,7 +188,8 @@ pair-other Js E M T d =
     subject : {N : Term} {S : Ty} → Judgement.term E M T ≡ Judgement.term E N S → M ≡ N
     subject z = cc
 
-pub cipher-other : (Js : List Judgement) (E : Environment) (M : Term) (T : Ty) → (codeOf M ≡ 3 → ⊥) → false ≡ follows Rule.cipher Js (Judgement.term E M T)
+pub cipher-other : (Js : List Judgement) (E : Environment) (M : Term) (T : Ty) → (codeOf M ≡ 3 → ⊥)
+    → false ≡ follows Rule.cipher Js (Judgement.term E M T)
 unfolding left right nameOf second promised partsOf environmentOf termOf typeOf effectsOf processOf first rest printed asks
 cipher-other Js E M T d =
     decide Rule.cipher Js (Judgement.term E M T) false (λ z. absurd (let y : _≡_ {A = ℕ} 0 1 = cc in omega arith))
@@ -184,7 +198,8 @@ cipher-other Js E M T d =
     subject : {N : Term} {S : Ty} → Judgement.term E M T ≡ Judgement.term E N S → M ≡ N
     subject z = cc
 
-pub cipher-Un-other : (Js : List Judgement) (E : Environment) (M : Term) (T : Ty) → (codeOf M ≡ 3 → ⊥) → false ≡ follows Rule.cipher-Un Js (Judgement.term E M T)
+pub cipher-Un-other : (Js : List Judgement) (E : Environment) (M : Term) (T : Ty) → (codeOf M ≡ 3 → ⊥)
+    → false ≡ follows Rule.cipher-Un Js (Judgement.term E M T)
 unfolding left right nameOf second promised partsOf environmentOf termOf typeOf effectsOf processOf first rest printed asks
 cipher-Un-other Js E M T d =
     decide Rule.cipher-Un Js (Judgement.term E M T) false (λ z. absurd (let y : _≡_ {A = ℕ} 0 1 = cc in omega arith))
@@ -193,7 +208,8 @@ cipher-Un-other Js E M T d =
     subject : {N : Term} {S : Ty} → Judgement.term E M T ≡ Judgement.term E N S → M ≡ N
     subject z = cc
 
-pub pair-Un-other : (Js : List Judgement) (E : Environment) (M : Term) (T : Ty) → (codeOf M ≡ 2 → ⊥) → false ≡ follows Rule.pair-Un Js (Judgement.term E M T)
+pub pair-Un-other : (Js : List Judgement) (E : Environment) (M : Term) (T : Ty) → (codeOf M ≡ 2 → ⊥)
+    → false ≡ follows Rule.pair-Un Js (Judgement.term E M T)
 unfolding left right nameOf second promised partsOf environmentOf termOf typeOf effectsOf processOf first rest printed asks
 pair-Un-other Js E M T d =
     decide Rule.pair-Un Js (Judgement.term E M T) false (λ z. absurd (let y : _≡_ {A = ℕ} 0 1 = cc in omega arith))

@@ -16,7 +16,8 @@ unfolding saysProcess
 returns c =
     let after-pieces-of : tie.After-pieces-of = search in
     let after-word : tie.After-word = search in
-    cast-other _ _ _ _ (other-word _ _ _ (after-pieces-of .pieces-of .ensures) _ _ (after-word .word .ensures) (c .if1 .taken))
+    cast-other _ _ _ _ (other-word _ _ _ (after-pieces-of .pieces-of .ensures) _ _ (after-word .word .ensures)
+    (c .if1 .taken))
 
 effects-behind-requires-3 : tie.Need-effects-behind-requires-3
 effects-behind-requires-3 c κs =
@@ -80,7 +81,8 @@ returns-2 c =
     let after-word : tie.After-word = search in
     let start : tie.Start = search in
     let word-is = sym (after-word .word .ensures) ∙ else1 .if1 .left in
-    let (is, m, es, p) = cast-pieces _ _ _ (after-pieces-of .pieces-of .ensures) _ (after-word2 .word2 .ensures) word-is in
+    let (is, m, es, p) = cast-pieces _ _ _ (after-pieces-of .pieces-of .ensures) _ (after-word2 .word2 .ensures)
+    word-is in
     cast _ _ _ _ _ _ _ _ _ _ _ _ _ is _ _ _ _ _ _ (after-term-premise .term-premise .ensures)
     (after-entered .entered .ensures) (after-same-as .same-as .ensures)
     (stated _ _ _ _ _ _ (sum-two _ _ _ _ _ _ _) _ (after-balanced .balanced .ensures)) (after-fresh .fresh .ensures)

@@ -1,4 +1,5 @@
--- `running::by_check` meets its contract: the process by its pieces, the nonce by its effects, and the premises. Assumes nothing.
+-- `running::by_check` meets its contract: the process by its pieces, the nonce by its effects, and the premises.
+-- Assumes nothing.
 use borrow.Author.Needs.{needs}
 use mathlib.Core.Path.{sym, _∙_}
 use native.Mathlib.Omega.{arith}
@@ -17,7 +18,8 @@ unfolding saysProcess
 returns c =
     let after-pieces-of : tie.After-pieces-of = search in
     let after-word : tie.After-word = search in
-    check-other _ _ _ _ (other-word _ _ _ (after-pieces-of .pieces-of .ensures) _ _ (after-word .word .ensures) (c .if1 .taken))
+    check-other _ _ _ _ (other-word _ _ _ (after-pieces-of .pieces-of .ensures) _ _ (after-word .word .ensures)
+    (c .if1 .taken))
 
 returns-2 : tie.Need-returns-2
 unfolding saysTerm
@@ -93,7 +95,8 @@ balanced-requires c κs =
     let (is, m, n, p) = check-pieces _ _ _ (after-pieces-of .pieces-of .ensures) word-is in (
       after-effects-behind .effects-behind .ensures,
       after-effects-behind2 .effects-behind2 .ensures,
-      shape.nonce-reads _ _ (start .pre .2 .type) type-is _ (after-wide .wide .ensures .0 ∙ after-word3 .word3 .ensures) _
+      shape.nonce-reads _ _ (start .pre .2 .type) type-is _
+          (after-wide .wide .ensures .0 ∙ after-word3 .word3 .ensures) _
           (after-type-end .type-end .ensures),
       one-there _ _ _ _ (omega arith) (omega arith) m (after-term-end .term-end .ensures),
     )
@@ -117,7 +120,8 @@ returns-3 c =
     let start : tie.Start = search in
     let word-is = sym (after-word .word .ensures) ∙ else1 .if1 .left in
     let (is, m, n, p) = check-pieces _ _ _ (after-pieces-of .pieces-of .ensures) word-is in
-    let nonce = shape.nonce-is _ _ (start .pre .2 .type) type-is _ (after-wide .wide .ensures .0 ∙ after-word3 .word3 .ensures) in
+    let nonce = shape.nonce-is _ _ (start .pre .2 .type) type-is _
+    (after-wide .wide .ensures .0 ∙ after-word3 .word3 .ensures) in
     check _ _ _ _ _ _ _ _ _ _ _ _ _ _ _ _ is nonce _ _ _ _ _ _ (after-term-premise .term-premise .ensures)
     (after-term-premise2 .term-premise2 .ensures) (after-process-premise .process-premise .ensures)
     (after-same-as .same-as .ensures)

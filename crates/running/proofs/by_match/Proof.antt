@@ -1,4 +1,5 @@
--- `running::by_match` meets its contract: the process and the pair type by their pieces, the premises, and the type with the term put in. Assumes nothing.
+-- `running::by_match` meets its contract: the process and the pair type by their pieces, the premises, and the type
+-- with the term put in. Assumes nothing.
 use borrow.Author.Needs.{needs}
 use mathlib.Core.Path.{refl, sym, _∙_}
 use native.Mathlib.Omega.{arith}
@@ -17,7 +18,8 @@ unfolding saysProcess
 returns c =
     let after-pieces-of : tie.After-pieces-of = search in
     let after-word : tie.After-word = search in
-    match-other _ _ _ _ (other-word _ _ _ (after-pieces-of .pieces-of .ensures) _ _ (after-word .word .ensures) (c .if1 .taken))
+    match-other _ _ _ _ (other-word _ _ _ (after-pieces-of .pieces-of .ensures) _ _ (after-word .word .ensures)
+    (c .if1 .taken))
 
 returns-2 : tie.Need-returns-2
 unfolding saysTerm
@@ -140,10 +142,12 @@ returns-3 c =
     let after-word : tie.After-word = search in
     let start : tie.Start = search in
     let word-is = sym (after-word .word .ensures) ∙ else1 .if1 .left in
-    let (is, m, n, t, p) = match-pieces _ _ _ (after-pieces-of .pieces-of .ensures) _ (after-word3 .word3 .ensures) word-is in
+    let (is, m, n, t, p) = match-pieces _ _ _ (after-pieces-of .pieces-of .ensures) _ (after-word3 .word3 .ensures)
+    word-is in
     let types = shape.pair-parts _ _ (start .pre .1 .type) type-is _ (after-type-end .type-end .ensures) in
     match _ _ _ _ _ _ _ _ _ _ _ _ _ _ _ _ _ _ _ is types _ _ _ _ _ _ _ _ (after-term-premise .term-premise .ensures)
-    (after-term-premise2 .term-premise2 .ensures) (after-entered .entered .ensures) (after-types-alike .types-alike .ensures)
+    (after-term-premise2 .term-premise2 .ensures) (after-entered .entered .ensures)
+    (after-types-alike .types-alike .ensures)
     (after-same-changed .same-changed .ensures) (after-unchanged .unchanged .ensures) (after-fresh .fresh .ensures)
     (c .all7 .ensures)
 

@@ -18,7 +18,8 @@ unfolding saysProcess
 returns c =
     let after-pieces-of : tie.After-pieces-of = search in
     let after-word : tie.After-word = search in
-    new-other _ _ _ _ (other-word _ _ _ (after-pieces-of .pieces-of .ensures) _ _ (after-word .word .ensures) (c .if1 .taken))
+    new-other _ _ _ _ (other-word _ _ _ (after-pieces-of .pieces-of .ensures) _ _ (after-word .word .ensures)
+    (c .if1 .taken))
 
 entered-requires : tie.Need-entered-requires
 entered-requires c κs =

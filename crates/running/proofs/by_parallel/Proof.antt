@@ -14,7 +14,8 @@ unfolding saysProcess
 returns c =
     let after-pieces-of : tie.After-pieces-of = search in
     let after-word : tie.After-word = search in
-    parallel-other _ _ _ _ (other-word _ _ _ (after-pieces-of .pieces-of .ensures) _ _ (after-word .word .ensures) (c .if1 .taken))
+    parallel-other _ _ _ _ (other-word _ _ _ (after-pieces-of .pieces-of .ensures) _ _ (after-word .word .ensures)
+    (c .if1 .taken))
 
 process-premise-requires : tie.Need-process-premise-requires
 process-premise-requires c κs =

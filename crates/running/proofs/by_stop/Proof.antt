@@ -13,7 +13,8 @@ unfolding saysProcess
 returns c =
     let after-pieces-of : tie.After-pieces-of = search in
     let after-word : tie.After-word = search in
-    stop-other _ _ _ _ (other-word _ _ _ (after-pieces-of .pieces-of .ensures) _ _ (after-word .word .ensures) (c .if1 .taken))
+    stop-other _ _ _ _ (other-word _ _ _ (after-pieces-of .pieces-of .ensures) _ _ (after-word .word .ensures)
+    (c .if1 .taken))
 
 returns-2 : tie.Need-returns-2
 unfolding saysProcess saysEnvironment

@@ -8,7 +8,8 @@ returns : tie.Need-returns
 returns c =
     let after-processes-alike : tie.After-processes-alike = search in
     let after-extended : tie.After-extended = search in
-    two-tests _ _ _ _ _ (after-extended .extended .ensures) (after-processes-alike .processes-alike .ensures) (c .both .ensures)
+    two-tests _ _ _ _ _ (after-extended .extended .ensures) (after-processes-alike .processes-alike .ensures)
+    (c .both .ensures)
 
 pub entered-spec : {M : Type 1} → statement M
 entered-spec =

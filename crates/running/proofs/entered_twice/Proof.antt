@@ -8,7 +8,8 @@ returns : tie.Need-returns
 returns c =
     let after-processes-alike : tie.After-processes-alike = search in
     let after-extended-twice : tie.After-extended-twice = search in
-    two-tests _ _ _ _ _ (after-extended-twice .extended-twice .ensures) (after-processes-alike .processes-alike .ensures) (c .both .ensures)
+    two-tests _ _ _ _ _ (after-extended-twice .extended-twice .ensures)
+    (after-processes-alike .processes-alike .ensures) (c .both .ensures)
 
 pub entered-twice-spec : {M : Type 1} → statement M
 entered-twice-spec =

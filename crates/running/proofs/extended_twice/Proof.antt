@@ -47,14 +47,19 @@ returns-3 c =
     let after-types-alike : tie.After-types-alike = search in
     let else1 : tie.Else1 = search in
     let start : tie.Start = search in
-    entry-type-other _ _ (start .pre .0) (else1 .if1 .left) _ _ _ _ (after-types-alike .types-alike .ensures) (c .if3 .taken)
+    entry-type-other _ _ (start .pre .0) (else1 .if1 .left) _ _ _ _ (after-types-alike .types-alike .ensures)
+    (c .if3 .taken)
 
 extended-requires : tie.Need-extended-requires
 extended-requires c κs =
     let after-type-end : tie.After-type-end = search in
     let else1 : tie.Else1 = search in
-    let start : tie.Start = search in
-    (entry-older _ _ (start .pre .0) (else1 .if1 .left) _ (after-type-end .type-end .ensures), start .pre .2, start .pre .3)
+    let start : tie.Start = search in (
+      entry-older _ _ (start .pre .0) (else1 .if1 .left) _ (after-type-end .type-end .ensures),
+      start .pre .2,
+      start .pre
+          .3,
+    )
 
 returns-4 : tie.Need-returns-4
 unfolding madeType

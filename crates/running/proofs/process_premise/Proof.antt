@@ -8,7 +8,8 @@ returns : tie.Need-returns
 returns c =
     let after-processes-alike : tie.After-processes-alike = search in
     let after-environments-alike : tie.After-environments-alike = search in
-    two-tests _ _ _ _ _ (after-environments-alike .environments-alike .ensures) (after-processes-alike .processes-alike .ensures) (c .both .ensures)
+    two-tests _ _ _ _ _ (after-environments-alike .environments-alike .ensures)
+    (after-processes-alike .processes-alike .ensures) (c .both .ensures)
 
 pub process-premise-spec : {M : Type 1} → statement M
 process-premise-spec =

@@ -57,7 +57,8 @@ begin E E1 P0 P P1 M es es1 m a b c r d0 d1 d2 f =
     (λ w.
     let p = w .premises in
     let q = w .conclusion in
-    (and-both a (b && c) (d0 ∙ and-both (test (sameEnvironment E1 E)) (test (sameProcess P1 P)) (test-yes (sameEnvironment E1 E) (cc)) (test-yes (sameProcess P1 P) (cc)))
+    (and-both a (b && c) (d0 ∙ and-both (test (sameEnvironment E1 E)) (test (sameProcess P1 P)) (test-yes (sameEnvironment E1 E) (cc))
+    (test-yes (sameProcess P1 P) (cc)))
     (and-both b c (holds-so (sameEffects es (minus es1 (Effect.end M ∷ []))) b d1 (cc))
     (d2 ∙ w .asked)))))
 
@@ -79,7 +80,8 @@ end E E1 P0 P P1 M es es1 m a b c r d0 d1 d2 f =
     (λ w.
     let p = w .premises in
     let q = w .conclusion in
-    (and-both a (b && c) (d0 ∙ and-both (test (sameEnvironment E1 E)) (test (sameProcess P1 P)) (test-yes (sameEnvironment E1 E) (cc)) (test-yes (sameProcess P1 P) (cc)))
+    (and-both a (b && c) (d0 ∙ and-both (test (sameEnvironment E1 E)) (test (sameProcess P1 P)) (test-yes (sameEnvironment E1 E) (cc))
+    (test-yes (sameProcess P1 P) (cc)))
     (and-both b c (holds-so (sameEffects es (insert (Effect.end M) es1)) b d1 (cc))
     (d2 ∙ w .asked)))))
 
@@ -90,7 +92,8 @@ pub parallel : (E E1 E2 : Environment) (P0 P Q P1 P2 : Process) (es es1 es2 : Li
     → r ≡ follows Rule.parallel (Judgement.process E1 P1 es1 ∷ Judgement.process E2 P2 es2 ∷ []) (Judgement.process E P0 es)
 unfolding left right nameOf second promised partsOf environmentOf termOf typeOf effectsOf processOf first rest printed asks
 parallel E E1 E2 P0 P Q P1 P2 es es1 es2 m a b c r d0 d1 d2 f =
-    rw (m) (f ∙ decide Rule.parallel (Judgement.process E1 P1 es1 ∷ Judgement.process E2 P2 es2 ∷ []) (Judgement.process E (Process.parallel P Q) es) (a && (b && c))
+    rw (m) (f ∙ decide Rule.parallel (Judgement.process E1 P1 es1 ∷ Judgement.process E2 P2 es2 ∷ []) (Judgement.process E (Process.parallel P Q) es)
+    (a && (b && c))
     (λ z.
     let (z0, y0) = both a (b && c) z in
     let (z1, y1) = both b c y0 in
@@ -105,8 +108,10 @@ parallel E E1 E2 P0 P Q P1 P2 es es1 es2 m a b c r d0 d1 d2 f =
     (λ w.
     let p = w .premises in
     let q = w .conclusion in
-    (and-both a (b && c) (d0 ∙ and-both (test (sameEnvironment E1 E)) (test (sameProcess P1 P)) (test-yes (sameEnvironment E1 E) (cc)) (test-yes (sameProcess P1 P) (cc)))
-    (and-both b c (d1 ∙ and-both (test (sameEnvironment E2 E)) (test (sameProcess P2 Q)) (test-yes (sameEnvironment E2 E) (cc)) (test-yes (sameProcess P2 Q) (cc)))
+    (and-both a (b && c) (d0 ∙ and-both (test (sameEnvironment E1 E)) (test (sameProcess P1 P)) (test-yes (sameEnvironment E1 E) (cc))
+    (test-yes (sameProcess P1 P) (cc)))
+    (and-both b c (d1 ∙ and-both (test (sameEnvironment E2 E)) (test (sameProcess P2 Q)) (test-yes (sameEnvironment E2 E) (cc))
+    (test-yes (sameProcess P2 Q) (cc)))
     (holds-so (sameEffects es (plus es1 es2)) c d2 (cc))))))
 
 -- E, x : T ⊢ P : es  ⟹  E ⊢ new (x : T); P : es − [check x]
@@ -129,7 +134,8 @@ new E E1 P0 P P1 x T es es1 m a b c d r d0 d1 d2 d3 f =
     (λ w.
     let p = w .premises in
     let q = w .conclusion in
-    (and-both a (b && (c && d)) (d0 ∙ and-both (test (sameEnvironment E1 ((x ⦂ T) ∷ E))) (test (sameProcess P1 P)) (test-yes (sameEnvironment E1 ((x ⦂ T) ∷ E)) (cc)) (test-yes (sameProcess P1 P) (cc)))
+    (and-both a (b && (c && d)) (d0 ∙ and-both (test (sameEnvironment E1 ((x ⦂ T) ∷ E))) (test (sameProcess P1 P))
+    (test-yes (sameEnvironment E1 ((x ⦂ T) ∷ E)) (cc)) (test-yes (sameProcess P1 P) (cc)))
     (and-both b (c && d) (holds-so (sameEffects es (minus es1 (Effect.check (Term.name x) ∷ []))) b d1 (cc))
     (and-both c d (d2 ∙ both (generatable T) (not (mentions x es)) (w .asked) .0)
     (d3 ∙ both (generatable T) (not (mentions x es)) (w .asked) .1))))))
@@ -142,7 +148,8 @@ pub out : (E E1 E2 E3 : Environment) (P0 P P3 : Process) (M N M1 M2 : Term) (T1 
     → r ≡ follows Rule.out (Judgement.term E1 M1 T1 ∷ Judgement.term E2 M2 T2 ∷ Judgement.process E3 P3 es3 ∷ []) (Judgement.process E P0 es)
 unfolding left right nameOf second promised partsOf environmentOf termOf typeOf effectsOf processOf first rest printed asks
 out E E1 E2 E3 P0 P P3 M N M1 M2 T1 T2 es es3 m a b c d g r d0 d1 d2 d3 d4 f =
-    rw (m) (f ∙ decide Rule.out (Judgement.term E1 M1 T1 ∷ Judgement.term E2 M2 T2 ∷ Judgement.process E3 P3 es3 ∷ []) (Judgement.process E (Process.out M N P) es) (a && (b && (c && (d && g))))
+    rw (m) (f ∙ decide Rule.out (Judgement.term E1 M1 T1 ∷ Judgement.term E2 M2 T2 ∷ Judgement.process E3 P3 es3 ∷ [])
+    (Judgement.process E (Process.out M N P) es) (a && (b && (c && (d && g))))
     (λ z.
     let (z0, y0) = both a (b && (c && (d && g))) z in
     let (z1, y1) = both b (c && (d && g)) y0 in
@@ -163,9 +170,12 @@ out E E1 E2 E3 P0 P P3 M N M1 M2 T1 T2 es es3 m a b c d g r d0 d1 d2 d3 d4 f =
     (λ w.
     let p = w .premises in
     let q = w .conclusion in
-    (and-both a (b && (c && (d && g))) (d0 ∙ and-both (test (sameEnvironment E1 E)) (test (sameTerm M1 M)) (test-yes (sameEnvironment E1 E) (cc)) (test-yes (sameTerm M1 M) (cc)))
-    (and-both b (c && (d && g)) (d1 ∙ and-both (test (sameEnvironment E2 E)) (test (sameTerm M2 N)) (test-yes (sameEnvironment E2 E) (cc)) (test-yes (sameTerm M2 N) (cc)))
-    (and-both c (d && g) (d2 ∙ and-both (test (sameEnvironment E3 E)) (test (sameProcess P3 P)) (test-yes (sameEnvironment E3 E) (cc)) (test-yes (sameProcess P3 P) (cc)))
+    (and-both a (b && (c && (d && g))) (d0 ∙ and-both (test (sameEnvironment E1 E)) (test (sameTerm M1 M)) (test-yes (sameEnvironment E1 E) (cc))
+    (test-yes (sameTerm M1 M) (cc)))
+    (and-both b (c && (d && g)) (d1 ∙ and-both (test (sameEnvironment E2 E)) (test (sameTerm M2 N)) (test-yes (sameEnvironment E2 E) (cc))
+    (test-yes (sameTerm M2 N) (cc)))
+    (and-both c (d && g) (d2 ∙ and-both (test (sameEnvironment E3 E)) (test (sameProcess P3 P)) (test-yes (sameEnvironment E3 E) (cc))
+    (test-yes (sameProcess P3 P) (cc)))
     (and-both d g (holds-so (sameType T1 (Ty.channel T2)) d d3 (cc))
     (holds-so (sameEffects es es3) g d4 (cc))))))))
 
@@ -177,7 +187,8 @@ pub inp : (E E1 E2 : Environment) (P0 P P2 : Process) (M M1 : Term) (x : ℕ) (T
     → r ≡ follows Rule.inp (Judgement.term E1 M1 T1 ∷ Judgement.process E2 P2 es2 ∷ []) (Judgement.process E P0 es)
 unfolding left right nameOf second promised partsOf environmentOf termOf typeOf effectsOf processOf first rest printed asks
 inp E E1 E2 P0 P P2 M M1 x T T1 es es2 m a b c d g r d0 d1 d2 d3 d4 f =
-    rw (m) (f ∙ decide Rule.inp (Judgement.term E1 M1 T1 ∷ Judgement.process E2 P2 es2 ∷ []) (Judgement.process E (Process.inp M x T P) es) (a && (b && (c && (d && g))))
+    rw (m) (f ∙ decide Rule.inp (Judgement.term E1 M1 T1 ∷ Judgement.process E2 P2 es2 ∷ []) (Judgement.process E (Process.inp M x T P) es)
+    (a && (b && (c && (d && g))))
     (λ z.
     let (z0, y0) = both a (b && (c && (d && g))) z in
     let (z1, y1) = both b (c && (d && g)) y0 in
@@ -195,8 +206,10 @@ inp E E1 E2 P0 P P2 M M1 x T T1 es es2 m a b c d g r d0 d1 d2 d3 d4 f =
     (λ w.
     let p = w .premises in
     let q = w .conclusion in
-    (and-both a (b && (c && (d && g))) (d0 ∙ and-both (test (sameEnvironment E1 E)) (test (sameTerm M1 M)) (test-yes (sameEnvironment E1 E) (cc)) (test-yes (sameTerm M1 M) (cc)))
-    (and-both b (c && (d && g)) (d1 ∙ and-both (test (sameEnvironment E2 ((x ⦂ T) ∷ E))) (test (sameProcess P2 P)) (test-yes (sameEnvironment E2 ((x ⦂ T) ∷ E)) (cc)) (test-yes (sameProcess P2 P) (cc)))
+    (and-both a (b && (c && (d && g))) (d0 ∙ and-both (test (sameEnvironment E1 E)) (test (sameTerm M1 M)) (test-yes (sameEnvironment E1 E) (cc))
+    (test-yes (sameTerm M1 M) (cc)))
+    (and-both b (c && (d && g)) (d1 ∙ and-both (test (sameEnvironment E2 ((x ⦂ T) ∷ E))) (test (sameProcess P2 P))
+    (test-yes (sameEnvironment E2 ((x ⦂ T) ∷ E)) (cc)) (test-yes (sameProcess P2 P) (cc)))
     (and-both c (d && g) (holds-so (sameType T1 (Ty.channel T)) c d2 (cc))
     (and-both d g (holds-so (sameEffects es es2) d d3 (cc))
     (d4 ∙ w .asked)))))))
@@ -210,7 +223,8 @@ pub split : (E E1 E2 : Environment) (P0 P P2 : Process) (M M1 : Term) (x y : ℕ
     → r ≡ follows Rule.split (Judgement.term E1 M1 T1 ∷ Judgement.process E2 P2 es2 ∷ []) (Judgement.process E P0 es)
 unfolding left right nameOf second promised partsOf environmentOf termOf typeOf effectsOf processOf first rest printed asks
 split E E1 E2 P0 P P2 M M1 x y T S T1 es es2 m a b c d g h r d0 d1 d2 d3 d4 d5 f =
-    rw (m) (f ∙ decide Rule.split (Judgement.term E1 M1 T1 ∷ Judgement.process E2 P2 es2 ∷ []) (Judgement.process E (Process.split M x T y S P) es) (a && (b && (c && (d && (g && h)))))
+    rw (m) (f ∙ decide Rule.split (Judgement.term E1 M1 T1 ∷ Judgement.process E2 P2 es2 ∷ []) (Judgement.process E (Process.split M x T y S P) es)
+    (a && (b && (c && (d && (g && h)))))
     (λ z.
     let (z0, y0) = both a (b && (c && (d && (g && h)))) z in
     let (z1, y1) = both b (c && (d && (g && h))) y0 in
@@ -229,8 +243,10 @@ split E E1 E2 P0 P P2 M M1 x y T S T1 es es2 m a b c d g h r d0 d1 d2 d3 d4 d5 f
     (λ w.
     let p = w .premises in
     let q = w .conclusion in
-    (and-both a (b && (c && (d && (g && h)))) (d0 ∙ and-both (test (sameEnvironment E1 E)) (test (sameTerm M1 M)) (test-yes (sameEnvironment E1 E) (cc)) (test-yes (sameTerm M1 M) (cc)))
-    (and-both b (c && (d && (g && h))) (d1 ∙ and-both (test (sameEnvironment E2 ((y ⦂ S) ∷ (x ⦂ T) ∷ E))) (test (sameProcess P2 P)) (test-yes (sameEnvironment E2 ((y ⦂ S) ∷ (x ⦂ T) ∷ E)) (cc)) (test-yes (sameProcess P2 P) (cc)))
+    (and-both a (b && (c && (d && (g && h)))) (d0 ∙ and-both (test (sameEnvironment E1 E)) (test (sameTerm M1 M)) (test-yes (sameEnvironment E1 E) (cc))
+    (test-yes (sameTerm M1 M) (cc)))
+    (and-both b (c && (d && (g && h))) (d1 ∙ and-both (test (sameEnvironment E2 ((y ⦂ S) ∷ (x ⦂ T) ∷ E))) (test (sameProcess P2 P))
+    (test-yes (sameEnvironment E2 ((y ⦂ S) ∷ (x ⦂ T) ∷ E)) (cc)) (test-yes (sameProcess P2 P) (cc)))
     (and-both c (d && (g && h)) (holds-so (sameType T1 (Ty.pair T (binding x S))) c d2 (cc))
     (and-both d (g && h) (holds-so (sameEffects es es2) d d3 (cc))
     (and-both g h (d4 ∙ both (not (mentions x es)) (not (mentions y es)) (w .asked) .0)
@@ -244,7 +260,8 @@ pub cast : (E E1 E2 : Environment) (P0 P P2 : Process) (M M1 : Term) (x : ℕ) (
     → r ≡ follows Rule.cast (Judgement.term E1 M1 T1 ∷ Judgement.process E2 P2 es2 ∷ []) (Judgement.process E P0 es)
 unfolding left right nameOf second promised partsOf environmentOf termOf typeOf effectsOf processOf first rest printed asks
 cast E E1 E2 P0 P P2 M M1 x T1 fs es es2 m a b c d g r d0 d1 d2 d3 d4 f =
-    rw (m) (f ∙ decide Rule.cast (Judgement.term E1 M1 T1 ∷ Judgement.process E2 P2 es2 ∷ []) (Judgement.process E (Process.cast M x fs P) es) (a && (b && (c && (d && g))))
+    rw (m) (f ∙ decide Rule.cast (Judgement.term E1 M1 T1 ∷ Judgement.process E2 P2 es2 ∷ []) (Judgement.process E (Process.cast M x fs P) es)
+    (a && (b && (c && (d && g))))
     (λ z.
     let (z0, y0) = both a (b && (c && (d && g))) z in
     let (z1, y1) = both b (c && (d && g)) y0 in
@@ -262,8 +279,10 @@ cast E E1 E2 P0 P P2 M M1 x T1 fs es es2 m a b c d g r d0 d1 d2 d3 d4 f =
     (λ w.
     let p = w .premises in
     let q = w .conclusion in
-    (and-both a (b && (c && (d && g))) (d0 ∙ and-both (test (sameEnvironment E1 E)) (test (sameTerm M1 M)) (test-yes (sameEnvironment E1 E) (cc)) (test-yes (sameTerm M1 M) (cc)))
-    (and-both b (c && (d && g)) (d1 ∙ and-both (test (sameEnvironment E2 ((x ⦂ Ty.nonce fs) ∷ E))) (test (sameProcess P2 P)) (test-yes (sameEnvironment E2 ((x ⦂ Ty.nonce fs) ∷ E)) (cc)) (test-yes (sameProcess P2 P) (cc)))
+    (and-both a (b && (c && (d && g))) (d0 ∙ and-both (test (sameEnvironment E1 E)) (test (sameTerm M1 M)) (test-yes (sameEnvironment E1 E) (cc))
+    (test-yes (sameTerm M1 M) (cc)))
+    (and-both b (c && (d && g)) (d1 ∙ and-both (test (sameEnvironment E2 ((x ⦂ Ty.nonce fs) ∷ E))) (test (sameProcess P2 P))
+    (test-yes (sameEnvironment E2 ((x ⦂ Ty.nonce fs) ∷ E)) (cc)) (test-yes (sameProcess P2 P) (cc)))
     (and-both c (d && g) (holds-so (sameType T1 Ty.Un) c d2 (cc))
     (and-both d g (holds-so (sameEffects es (plus es2 fs)) d d3 (cc))
     (d4 ∙ w .asked)))))))
@@ -277,7 +296,8 @@ pub decrypt : (E E1 E2 E3 : Environment) (P0 P P3 : Process) (M N M1 M2 : Term) 
     → r ≡ follows Rule.decrypt (Judgement.term E1 M1 T1 ∷ Judgement.term E2 M2 T2 ∷ Judgement.process E3 P3 es3 ∷ []) (Judgement.process E P0 es)
 unfolding left right nameOf second promised partsOf environmentOf termOf typeOf effectsOf processOf first rest printed asks
 decrypt E E1 E2 E3 P0 P P3 M N M1 M2 x T T1 T2 es es3 m a b c d g h i r d0 d1 d2 d3 d4 d5 d6 f =
-    rw (m) (f ∙ decide Rule.decrypt (Judgement.term E1 M1 T1 ∷ Judgement.term E2 M2 T2 ∷ Judgement.process E3 P3 es3 ∷ []) (Judgement.process E (Process.decrypt M N x T P) es) (a && (b && (c && (d && (g && (h && i))))))
+    rw (m) (f ∙ decide Rule.decrypt (Judgement.term E1 M1 T1 ∷ Judgement.term E2 M2 T2 ∷ Judgement.process E3 P3 es3 ∷ [])
+    (Judgement.process E (Process.decrypt M N x T P) es) (a && (b && (c && (d && (g && (h && i))))))
     (λ z.
     let (z0, y0) = both a (b && (c && (d && (g && (h && i))))) z in
     let (z1, y1) = both b (c && (d && (g && (h && i)))) y0 in
@@ -301,9 +321,12 @@ decrypt E E1 E2 E3 P0 P P3 M N M1 M2 x T T1 T2 es es3 m a b c d g h i r d0 d1 d2
     (λ w.
     let p = w .premises in
     let q = w .conclusion in
-    (and-both a (b && (c && (d && (g && (h && i))))) (d0 ∙ and-both (test (sameEnvironment E1 E)) (test (sameTerm M1 M)) (test-yes (sameEnvironment E1 E) (cc)) (test-yes (sameTerm M1 M) (cc)))
-    (and-both b (c && (d && (g && (h && i)))) (d1 ∙ and-both (test (sameEnvironment E2 E)) (test (sameTerm M2 N)) (test-yes (sameEnvironment E2 E) (cc)) (test-yes (sameTerm M2 N) (cc)))
-    (and-both c (d && (g && (h && i))) (d2 ∙ and-both (test (sameEnvironment E3 ((x ⦂ T) ∷ E))) (test (sameProcess P3 P)) (test-yes (sameEnvironment E3 ((x ⦂ T) ∷ E)) (cc)) (test-yes (sameProcess P3 P) (cc)))
+    (and-both a (b && (c && (d && (g && (h && i))))) (d0 ∙ and-both (test (sameEnvironment E1 E)) (test (sameTerm M1 M))
+    (test-yes (sameEnvironment E1 E) (cc)) (test-yes (sameTerm M1 M) (cc)))
+    (and-both b (c && (d && (g && (h && i)))) (d1 ∙ and-both (test (sameEnvironment E2 E)) (test (sameTerm M2 N)) (test-yes (sameEnvironment E2 E) (cc))
+    (test-yes (sameTerm M2 N) (cc)))
+    (and-both c (d && (g && (h && i))) (d2 ∙ and-both (test (sameEnvironment E3 ((x ⦂ T) ∷ E))) (test (sameProcess P3 P))
+    (test-yes (sameEnvironment E3 ((x ⦂ T) ∷ E)) (cc)) (test-yes (sameProcess P3 P) (cc)))
     (and-both d (g && (h && i)) (holds-so (sameType T1 Ty.Un) d d3 (cc))
     (and-both g (h && i) (holds-so (sameType T2 (Ty.symkey T)) g d4 (cc))
     (and-both h i (holds-so (sameEffects es es3) h d5 (cc))
@@ -318,7 +341,8 @@ pub out-Un : (E E1 E2 E3 : Environment) (P0 P P3 : Process) (M N M1 M2 : Term) (
     → r ≡ follows Rule.out-Un (Judgement.term E1 M1 T1 ∷ Judgement.term E2 M2 T2 ∷ Judgement.process E3 P3 es3 ∷ []) (Judgement.process E P0 es)
 unfolding left right nameOf second promised partsOf environmentOf termOf typeOf effectsOf processOf first rest printed asks
 out-Un E E1 E2 E3 P0 P P3 M N M1 M2 T1 T2 es es3 m a b c d g h r d0 d1 d2 d3 d4 d5 f =
-    rw (m) (f ∙ decide Rule.out-Un (Judgement.term E1 M1 T1 ∷ Judgement.term E2 M2 T2 ∷ Judgement.process E3 P3 es3 ∷ []) (Judgement.process E (Process.out M N P) es) (a && (b && (c && (d && (g && h)))))
+    rw (m) (f ∙ decide Rule.out-Un (Judgement.term E1 M1 T1 ∷ Judgement.term E2 M2 T2 ∷ Judgement.process E3 P3 es3 ∷ [])
+    (Judgement.process E (Process.out M N P) es) (a && (b && (c && (d && (g && h)))))
     (λ z.
     let (z0, y0) = both a (b && (c && (d && (g && h)))) z in
     let (z1, y1) = both b (c && (d && (g && h))) y0 in
@@ -341,9 +365,12 @@ out-Un E E1 E2 E3 P0 P P3 M N M1 M2 T1 T2 es es3 m a b c d g h r d0 d1 d2 d3 d4 
     (λ w.
     let p = w .premises in
     let q = w .conclusion in
-    (and-both a (b && (c && (d && (g && h)))) (d0 ∙ and-both (test (sameEnvironment E1 E)) (test (sameTerm M1 M)) (test-yes (sameEnvironment E1 E) (cc)) (test-yes (sameTerm M1 M) (cc)))
-    (and-both b (c && (d && (g && h))) (d1 ∙ and-both (test (sameEnvironment E2 E)) (test (sameTerm M2 N)) (test-yes (sameEnvironment E2 E) (cc)) (test-yes (sameTerm M2 N) (cc)))
-    (and-both c (d && (g && h)) (d2 ∙ and-both (test (sameEnvironment E3 E)) (test (sameProcess P3 P)) (test-yes (sameEnvironment E3 E) (cc)) (test-yes (sameProcess P3 P) (cc)))
+    (and-both a (b && (c && (d && (g && h)))) (d0 ∙ and-both (test (sameEnvironment E1 E)) (test (sameTerm M1 M)) (test-yes (sameEnvironment E1 E) (cc))
+    (test-yes (sameTerm M1 M) (cc)))
+    (and-both b (c && (d && (g && h))) (d1 ∙ and-both (test (sameEnvironment E2 E)) (test (sameTerm M2 N)) (test-yes (sameEnvironment E2 E) (cc))
+    (test-yes (sameTerm M2 N) (cc)))
+    (and-both c (d && (g && h)) (d2 ∙ and-both (test (sameEnvironment E3 E)) (test (sameProcess P3 P)) (test-yes (sameEnvironment E3 E) (cc))
+    (test-yes (sameProcess P3 P) (cc)))
     (and-both d (g && h) (holds-so (sameType T1 Ty.Un) d d3 (cc))
     (and-both g h (holds-so (sameType T2 Ty.Un) g d4 (cc))
     (holds-so (sameEffects es es3) h d5 (cc)))))))))
@@ -356,7 +383,8 @@ pub inp-Un : (E E1 E2 : Environment) (P0 P P2 : Process) (M M1 : Term) (x : ℕ)
     → r ≡ follows Rule.inp-Un (Judgement.term E1 M1 T1 ∷ Judgement.process E2 P2 es2 ∷ []) (Judgement.process E P0 es)
 unfolding left right nameOf second promised partsOf environmentOf termOf typeOf effectsOf processOf first rest printed asks
 inp-Un E E1 E2 P0 P P2 M M1 x T T1 es es2 m a b c d g h r d0 d1 d2 d3 d4 d5 f =
-    rw (m) (f ∙ decide Rule.inp-Un (Judgement.term E1 M1 T1 ∷ Judgement.process E2 P2 es2 ∷ []) (Judgement.process E (Process.inp M x T P) es) (a && (b && (c && (d && (g && h)))))
+    rw (m) (f ∙ decide Rule.inp-Un (Judgement.term E1 M1 T1 ∷ Judgement.process E2 P2 es2 ∷ []) (Judgement.process E (Process.inp M x T P) es)
+    (a && (b && (c && (d && (g && h)))))
     (λ z.
     let (z0, y0) = both a (b && (c && (d && (g && h)))) z in
     let (z1, y1) = both b (c && (d && (g && h))) y0 in
@@ -376,8 +404,10 @@ inp-Un E E1 E2 P0 P P2 M M1 x T T1 es es2 m a b c d g h r d0 d1 d2 d3 d4 d5 f =
     (λ w.
     let p = w .premises in
     let q = w .conclusion in
-    (and-both a (b && (c && (d && (g && h)))) (d0 ∙ and-both (test (sameEnvironment E1 E)) (test (sameTerm M1 M)) (test-yes (sameEnvironment E1 E) (cc)) (test-yes (sameTerm M1 M) (cc)))
-    (and-both b (c && (d && (g && h))) (d1 ∙ and-both (test (sameEnvironment E2 ((x ⦂ T) ∷ E))) (test (sameProcess P2 P)) (test-yes (sameEnvironment E2 ((x ⦂ T) ∷ E)) (cc)) (test-yes (sameProcess P2 P) (cc)))
+    (and-both a (b && (c && (d && (g && h)))) (d0 ∙ and-both (test (sameEnvironment E1 E)) (test (sameTerm M1 M)) (test-yes (sameEnvironment E1 E) (cc))
+    (test-yes (sameTerm M1 M) (cc)))
+    (and-both b (c && (d && (g && h))) (d1 ∙ and-both (test (sameEnvironment E2 ((x ⦂ T) ∷ E))) (test (sameProcess P2 P))
+    (test-yes (sameEnvironment E2 ((x ⦂ T) ∷ E)) (cc)) (test-yes (sameProcess P2 P) (cc)))
     (and-both c (d && (g && h)) (holds-so (sameType T1 Ty.Un) c d2 (cc))
     (and-both d (g && h) (holds-so (sameType T Ty.Un) d d3 (cc))
     (and-both g h (holds-so (sameEffects es es2) g d4 (cc))
@@ -392,7 +422,8 @@ pub split-Un : (E E1 E2 : Environment) (P0 P P2 : Process) (M M1 : Term) (x y : 
     → r ≡ follows Rule.split-Un (Judgement.term E1 M1 T1 ∷ Judgement.process E2 P2 es2 ∷ []) (Judgement.process E P0 es)
 unfolding left right nameOf second promised partsOf environmentOf termOf typeOf effectsOf processOf first rest printed asks
 split-Un E E1 E2 P0 P P2 M M1 x y T S T1 es es2 m a b c d g h i j r d0 d1 d2 d3 d4 d5 d6 d7 f =
-    rw (m) (f ∙ decide Rule.split-Un (Judgement.term E1 M1 T1 ∷ Judgement.process E2 P2 es2 ∷ []) (Judgement.process E (Process.split M x T y S P) es) (a && (b && (c && (d && (g && (h && (i && j)))))))
+    rw (m) (f ∙ decide Rule.split-Un (Judgement.term E1 M1 T1 ∷ Judgement.process E2 P2 es2 ∷ []) (Judgement.process E (Process.split M x T y S P) es)
+    (a && (b && (c && (d && (g && (h && (i && j)))))))
     (λ z.
     let (z0, y0) = both a (b && (c && (d && (g && (h && (i && j)))))) z in
     let (z1, y1) = both b (c && (d && (g && (h && (i && j))))) y0 in
@@ -415,8 +446,10 @@ split-Un E E1 E2 P0 P P2 M M1 x y T S T1 es es2 m a b c d g h i j r d0 d1 d2 d3 
     (λ w.
     let p = w .premises in
     let q = w .conclusion in
-    (and-both a (b && (c && (d && (g && (h && (i && j)))))) (d0 ∙ and-both (test (sameEnvironment E1 E)) (test (sameTerm M1 M)) (test-yes (sameEnvironment E1 E) (cc)) (test-yes (sameTerm M1 M) (cc)))
-    (and-both b (c && (d && (g && (h && (i && j))))) (d1 ∙ and-both (test (sameEnvironment E2 ((y ⦂ S) ∷ (x ⦂ T) ∷ E))) (test (sameProcess P2 P)) (test-yes (sameEnvironment E2 ((y ⦂ S) ∷ (x ⦂ T) ∷ E)) (cc)) (test-yes (sameProcess P2 P) (cc)))
+    (and-both a (b && (c && (d && (g && (h && (i && j)))))) (d0 ∙ and-both (test (sameEnvironment E1 E)) (test (sameTerm M1 M))
+    (test-yes (sameEnvironment E1 E) (cc)) (test-yes (sameTerm M1 M) (cc)))
+    (and-both b (c && (d && (g && (h && (i && j))))) (d1 ∙ and-both (test (sameEnvironment E2 ((y ⦂ S) ∷ (x ⦂ T) ∷ E))) (test (sameProcess P2 P))
+    (test-yes (sameEnvironment E2 ((y ⦂ S) ∷ (x ⦂ T) ∷ E)) (cc)) (test-yes (sameProcess P2 P) (cc)))
     (and-both c (d && (g && (h && (i && j)))) (holds-so (sameType T1 Ty.Un) c d2 (cc))
     (and-both d (g && (h && (i && j))) (holds-so (sameType T Ty.Un) d d3 (cc))
     (and-both g (h && (i && j)) (holds-so (sameType S Ty.Un) g d4 (cc))
@@ -433,7 +466,8 @@ pub match-Un : (E E1 E2 E3 : Environment) (P0 P P3 : Process) (M N M1 M2 : Term)
     → r ≡ follows Rule.match-Un (Judgement.term E1 M1 T1 ∷ Judgement.term E2 M2 T2 ∷ Judgement.process E3 P3 es3 ∷ []) (Judgement.process E P0 es)
 unfolding left right nameOf second promised partsOf environmentOf termOf typeOf effectsOf processOf first rest printed asks
 match-Un E E1 E2 E3 P0 P P3 M N M1 M2 y S T1 T2 es es3 m a b c d g h i j r d0 d1 d2 d3 d4 d5 d6 d7 f =
-    rw (m) (f ∙ decide Rule.match-Un (Judgement.term E1 M1 T1 ∷ Judgement.term E2 M2 T2 ∷ Judgement.process E3 P3 es3 ∷ []) (Judgement.process E (Process.match M N y S P) es) (a && (b && (c && (d && (g && (h && (i && j)))))))
+    rw (m) (f ∙ decide Rule.match-Un (Judgement.term E1 M1 T1 ∷ Judgement.term E2 M2 T2 ∷ Judgement.process E3 P3 es3 ∷ [])
+    (Judgement.process E (Process.match M N y S P) es) (a && (b && (c && (d && (g && (h && (i && j)))))))
     (λ z.
     let (z0, y0) = both a (b && (c && (d && (g && (h && (i && j)))))) z in
     let (z1, y1) = both b (c && (d && (g && (h && (i && j))))) y0 in
@@ -459,9 +493,12 @@ match-Un E E1 E2 E3 P0 P P3 M N M1 M2 y S T1 T2 es es3 m a b c d g h i j r d0 d1
     (λ w.
     let p = w .premises in
     let q = w .conclusion in
-    (and-both a (b && (c && (d && (g && (h && (i && j)))))) (d0 ∙ and-both (test (sameEnvironment E1 E)) (test (sameTerm M1 M)) (test-yes (sameEnvironment E1 E) (cc)) (test-yes (sameTerm M1 M) (cc)))
-    (and-both b (c && (d && (g && (h && (i && j))))) (d1 ∙ and-both (test (sameEnvironment E2 E)) (test (sameTerm M2 N)) (test-yes (sameEnvironment E2 E) (cc)) (test-yes (sameTerm M2 N) (cc)))
-    (and-both c (d && (g && (h && (i && j)))) (d2 ∙ and-both (test (sameEnvironment E3 ((y ⦂ S) ∷ E))) (test (sameProcess P3 P)) (test-yes (sameEnvironment E3 ((y ⦂ S) ∷ E)) (cc)) (test-yes (sameProcess P3 P) (cc)))
+    (and-both a (b && (c && (d && (g && (h && (i && j)))))) (d0 ∙ and-both (test (sameEnvironment E1 E)) (test (sameTerm M1 M))
+    (test-yes (sameEnvironment E1 E) (cc)) (test-yes (sameTerm M1 M) (cc)))
+    (and-both b (c && (d && (g && (h && (i && j))))) (d1 ∙ and-both (test (sameEnvironment E2 E)) (test (sameTerm M2 N))
+    (test-yes (sameEnvironment E2 E) (cc)) (test-yes (sameTerm M2 N) (cc)))
+    (and-both c (d && (g && (h && (i && j)))) (d2 ∙ and-both (test (sameEnvironment E3 ((y ⦂ S) ∷ E))) (test (sameProcess P3 P))
+    (test-yes (sameEnvironment E3 ((y ⦂ S) ∷ E)) (cc)) (test-yes (sameProcess P3 P) (cc)))
     (and-both d (g && (h && (i && j))) (holds-so (sameType T1 Ty.Un) d d3 (cc))
     (and-both g (h && (i && j)) (holds-so (sameType T2 Ty.Un) g d4 (cc))
     (and-both h (i && j) (holds-so (sameType S Ty.Un) h d5 (cc))
@@ -477,7 +514,8 @@ pub decrypt-Un : (E E1 E2 E3 : Environment) (P0 P P3 : Process) (M N M1 M2 : Ter
     → r ≡ follows Rule.decrypt-Un (Judgement.term E1 M1 T1 ∷ Judgement.term E2 M2 T2 ∷ Judgement.process E3 P3 es3 ∷ []) (Judgement.process E P0 es)
 unfolding left right nameOf second promised partsOf environmentOf termOf typeOf effectsOf processOf first rest printed asks
 decrypt-Un E E1 E2 E3 P0 P P3 M N M1 M2 x T T1 T2 es es3 m a b c d g h i j r d0 d1 d2 d3 d4 d5 d6 d7 f =
-    rw (m) (f ∙ decide Rule.decrypt-Un (Judgement.term E1 M1 T1 ∷ Judgement.term E2 M2 T2 ∷ Judgement.process E3 P3 es3 ∷ []) (Judgement.process E (Process.decrypt M N x T P) es) (a && (b && (c && (d && (g && (h && (i && j)))))))
+    rw (m) (f ∙ decide Rule.decrypt-Un (Judgement.term E1 M1 T1 ∷ Judgement.term E2 M2 T2 ∷ Judgement.process E3 P3 es3 ∷ [])
+    (Judgement.process E (Process.decrypt M N x T P) es) (a && (b && (c && (d && (g && (h && (i && j)))))))
     (λ z.
     let (z0, y0) = both a (b && (c && (d && (g && (h && (i && j)))))) z in
     let (z1, y1) = both b (c && (d && (g && (h && (i && j))))) y0 in
@@ -503,9 +541,12 @@ decrypt-Un E E1 E2 E3 P0 P P3 M N M1 M2 x T T1 T2 es es3 m a b c d g h i j r d0 
     (λ w.
     let p = w .premises in
     let q = w .conclusion in
-    (and-both a (b && (c && (d && (g && (h && (i && j)))))) (d0 ∙ and-both (test (sameEnvironment E1 E)) (test (sameTerm M1 M)) (test-yes (sameEnvironment E1 E) (cc)) (test-yes (sameTerm M1 M) (cc)))
-    (and-both b (c && (d && (g && (h && (i && j))))) (d1 ∙ and-both (test (sameEnvironment E2 E)) (test (sameTerm M2 N)) (test-yes (sameEnvironment E2 E) (cc)) (test-yes (sameTerm M2 N) (cc)))
-    (and-both c (d && (g && (h && (i && j)))) (d2 ∙ and-both (test (sameEnvironment E3 ((x ⦂ T) ∷ E))) (test (sameProcess P3 P)) (test-yes (sameEnvironment E3 ((x ⦂ T) ∷ E)) (cc)) (test-yes (sameProcess P3 P) (cc)))
+    (and-both a (b && (c && (d && (g && (h && (i && j)))))) (d0 ∙ and-both (test (sameEnvironment E1 E)) (test (sameTerm M1 M))
+    (test-yes (sameEnvironment E1 E) (cc)) (test-yes (sameTerm M1 M) (cc)))
+    (and-both b (c && (d && (g && (h && (i && j))))) (d1 ∙ and-both (test (sameEnvironment E2 E)) (test (sameTerm M2 N))
+    (test-yes (sameEnvironment E2 E) (cc)) (test-yes (sameTerm M2 N) (cc)))
+    (and-both c (d && (g && (h && (i && j)))) (d2 ∙ and-both (test (sameEnvironment E3 ((x ⦂ T) ∷ E))) (test (sameProcess P3 P))
+    (test-yes (sameEnvironment E3 ((x ⦂ T) ∷ E)) (cc)) (test-yes (sameProcess P3 P) (cc)))
     (and-both d (g && (h && (i && j))) (holds-so (sameType T1 Ty.Un) d d3 (cc))
     (and-both g (h && (i && j)) (holds-so (sameType T2 Ty.Un) g d4 (cc))
     (and-both h (i && j) (holds-so (sameType T Ty.Un) h d5 (cc))
@@ -522,7 +563,8 @@ pub match : (E E1 E2 E3 : Environment) (P0 P P3 : Process) (M N M1 M2 : Term) (y
     → r ≡ follows Rule.match (Judgement.term E1 M1 T1 ∷ Judgement.term E2 M2 T2 ∷ Judgement.process E3 P3 es3 ∷ []) (Judgement.process E P0 es)
 unfolding left right nameOf second promised partsOf environmentOf termOf typeOf effectsOf processOf first rest printed asks
 match E E1 E2 E3 P0 P P3 M N M1 M2 y R T S T1 T2 es es3 m n a b c d g h i r d0 d1 d2 d3 d4 d5 d6 f =
-    rw (m, n) (f ∙ decide Rule.match (Judgement.term E1 M1 (Ty.pair T S) ∷ Judgement.term E2 M2 T2 ∷ Judgement.process E3 P3 es3 ∷ []) (Judgement.process E (Process.match M N y R P) es) (a && (b && (c && (d && (g && (h && i))))))
+    rw (m, n) (f ∙ decide Rule.match (Judgement.term E1 M1 (Ty.pair T S) ∷ Judgement.term E2 M2 T2 ∷ Judgement.process E3 P3 es3 ∷ [])
+    (Judgement.process E (Process.match M N y R P) es) (a && (b && (c && (d && (g && (h && i))))))
     (λ z.
     let (z0, y0) = both a (b && (c && (d && (g && (h && i))))) z in
     let (z1, y1) = both b (c && (d && (g && (h && i)))) y0 in
@@ -546,9 +588,12 @@ match E E1 E2 E3 P0 P P3 M N M1 M2 y R T S T1 T2 es es3 m n a b c d g h i r d0 d
     (λ w.
     let p = w .premises in
     let q = w .conclusion in
-    (and-both a (b && (c && (d && (g && (h && i))))) (d0 ∙ and-both (test (sameEnvironment E1 E)) (test (sameTerm M1 M)) (test-yes (sameEnvironment E1 E) (cc)) (test-yes (sameTerm M1 M) (cc)))
-    (and-both b (c && (d && (g && (h && i)))) (d1 ∙ and-both (test (sameEnvironment E2 E)) (test (sameTerm M2 N)) (test-yes (sameEnvironment E2 E) (cc)) (test-yes (sameTerm M2 N) (cc)))
-    (and-both c (d && (g && (h && i))) (d2 ∙ and-both (test (sameEnvironment E3 ((y ⦂ R) ∷ E))) (test (sameProcess P3 P)) (test-yes (sameEnvironment E3 ((y ⦂ R) ∷ E)) (cc)) (test-yes (sameProcess P3 P) (cc)))
+    (and-both a (b && (c && (d && (g && (h && i))))) (d0 ∙ and-both (test (sameEnvironment E1 E)) (test (sameTerm M1 M))
+    (test-yes (sameEnvironment E1 E) (cc)) (test-yes (sameTerm M1 M) (cc)))
+    (and-both b (c && (d && (g && (h && i)))) (d1 ∙ and-both (test (sameEnvironment E2 E)) (test (sameTerm M2 N)) (test-yes (sameEnvironment E2 E) (cc))
+    (test-yes (sameTerm M2 N) (cc)))
+    (and-both c (d && (g && (h && i))) (d2 ∙ and-both (test (sameEnvironment E3 ((y ⦂ R) ∷ E))) (test (sameProcess P3 P))
+    (test-yes (sameEnvironment E3 ((y ⦂ R) ∷ E)) (cc)) (test-yes (sameProcess P3 P) (cc)))
     (and-both d (g && (h && i)) (holds-so (sameType T T2) d d3 (cc))
     (and-both g (h && i) (holds-so (sameType R (putting N S)) g d4 (cc))
     (and-both h i (holds-so (sameEffects es es3) h d5 (cc))
@@ -563,7 +608,8 @@ pub check : (E E1 E2 E3 : Environment) (P0 P P3 : Process) (M N M1 M2 : Term) (T
     → r ≡ follows Rule.check (Judgement.term E1 M1 T1 ∷ Judgement.term E2 M2 T2 ∷ Judgement.process E3 P3 es3 ∷ []) (Judgement.process E P0 es)
 unfolding left right nameOf second promised partsOf environmentOf termOf typeOf effectsOf processOf first rest printed asks
 check E E1 E2 E3 P0 P P3 M N M1 M2 T1 T2 fs es es3 m n a b c d g r d0 d1 d2 d3 d4 f =
-    rw (m, n) (f ∙ decide Rule.check (Judgement.term E1 M1 T1 ∷ Judgement.term E2 M2 (Ty.nonce fs) ∷ Judgement.process E3 P3 es3 ∷ []) (Judgement.process E (Process.check M N P) es) (a && (b && (c && (d && g))))
+    rw (m, n) (f ∙ decide Rule.check (Judgement.term E1 M1 T1 ∷ Judgement.term E2 M2 (Ty.nonce fs) ∷ Judgement.process E3 P3 es3 ∷ [])
+    (Judgement.process E (Process.check M N P) es) (a && (b && (c && (d && g))))
     (λ z.
     let (z0, y0) = both a (b && (c && (d && g))) z in
     let (z1, y1) = both b (c && (d && g)) y0 in
@@ -584,9 +630,12 @@ check E E1 E2 E3 P0 P P3 M N M1 M2 T1 T2 fs es es3 m n a b c d g r d0 d1 d2 d3 d
     (λ w.
     let p = w .premises in
     let q = w .conclusion in
-    (and-both a (b && (c && (d && g))) (d0 ∙ and-both (test (sameEnvironment E1 E)) (test (sameTerm M1 M)) (test-yes (sameEnvironment E1 E) (cc)) (test-yes (sameTerm M1 M) (cc)))
-    (and-both b (c && (d && g)) (d1 ∙ and-both (test (sameEnvironment E2 E)) (test (sameTerm M2 N)) (test-yes (sameEnvironment E2 E) (cc)) (test-yes (sameTerm M2 N) (cc)))
-    (and-both c (d && g) (d2 ∙ and-both (test (sameEnvironment E3 E)) (test (sameProcess P3 P)) (test-yes (sameEnvironment E3 E) (cc)) (test-yes (sameProcess P3 P) (cc)))
+    (and-both a (b && (c && (d && g))) (d0 ∙ and-both (test (sameEnvironment E1 E)) (test (sameTerm M1 M)) (test-yes (sameEnvironment E1 E) (cc))
+    (test-yes (sameTerm M1 M) (cc)))
+    (and-both b (c && (d && g)) (d1 ∙ and-both (test (sameEnvironment E2 E)) (test (sameTerm M2 N)) (test-yes (sameEnvironment E2 E) (cc))
+    (test-yes (sameTerm M2 N) (cc)))
+    (and-both c (d && g) (d2 ∙ and-both (test (sameEnvironment E3 E)) (test (sameProcess P3 P)) (test-yes (sameEnvironment E3 E) (cc))
+    (test-yes (sameProcess P3 P) (cc)))
     (and-both d g (holds-so (sameType T1 Ty.Un) d d3 (cc))
     (holds-so (sameEffects es (insert (Effect.check M) (minus es3 fs))) g d4 (cc))))))))
 

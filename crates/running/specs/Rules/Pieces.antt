@@ -42,33 +42,55 @@ module _ (w : List ℕ) (s : ℕ) (r : Pieces) (p : Pieced w s r) where
       let (q, o) = whole 2 e (λ z. omega arith) (λ z. omega arith) in
       (q, p .first-term (much termsOf 2 1 e (omega arith)), p .second-term (much termsOf 2 2 e (omega arith)), o)
 
-  pub inp-pieces : (x : ℕ) → x ≡ getD w (s + 1) 0 → getD w s 0 ≡ 3 → (processIn w s ≡ Process.inp (termIn w (r .m)) x (typeIn w (r .t)) (processIn w (r .p)))
+  pub inp-pieces : (x : ℕ) → x ≡ getD w (s + 1) 0 → getD w s 0 ≡ 3
+      → (processIn w s ≡ Process.inp (termIn w (r .m)) x (typeIn w (r .t)) (processIn w (r .p)))
       × Reads term w (r .m) × Reads typeAt w (r .t) × Reads processAt w (r .p)
   unfolding built termsOf typesOf pick
   inp-pieces x ex e =
       let (q, o) = whole 3 e (λ z. omega arith) (λ z. omega arith) in
       (rw (ex) q, p .first-term (much termsOf 3 1 e (omega arith)), p .first-type (much typesOf 3 1 e (omega arith)), o)
 
-  pub split-pieces : (x y : ℕ) → x ≡ getD w (s + 1) 0 → y ≡ getD w (s + 2) 0 → getD w s 0 ≡ 6 → (processIn w s ≡ Process.split (termIn w (r .m)) x (typeIn w (r .t)) y (typeIn w (r .u)) (processIn w (r .p)))
+  pub split-pieces : (x y : ℕ) → x ≡ getD w (s + 1) 0 → y ≡ getD w (s + 2) 0 → getD w s 0 ≡ 6
+      → (processIn w s ≡ Process.split (termIn w (r .m)) x (typeIn w (r .t)) y (typeIn w (r .u)) (processIn w (r .p)))
       × Reads term w (r .m) × Reads typeAt w (r .t) × Reads typeAt w (r .u) × Reads processAt w (r .p)
   unfolding built termsOf typesOf pick
   split-pieces x y ex ey e =
-      let (q, o) = whole 6 e (λ z. omega arith) (λ z. omega arith) in
-      (rw (ex, ey) q, p .first-term (much termsOf 6 1 e (omega arith)), p .first-type (much typesOf 6 1 e (omega arith)), p .second-type (much typesOf 6 2 e (omega arith)), o)
+      let (q, o) = whole 6 e (λ z. omega arith) (λ z. omega arith) in (
+        rw (ex, ey) q,
+        p .first-term (much termsOf 6 1 e (omega arith)),
+        p .first-type (much typesOf 6 1 e (omega arith)),
+        p .second-type
+            (much typesOf 6 2 e (omega arith)),
+        o,
+      )
 
-  pub match-pieces : (x : ℕ) → x ≡ getD w (s + 1) 0 → getD w s 0 ≡ 7 → (processIn w s ≡ Process.match (termIn w (r .m)) (termIn w (r .n)) x (typeIn w (r .t)) (processIn w (r .p)))
+  pub match-pieces : (x : ℕ) → x ≡ getD w (s + 1) 0 → getD w s 0 ≡ 7
+      → (processIn w s ≡ Process.match (termIn w (r .m)) (termIn w (r .n)) x (typeIn w (r .t)) (processIn w (r .p)))
       × Reads term w (r .m) × Reads term w (r .n) × Reads typeAt w (r .t) × Reads processAt w (r .p)
   unfolding built termsOf typesOf pick
   match-pieces x ex e =
-      let (q, o) = whole 7 e (λ z. omega arith) (λ z. omega arith) in
-      (rw (ex) q, p .first-term (much termsOf 7 1 e (omega arith)), p .second-term (much termsOf 7 2 e (omega arith)), p .first-type (much typesOf 7 1 e (omega arith)), o)
+      let (q, o) = whole 7 e (λ z. omega arith) (λ z. omega arith) in (
+        rw (ex) q,
+        p .first-term (much termsOf 7 1 e (omega arith)),
+        p .second-term (much termsOf 7 2 e (omega arith)),
+        p .first-type
+            (much typesOf 7 1 e (omega arith)),
+        o,
+      )
 
-  pub decrypt-pieces : (x : ℕ) → x ≡ getD w (s + 1) 0 → getD w s 0 ≡ 8 → (processIn w s ≡ Process.decrypt (termIn w (r .m)) (termIn w (r .n)) x (typeIn w (r .t)) (processIn w (r .p)))
+  pub decrypt-pieces : (x : ℕ) → x ≡ getD w (s + 1) 0 → getD w s 0 ≡ 8
+      → (processIn w s ≡ Process.decrypt (termIn w (r .m)) (termIn w (r .n)) x (typeIn w (r .t)) (processIn w (r .p)))
       × Reads term w (r .m) × Reads term w (r .n) × Reads typeAt w (r .t) × Reads processAt w (r .p)
   unfolding built termsOf typesOf pick
   decrypt-pieces x ex e =
-      let (q, o) = whole 8 e (λ z. omega arith) (λ z. omega arith) in
-      (rw (ex) q, p .first-term (much termsOf 8 1 e (omega arith)), p .second-term (much termsOf 8 2 e (omega arith)), p .first-type (much typesOf 8 1 e (omega arith)), o)
+      let (q, o) = whole 8 e (λ z. omega arith) (λ z. omega arith) in (
+        rw (ex) q,
+        p .first-term (much termsOf 8 1 e (omega arith)),
+        p .second-term (much termsOf 8 2 e (omega arith)),
+        p .first-type
+            (much typesOf 8 1 e (omega arith)),
+        o,
+      )
 
   pub begin-pieces : getD w s 0 ≡ 9 → (processIn w s ≡ Process.begin (termIn w (r .m)) (processIn w (r .p)))
       × Reads term w (r .m) × Reads processAt w (r .p)
@@ -84,7 +106,8 @@ module _ (w : List ℕ) (s : ℕ) (r : Pieces) (p : Pieced w s r) where
       let (q, o) = whole 10 e (λ z. omega arith) (λ z. omega arith) in
       (q, p .first-term (much termsOf 10 1 e (omega arith)), o)
 
-  pub cast-pieces : (x : ℕ) → x ≡ getD w (s + 1) 0 → getD w s 0 ≡ 11 → (processIn w s ≡ Process.cast (termIn w (r .m)) x (bag (effectsIn w (r .f) (r .k))) (processIn w (r .p)))
+  pub cast-pieces : (x : ℕ) → x ≡ getD w (s + 1) 0 → getD w s 0 ≡ 11
+      → (processIn w s ≡ Process.cast (termIn w (r .m)) x (bag (effectsIn w (r .f) (r .k))) (processIn w (r .p)))
       × Reads term w (r .m) × Reads (effects (r .k)) w (r .f) × Reads processAt w (r .p)
   unfolding built termsOf typesOf pick
   cast-pieces x ex e =
@@ -120,10 +143,14 @@ code-by w s r p (suc (suc (suc (suc (suc (suc zero)))))) e l h = ap codeOf (whol
 code-by w s r p (suc (suc (suc (suc (suc (suc (suc zero))))))) e l h = ap codeOf (whole w s r p 7 e (λ z. omega arith) (λ z. omega arith) .0)
 code-by w s r p (suc (suc (suc (suc (suc (suc (suc (suc zero)))))))) e l h = ap codeOf (whole w s r p 8 e (λ z. omega arith) (λ z. omega arith) .0)
 code-by w s r p (suc (suc (suc (suc (suc (suc (suc (suc (suc zero))))))))) e l h = ap codeOf (whole w s r p 9 e (λ z. omega arith) (λ z. omega arith) .0)
-code-by w s r p (suc (suc (suc (suc (suc (suc (suc (suc (suc (suc zero)))))))))) e l h = ap codeOf (whole w s r p 10 e (λ z. omega arith) (λ z. omega arith) .0)
-code-by w s r p (suc (suc (suc (suc (suc (suc (suc (suc (suc (suc (suc zero))))))))))) e l h = ap codeOf (whole w s r p 11 e (λ z. omega arith) (λ z. omega arith) .0)
-code-by w s r p (suc (suc (suc (suc (suc (suc (suc (suc (suc (suc (suc (suc zero)))))))))))) e l h = ap codeOf (whole w s r p 12 e (λ z. omega arith) (λ z. omega arith) .0)
+code-by w s r p (suc (suc (suc (suc (suc (suc (suc (suc (suc (suc zero)))))))))) e l h = ap codeOf
+    (whole w s r p 10 e (λ z. omega arith) (λ z. omega arith) .0)
+code-by w s r p (suc (suc (suc (suc (suc (suc (suc (suc (suc (suc (suc zero))))))))))) e l h = ap codeOf
+    (whole w s r p 11 e (λ z. omega arith) (λ z. omega arith) .0)
+code-by w s r p (suc (suc (suc (suc (suc (suc (suc (suc (suc (suc (suc (suc zero)))))))))))) e l h = ap codeOf
+    (whole w s r p 12 e (λ z. omega arith) (λ z. omega arith) .0)
 code-by w s r p (suc (suc (suc (suc (suc (suc (suc (suc (suc (suc (suc (suc (suc c))))))))))))) e l h = absurd (omega arith)
 
-pub other-word : (w : List ℕ) (s : ℕ) (r : Pieces) (p : Pieced w s r) (k c : ℕ) → k ≡ getD w s 0 → (k ≡ c → ⊥) → codeOf (processIn w s) ≡ c → ⊥
+pub other-word : (w : List ℕ) (s : ℕ) (r : Pieces) (p : Pieced w s r) (k c : ℕ) → k ≡ getD w s 0 → (k ≡ c → ⊥)
+    → codeOf (processIn w s) ≡ c → ⊥
 other-word w s r p k c e d z = d (e ∙ sym (code-by w s r p (getD w s 0) refl (p .low) (p .high)) ∙ z)

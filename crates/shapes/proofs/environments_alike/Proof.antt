@@ -1,4 +1,5 @@
--- `shapes::environments_alike` meets its contract: at one place they are the same, else they are compared. Assumes nothing.
+-- `shapes::environments_alike` meets its contract: at one place they are the same, else they are compared. Assumes
+-- nothing.
 use borrow.Author.Needs.{needs}
 use Rattle.typing.specs.Types.{sameEnvironment}
 use Rattle.typing.specs.Reading.{environmentAt}

@@ -35,8 +35,10 @@ same-bag-requires c κs =
     let after-type-end : tie.After-type-end = search in
     let else1 : tie.Else1 = search in
     let start : tie.Start = search in
-    let (own, other) = start .pre in
-    (nonce-reads _ _ own (else1 .if1 .left) _ (after-wide .wide .ensures .0) _ (after-type-end .type-end .ensures), other)
+    let (own, other) = start .pre in (
+      nonce-reads _ _ own (else1 .if1 .left) _ (after-wide .wide .ensures .0) _ (after-type-end .type-end .ensures),
+      other,
+    )
 
 returns-2 : tie.Need-returns-2
 returns-2 c =

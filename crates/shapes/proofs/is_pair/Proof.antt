@@ -32,7 +32,8 @@ returns-2 c =
     let after-types-alike : tie.After-types-alike = search in
     let else1 : tie.Else1 = search in
     let start : tie.Start = search in
-    pair-first-other _ _ (start .pre .0) (else1 .if1 .left) _ _ _ (after-types-alike .types-alike .ensures) (c .if2 .taken)
+    pair-first-other _ _ (start .pre .0) (else1 .if1 .left) _ _ _ (after-types-alike .types-alike .ensures)
+    (c .if2 .taken)
 
 same-changed-requires : tie.Need-same-changed-requires
 same-changed-requires c κs =

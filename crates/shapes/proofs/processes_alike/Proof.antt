@@ -1,4 +1,5 @@
--- `shapes::processes_alike` meets its contract: at one place they are the same, else they are compared. Assumes nothing.
+-- `shapes::processes_alike` meets its contract: at one place they are the same, else they are compared. Assumes
+-- nothing.
 use borrow.Author.Needs.{needs}
 use Rattle.typing.specs.Process.{sameProcess}
 use Rattle.typing.specs.Reading.{processAt}

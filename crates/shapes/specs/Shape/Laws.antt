@@ -281,7 +281,8 @@ module _ (w : List ℕ) (a : ℕ) (t : Reads typeAt w a) where
     unfolding typeIn effectsIn
     nonce-after =
         let e = ap (λ (u : List ℕ). typeAt (5 ∷ u)) behind-count ∙ type-nonce (getD w (a + 1) 0) (drop (a + 2) w) in
-        let (p, q) = rest-after (λ es. Ty.nonce (bag es)) Ty.Un [] (effects (getD w (a + 1) 0) (drop (a + 2) w)) (t .behind) (sym (ap restOf e) ∙ reads-five) in
+        let (p, q) = rest-after (λ es. Ty.nonce (bag es)) Ty.Un [] (effects (getD w (a + 1) 0) (drop (a + 2) w)) (t .behind)
+        (sym (ap restOf e) ∙ reads-five) in
         (p, ap (λ (u : List ℕ). valueOr Ty.Un (typeAt u)) (whole ∙ ap (λ (c : ℕ). c ∷ drop (a + 1) w) five) ∙ ap (valueOr Ty.Un) e ∙ q)
 
     pub nonce-is : (n : ℕ) → n ≡ getD w (a + 1) 0 → typeIn w a ≡ Ty.nonce (bag (effectsIn w (a + 2) n))
@@ -328,7 +329,8 @@ first-is (suc (suc (suc c))) u v e d = absurd (let z : _≡_ {A = ℕ} 0 1 = cc 
 
 entry-go : (x : ℕ) (o : Read Ty) (v : List ℕ) → restOf (then o (λ p. after (λ (E : Environment). (x ⦂ p .0) ∷ E) (environmentAt (p .1)))) ≡ some v
     → (y : List ℕ) × (restOf o ≡ some y) × (restOf (environmentAt y) ≡ some v)
-    × (valueOr [] (then o (λ p. after (λ (E : Environment). (x ⦂ p .0) ∷ E) (environmentAt (p .1)))) ≡ (x ⦂ valueOr Ty.Un o) ∷ valueOr [] (environmentAt y))
+    × (valueOr [] (then o (λ p. after (λ (E : Environment). (x ⦂ p .0) ∷ E) (environmentAt (p .1)))) ≡ (x ⦂ valueOr Ty.Un o) ∷ valueOr []
+    (environmentAt y))
 unfolding restOf then valueOr
 entry-go x none v e = absurd (let z : _≡_ {A = ℕ} 0 1 = cc in omega arith)
 entry-go x (some p) v e =

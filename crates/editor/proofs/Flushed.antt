@@ -33,7 +33,8 @@ use Rattle.editor.specs.Events.{WroteEvents}
 
 -- party p came through the first i steps: `count` words, whose bytes were written from a on. It holds the entries e, m is its next
 -- placeholder, and k the words of what it stored
-pub record Flushed (b : List ℕ) (p i : ℕ) (log₀ log out₀ : List ℕ) (a : ℕ) (out : List ℕ) (next : ℕ) (e : List ℕ) (m k : ℕ) (step : List ℕ)
+pub record Flushed (b : List ℕ) (p i : ℕ) (log₀ log out₀ : List ℕ) (a : ℕ) (out : List ℕ) (next : ℕ)
+    (e : List ℕ) (m k : ℕ) (step : List ℕ)
     : Type 0 where
   pub valid : Valid b
   pub within : i ≤ steps b
@@ -127,7 +128,8 @@ module _ {b : List ℕ} {p i : ℕ} (h : i < steps b) {log₀ log out₀ : List 
           (w .size)
 
 -- ---- all steps
-pub flushed-end : {b : List ℕ} {p i n : ℕ} {log₀ log out₀ : List ℕ} {a : ℕ} {out : List ℕ} {next : ℕ} {e : List ℕ} {m k : ℕ} {step : List ℕ}
+pub flushed-end : {b : List ℕ} {p i n : ℕ} {log₀ log out₀ : List ℕ} {a : ℕ} {out : List ℕ} {next : ℕ}
+    {e : List ℕ} {m k : ℕ} {step : List ℕ}
     → n ≡ steps b → n ≤ i → Flushed b p i log₀ log out₀ a out next e m k step → WroteEvents b p log₀ log out₀ a out next k
 flushed-end {b} {p} {i} d h g =
     let l = g .within in

@@ -211,7 +211,8 @@ module _ (f : ℕ) (a b c : List ℕ) where
 
 -- ---- questionLine
 -- what is asked with the numbers as they were read
-asks-numbers : (answer : List ℕ → ℕ → ℕ → ℕ → Said) (a b : List ℕ) {p r t : ℕ} → p ≡ number b 0 → r ≡ number b 1 → t ≡ number b 2
+asks-numbers : (answer : List ℕ → ℕ → ℕ → ℕ → Said) (a b : List ℕ) {p r t : ℕ}
+    → p ≡ number b 0 → r ≡ number b 1 → t ≡ number b 2
     → answer a p r t ≡ question answer a b
 asks-numbers answer a b {r = r} {t = t} x y z = ap (λ n. answer a n r t) x ∙ ap₂ (answer a (number b 0)) y z
 

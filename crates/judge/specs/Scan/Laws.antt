@@ -14,7 +14,8 @@ use Rattle.judge.specs.declared.Mode.the-variants.{Event, Image, Last, T
 use Rattle.judge.specs.Scan.{morePending, resumed, inEvent, inImage, nextMode, scan}
 
 -- ---- what the next word is
-pub event-other : (w : ℕ) → (w ≡ 1 → ⊥) → (w ≡ 2 → ⊥) → (w ≡ 3 → ⊥) → (w ≡ 4 → ⊥) → (w ≡ 5 → ⊥) → Since ≡ inEvent w
+pub event-other : (w : ℕ) → (w ≡ 1 → ⊥) → (w ≡ 2 → ⊥) → (w ≡ 3 → ⊥) → (w ≡ 4 → ⊥) → (w ≡ 5 → ⊥)
+    → Since ≡ inEvent w
 event-other zero a b c d e = refl
 event-other (suc zero) a b c d e = absurd (a refl)
 event-other (suc (suc zero)) a b c d e = absurd (b refl)

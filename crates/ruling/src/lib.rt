@@ -14,6 +14,7 @@ use spans::effects_end;
 use spans::environment_end;
 use spans::term_end;
 use spans::type_end;
+use words::word;
 ghost use mathlib.Core.Path.{_≡_};
 ghost use mathlib.Core.List.{[], _∷_};
 ghost use mathlib.Core.Option.{some};
@@ -37,16 +38,6 @@ pub struct Line {
     pub t: usize,
     pub f: usize,
     pub k: usize,
-}
-
-// The word at i; 0 past the end.
-pub fn word(w: &[u32], i: usize) -> u32
-    ensures { λ r. ⌜ r ≡ getD (now (w .entry)) i 0 ⌝ }
-{
-    if i < w.len() {
-        return w[i];
-    }
-    0
 }
 
 // The place behind the k effects at a.

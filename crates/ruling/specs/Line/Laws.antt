@@ -28,12 +28,6 @@ use Rattle.balance.specs.declared.Effects.the-variants.{One, Many}
 use Rattle.shapes.specs.Shape.{Reads}
 use Rattle.shapes.specs.Shape.Laws.{reads-at}
 
--- a word past the end is 0
-pub word-past : (w : List ℕ) (i : ℕ) → length w ≤ i → 0 ≡ getD w i 0
-word-past [] i l = refl
-word-past (x ∷ w) zero l = absurd (omega arith)
-word-past (x ∷ w) (suc i) l = word-past w i (omega arith)
-
 -- ---- the place behind effects
 pub behind-none : (w : List ℕ) (a k : ℕ) → k ≡ 0 → restOf (effects k (drop a w)) ≡ some (drop a w)
 unfolding effects restOf

@@ -1,11 +1,13 @@
-//! Nghiralum's translator, rehearsal, summaries and judge, called on plain byte slices.
+//! Nghiralum's translator, rehearsal, summaries, judge and check of authenticity types, called on plain byte slices.
 //!
 //! A *book* holds the narration of a handshake: rows, parties, steps and a pool, as words of 32 bits, four bytes each,
 //! low byte first. [`translate`] turns it into a *listing*, one program per party; [`rehearse`] plays these programs
 //! under a *schedule*, a row of party numbers, and counts the events that each party has done. [`write_summary`] writes
 //! a *summary*, who held what since when, and [`held_after`] answers questions from it alone. [`judge`] says whether what
-//! another translator wrote for a party is the same program as ours. The repository's README describes books, listings
-//! and refusals.
+//! another translator wrote for a party is the same program as ours. [`check`] checks a *derivation*, which shows by the
+//! rules of authenticity types that a process is safe, and [`keeps_apart`] says whether the process's bound names are
+//! such that this means what it seems to. The repository's README describes books, listings and refusals,
+//! docs/DERIVATIONS.md derivations.
 //!
 //! All are proved in Rattle, and this package only hands slices over: for any bytes whatever a call ends with the
 //! output or with one [`Refusal`], writes nothing but the output, and on a refusal nothing at all. No call panics.
@@ -31,6 +33,12 @@
 //! let theirs = &listing[4 * 5..4 * 25];
 //! assert_eq!(nghiralum::judge(&book, 0, theirs), Ok(nghiralum::Verdict::Same));
 //!
+//! // Is `begin a; STOP` safe, by these three lines?
+//! let bytes = |words: &[u32]| -> Vec<u8> { words.iter().flat_map(|word| word.to_le_bytes()).collect() };
+//! let asked = bytes(&[1, 9, 1, 0, 5]);
+//! let lines = [3, 1, 0, 0, 0, 29, 0, 0, 0, 0, 16, 0, 0, 0, 29, 31, 0, 0, 0, 17, 1, 0, 0, 29, 28, 0, 0, 0, 9, 1, 0, 5];
+//! assert_eq!(nghiralum::check(&asked, &bytes(&lines)), Ok(nghiralum::Finding::Safe));
+//!
 //! let refusal = nghiralum::listing(&book[..50]).expect_err("no whole words");
 //! assert_eq!((refusal.number(), refusal.place()), (1, 0));
 //! ```
@@ -43,15 +51,18 @@
 //!
 //! # Stack
 //!
-//! No heap is used but for the vectors of [`listing`] and [`summary`]. The deepest books take less than 2 MB of stack, which is what
+//! No heap is used but for the vectors of [`listing`] and [`summary`], and for the room of [`check`] and [`keeps_apart`],
+//! as large as what they are given. The deepest books take less than 2 MB of stack, which is what
 //! Rust gives a thread by default and is tested; on a thread with less, a deep book can end the process, as any
 //! recursion does that finds no stack.
 
 #![deny(missing_docs)]
 
+mod finding;
 mod refusal;
 mod verdict;
 
+pub use finding::Finding;
 pub use refusal::Refusal;
 pub use verdict::Verdict;
 
@@ -69,6 +80,15 @@ unsafe extern "C" {
     fn nghiralum_summary(book: *const u8, book_len: usize, out: *mut u8, out_len: usize) -> u64;
     fn nghiralum_ask(summary: *const u8, summary_len: usize, party: u32, row: u32, step: u32) -> u64;
     fn nghiralum_judge(book: *const u8, book_len: usize, party: u32, listing: *const u8, listing_len: usize) -> u64;
+    fn nghiralum_check(
+        asked: *const u8,
+        asked_len: usize,
+        derivation: *const u8,
+        derivation_len: usize,
+        room: *mut u32,
+        room_len: usize,
+    ) -> u64;
+    fn nghiralum_apart(asked: *const u8, asked_len: usize, room: *mut u32, room_len: usize) -> u64;
 }
 
 /// Translates a book: its listing stands in the first bytes of `out`, and the answer is the listing's length in bytes.
@@ -235,6 +255,84 @@ pub fn judge(book: &[u8], party: u32, listing: &[u8]) -> Result<Verdict, Refusal
     // SAFETY: as in `translate`; nothing is written.
     let answer = unsafe { nghiralum_judge(book.as_ptr(), book.len(), party, theirs, count) };
     verdict::unpack(answer)
+}
+
+/// Checks a derivation of authenticity types: whether it shows that what is asked, a process in an environment, has the
+/// empty effect; and if not, the first line that is wrong, if one is.
+///
+/// Both are words in the layout of docs/DERIVATIONS.md, four bytes each, of any length and with anything in them. By the
+/// paper's theorem a process that is safe reaches no `end L` without a `begin L` of its own before it, if its bound names
+/// are kept apart: [`keeps_apart`] tells that. The room for the words is taken from the heap.
+///
+/// # Errors
+///
+/// Refusal 1 if the length of either is no multiple of four bytes; then 24 if there are more than 1,024 lines, with their
+/// count, or else if a line states more than 64 effects, with the count of the smallest such line.
+///
+/// ```
+/// use nghiralum::Finding;
+///
+/// let bytes = |words: &[u32]| -> Vec<u8> { words.iter().flat_map(|word| word.to_le_bytes()).collect() };
+/// // begin a; begin b; end a; end b; STOP, in the empty environment, with a = 0 and b = 1.
+/// let asked = bytes(&[1, 9, 1, 0, 9, 1, 1, 10, 1, 0, 10, 1, 1, 5]);
+/// let mut lines = vec![
+///     6, // lines
+///     1, 0, 0, 0, 56, 0, 0, 0, 0, // the empty environment is good
+///     16, 0, 0, 0, 56, 67, 0, 0, 0, // STOP : []
+///     18, 1, 0, 0, 56, 64, 0, 71, 1, // end b; .. : [end b]
+///     18, 2, 0, 0, 56, 61, 0, 68, 2, // end a; .. : [end a, end b]
+///     17, 3, 0, 0, 56, 58, 0, 68, 1, // begin b; .. : [end a]
+///     17, 4, 0, 0, 56, 55, 0, 0, 0, // begin a; .. : []
+///     9, 1, 0, 9, 1, 1, 10, 1, 0, 10, 1, 1, 5, // the process, and in it its parts
+///     1, 1, 0, 1, 1, 1, // end a, end b
+/// ];
+/// assert_eq!(nghiralum::check(&asked, &bytes(&lines)), Ok(Finding::Safe));
+/// assert_eq!(nghiralum::check(&asked[..4], &bytes(&lines)), Ok(Finding::Another));
+///
+/// lines[29] = 4; // line 3 rests on a later one
+/// assert_eq!(nghiralum::check(&asked, &bytes(&lines)), Ok(Finding::Bad(3)));
+///
+/// lines[27] = 65; // line 2 states 65 effects
+/// let refusal = nghiralum::check(&asked, &bytes(&lines)).expect_err("too many");
+/// assert_eq!((refusal.number(), refusal.place()), (24, 65));
+/// ```
+pub fn check(asked: &[u8], derivation: &[u8]) -> Result<Finding, Refusal> {
+    let mut room = vec![0; asked.len() / 4 + derivation.len() / 4];
+    let (lines, length) = (derivation.as_ptr(), derivation.len());
+    // SAFETY: as in `translate`; the room is apart from the others.
+    let answer = unsafe {
+        nghiralum_check(
+            asked.as_ptr(),
+            asked.len(),
+            lines,
+            length,
+            room.as_mut_ptr(),
+            room.len(),
+        )
+    };
+    finding::unpack(answer)
+}
+
+/// Whether what is asked, a process in an environment, keeps its bound names apart: all its binders are different from
+/// each other and from the environment's names. Words that spell no process do not.
+///
+/// [`check`] does not ask it. Where it holds, "safe" is what the paper's theorem is about.
+///
+/// # Errors
+///
+/// Refusal 1 if the length is no multiple of four bytes.
+///
+/// ```
+/// let bytes = |words: &[u32]| -> Vec<u8> { words.iter().flat_map(|word| word.to_le_bytes()).collect() };
+/// // new (x : Un); new (y : Un); STOP, and with one name for both.
+/// assert_eq!(nghiralum::keeps_apart(&bytes(&[1, 1, 3, 1, 1, 4, 1, 5])), Ok(true));
+/// assert_eq!(nghiralum::keeps_apart(&bytes(&[1, 1, 3, 1, 1, 3, 1, 5])), Ok(false));
+/// ```
+pub fn keeps_apart(asked: &[u8]) -> Result<bool, Refusal> {
+    let mut room = vec![0; asked.len() / 4];
+    // SAFETY: as in `check`.
+    let answer = unsafe { nghiralum_apart(asked.as_ptr(), asked.len(), room.as_mut_ptr(), room.len()) };
+    refusal::unpack_reply(answer)
 }
 
 /// The listing of a book, in as many bytes as it has.

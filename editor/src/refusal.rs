@@ -35,7 +35,8 @@ impl Refusal {
     /// Where it is: a word of the header (refusals 2 and 3), a row (4 to 6), a party (7), a step (8, 10 and 13) or a move
     /// (11), counted from 0; the *words* needed for the output (12); the *words* of a summary that has another length
     /// (20), at most 4,294,967,295; the number in a question that is out of range (21); the number that no party has
-    /// whose listing is to be judged (22); 0 where there is no place (1 and 9).
+    /// whose listing is to be judged (22); the count of a derivation's lines, or of a line's effects, that is too large
+    /// (24); 0 where there is no place (1 and 9).
     pub const fn place(self) -> u32 {
         self.place
     }
@@ -97,6 +98,10 @@ impl Refusal {
                 "the question is out of range: the summary has no party, no row or no step {place}"
             ),
             22 => write!(out, "the listing to be judged is of party {place}, and the book has none of that number"),
+            24 => write!(
+                out,
+                "the derivation has {place} lines, of at most 1,024, or a line of it {place} effects, of at most 64"
+            ),
             _ => write!(out, "one that this version has no sentence for, at {place}"),
         }
     }
@@ -206,6 +211,7 @@ mod tests {
         assert!(refusal(20, 12, 0).to_string().contains("has 12 words"));
         assert!(refusal(21, 65, 0).to_string().ends_with(" 65"));
         assert!(refusal(22, 2, 0).to_string().contains("party 2,"));
+        assert!(refusal(24, 65, 0).to_string().contains("65 effects"));
         for answer in [u64::MAX, u64::MAX - 255, 1 << 63, 0x80] {
             let _ = unpack(answer).map_err(|refusal| refusal.to_string());
         }

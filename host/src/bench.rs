@@ -2,6 +2,7 @@
 //! Answers are compared first, and only equal ones are timed; the outcome is told in tables.
 
 mod cases;
+mod checking;
 mod judging;
 mod keys;
 mod plot;
@@ -56,10 +57,27 @@ pub fn run(library: &Path, books: &Path, picture: Option<&Path>, out: &mut dyn W
         say("The library has no `rehearse`.\n")?;
     }
     if library.has_judge_bytes() {
-        judging::tables(&library, &mut say)
+        judging::tables(&library, &mut say)?;
     } else {
-        say("The library has no `nghiralum_judge`.")
+        say("The library has no `nghiralum_judge`.\n")?;
     }
+    if library.has_check_bytes() {
+        checking::tables(&library, &mut say)
+    } else {
+        say("The library has no `nghiralum_check`.")
+    }
+}
+
+/// The check of derivations alone.
+pub fn run_types(library: &Path, out: &mut dyn Write) -> Result<(), String> {
+    let library = Library::open(library)?;
+    if !library.has_check_bytes() {
+        return Err(String::from("the library has no `nghiralum_check`"));
+    }
+    checking::tables(&library, &mut |text: &str| {
+        let written = writeln!(out, "{text}").and_then(|()| out.flush());
+        written.map_err(|error| format!("standard output: {error}"))
+    })
 }
 
 type Say<'a> = &'a mut dyn FnMut(&str) -> Result<(), String>;

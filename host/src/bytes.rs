@@ -1,11 +1,12 @@
-//! Translation, rehearsal, summaries and the judge on bytes, as an editor calls them that keeps its books so (document
-//! 02, requests 1, 4 and 7): the same answers, four bytes a word, low byte first.
+//! Translation, rehearsal, summaries, the judge and the check of derivations on bytes, as an editor calls them that
+//! keeps its books so (document 02, requests 1, 4, 7 and 14): the same answers, four bytes a word, low byte first.
 
 use crate::book::{self, Refusal, MOST_PARTIES};
 use crate::judge::{self, Verdict};
 use crate::rehearse;
 use crate::summary;
 use crate::translate::{self, Program};
+use crate::types;
 use crate::words;
 
 /// Translates a book's bytes into lent ones: the listing's length in words, or the first refusal that applies.
@@ -32,6 +33,34 @@ pub fn ask(summary: &[u8], party: u32, row: u32, step: u32) -> Result<bool, Refu
 /// Judges the bytes of one party's listing against a book's. If either make no words that is refusal 1, before all else.
 pub fn judge(book: &[u8], party: u32, listing: &[u8]) -> Result<Verdict, Refusal> {
     judge::judge(&words::of_bytes(book)?, party, &words::of_bytes(listing)?)
+}
+
+/// The verdict on a derivation of what is asked, of the bytes of both. If either make no words that is refusal 1; then
+/// comes 24, which is one of the verdicts; and if the room has fewer words than both together, refusal 12 with these.
+/// Else the derivation's words are laid into the room, and behind them those of what is asked.
+pub fn check(asked: &[u8], derivation: &[u8], room: &mut [u32]) -> Result<types::Verdict, Refusal> {
+    let (asked, derivation) = (words::of_bytes(asked)?, words::of_bytes(derivation)?);
+    let verdict = types::verdict(&asked, &derivation);
+    if !matches!(verdict, types::Verdict::Refused(_)) {
+        lay(&[&derivation[..], &asked].concat(), room)?;
+    }
+    Ok(verdict)
+}
+
+/// Whether what is asked keeps its bound names apart, likewise.
+pub fn keeps_apart(asked: &[u8], room: &mut [u32]) -> Result<bool, Refusal> {
+    let asked = words::of_bytes(asked)?;
+    lay(&asked, room)?;
+    Ok(types::keeps_apart(&asked))
+}
+
+/// Lays words into the front of a room, if there is room for them all.
+fn lay(words: &[u32], room: &mut [u32]) -> Result<(), Refusal> {
+    match room.get_mut(..words.len()) {
+        Some(front) => front.copy_from_slice(words),
+        None => return Err(Refusal::new(12, &[words.len() as u32])),
+    }
+    Ok(())
 }
 
 /// The summary of a book, or its refusal, where room is no matter.
@@ -109,6 +138,37 @@ mod tests {
         assert_eq!(judge(&book, 0, &words::to_bytes(&[6, 0])), Ok(Verdict::Same));
         assert_eq!(judge(&book, 0, &words::to_bytes(&[6, 1])), Ok(Verdict::Differs(1)));
         assert_eq!(judge(&book, 1, &[]), Err(Refusal::new(22, &[1])));
+    }
+
+    /// `begin a; STOP` in the empty environment, and its three lines.
+    #[test]
+    fn a_derivation_in_a_room() {
+        let asked = [1, 9, 1, 0, 5];
+        let lines = [
+            [1, 0, 0, 0, 29, 0, 0, 0, 0],
+            [16, 0, 0, 0, 29, 31, 0, 0, 0],
+            [17, 1, 0, 0, 29, 28, 0, 0, 0],
+        ];
+        let derivation = [&[3], lines.concat().as_slice(), &[9, 1, 0, 5]].concat();
+        let (asked, derivation) = (words::to_bytes(&asked), words::to_bytes(&derivation));
+        let one = Err(Refusal::new(1, &[0]));
+        let mut room = [7; 40];
+        assert_eq!(check(&asked[1..], &derivation, &mut []), one);
+        assert_eq!(check(&asked, &derivation[1..], &mut []), one);
+        let short = check(&asked, &derivation, &mut room[..36]);
+        assert_eq!(short, Err(Refusal::new(12, &[37])));
+        assert_eq!(room, [7; 40]);
+        assert_eq!(check(&asked, &derivation, &mut room), Ok(types::Verdict::Safe));
+        assert_eq!((room[0], &room[32..]), (3, &[1, 9, 1, 0, 5, 7, 7, 7][..]));
+        let many = words::to_bytes(&[1_025]);
+        assert_eq!(check(&asked, &many, &mut []), Ok(types::Verdict::Refused(1_025)));
+        assert_eq!(check(&asked, &many, &mut room), Ok(types::Verdict::Refused(1_025)));
+        assert_eq!((room[0], &room[32..]), (3, &[1, 9, 1, 0, 5, 7, 7, 7][..]));
+        assert_eq!(keeps_apart(&asked, &mut room[..4]), Err(Refusal::new(12, &[5])));
+        assert_eq!(keeps_apart(&asked[2..], &mut []), Err(Refusal::new(1, &[0])));
+        assert_eq!(room[0], 3);
+        assert_eq!(keeps_apart(&asked, &mut room), Ok(true));
+        assert_eq!(room[..6], [1, 9, 1, 0, 5, 29]);
     }
 
     #[test]

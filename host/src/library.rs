@@ -3,6 +3,7 @@
 
 use crate::book::Refusal;
 use crate::judge::Verdict;
+use crate::types;
 use std::ffi::{c_char, c_int, c_void, CStr, CString};
 use std::mem;
 use std::path::Path;
@@ -26,6 +27,10 @@ const SUMMARY_BYTES: &CStr = c"nghiralum_summary";
 const ASK_BYTES: &CStr = c"nghiralum_ask";
 const JUDGE: &CStr = c"judge::judge";
 const JUDGE_BYTES: &CStr = c"nghiralum_judge";
+const CHECK: &CStr = c"checking::check";
+const APART: &CStr = c"apart::keeps_apart";
+const CHECK_BYTES: &CStr = c"nghiralum_check";
+const APART_BYTES: &CStr = c"nghiralum_apart";
 
 /// A slice as Rattle hands it over: the address of these two.
 #[repr(C)]
@@ -132,6 +137,28 @@ impl Answer {
     }
 }
 
+/// Rattle's `Finding`, the verdict on a derivation: case 0 for safe, 1 with a line, 2 for another, 3 with the count of
+/// refusal 24; each value where its own size lets it stand.
+#[repr(C)]
+#[derive(Default)]
+struct Finding {
+    case: u8,
+    count: u32,
+    line: usize,
+}
+
+impl Finding {
+    /// The verdict as the host gives it.
+    fn read(&self) -> types::Verdict {
+        match self.case {
+            0 => types::Verdict::Safe,
+            1 => types::Verdict::Bad(u32::try_from(self.line).unwrap_or(u32::MAX)),
+            2 => types::Verdict::Another,
+            _ => types::Verdict::Refused(self.count),
+        }
+    }
+}
+
 /// An answer as the functions on bytes give it, in one number: the refusal's in the lowest byte, 0 for none; above it
 /// four bytes for the first value, a length in words or a place, and three for a second place.
 pub fn packed(answer: &Result<usize, Refusal>) -> u64 {
@@ -158,6 +185,18 @@ pub fn packed_verdict(verdict: &Result<Verdict, Refusal>) -> u64 {
     }
 }
 
+/// The verdict on a derivation, packed likewise: the first value is 1 for safe and 2 for another; for a bad line it is 0,
+/// and the second is the line.
+pub fn packed_finding(verdict: &Result<types::Verdict, Refusal>) -> u64 {
+    match verdict {
+        Ok(types::Verdict::Safe) => 1 << 8,
+        Ok(types::Verdict::Another) => 2 << 8,
+        Ok(types::Verdict::Bad(line)) => u64::from(*line) << 40,
+        Ok(types::Verdict::Refused(count)) => u64::from(*count) << 8 | 24,
+        Err(refusal) => packed(&Err(refusal.clone())),
+    }
+}
+
 type Translate = unsafe extern "C" fn(*mut Answer, *const Slice, *const Slice);
 type Rehearse = unsafe extern "C" fn(*mut Answer, *const Slice, *const Slice, *const Slice);
 type TranslateBytes = unsafe extern "C" fn(*const u8, usize, *mut u8, usize) -> u64;
@@ -166,6 +205,10 @@ type Ask = unsafe extern "C" fn(*mut Answer, *const Slice, u32, u32, u32);
 type AskBytes = unsafe extern "C" fn(*const u8, usize, u32, u32, u32) -> u64;
 type Judge = unsafe extern "C" fn(*mut Answer, *const Slice, u32, *const Slice);
 type JudgeBytes = unsafe extern "C" fn(*const u8, usize, u32, *const u8, usize) -> u64;
+type Check = unsafe extern "C" fn(*mut Finding, *const Slice, *const Slice);
+type Apart = unsafe extern "C" fn(*const Slice) -> bool;
+type CheckBytes = unsafe extern "C" fn(*const u8, usize, *const u8, usize, *mut u32, usize) -> u64;
+type ApartBytes = unsafe extern "C" fn(*const u8, usize, *mut u32, usize) -> u64;
 
 /// The functions that a library has. It is never closed: they live as long as the command.
 pub struct Library {
@@ -179,6 +222,10 @@ pub struct Library {
     ask_bytes: Option<AskBytes>,
     judge: Option<Judge>,
     judge_bytes: Option<JudgeBytes>,
+    check: Option<Check>,
+    apart: Option<Apart>,
+    check_bytes: Option<CheckBytes>,
+    apart_bytes: Option<ApartBytes>,
 }
 
 impl Library {
@@ -205,13 +252,17 @@ impl Library {
                 ask_bytes: find(ASK_BYTES).map(|found| mem::transmute::<*mut c_void, AskBytes>(found)),
                 judge: find(JUDGE).map(|found| mem::transmute::<*mut c_void, Judge>(found)),
                 judge_bytes: find(JUDGE_BYTES).map(|found| mem::transmute::<*mut c_void, JudgeBytes>(found)),
+                check: find(CHECK).map(|found| mem::transmute::<*mut c_void, Check>(found)),
+                apart: find(APART).map(|found| mem::transmute::<*mut c_void, Apart>(found)),
+                check_bytes: find(CHECK_BYTES).map(|found| mem::transmute::<*mut c_void, CheckBytes>(found)),
+                apart_bytes: find(APART_BYTES).map(|found| mem::transmute::<*mut c_void, ApartBytes>(found)),
             }
         })
     }
 
-    /// The names of the functions that the library doesn't have.
+    /// The names of the functions that the library doesn't have: those of books.
     pub fn missing(&self) -> Vec<&'static str> {
-        let all = [
+        lacking(&[
             (TRANSLATE, self.translate.is_some()),
             (REHEARSE, self.rehearse.is_some()),
             (TRANSLATE_BYTES, self.translate_bytes.is_some()),
@@ -222,11 +273,21 @@ impl Library {
             (ASK_BYTES, self.ask_bytes.is_some()),
             (JUDGE, self.judge.is_some()),
             (JUDGE_BYTES, self.judge_bytes.is_some()),
-        ];
-        let missing = all.into_iter().filter(|(_, there)| !there);
-        missing
-            .map(|(name, _)| name.to_str().expect("names are plain"))
-            .collect()
+        ])
+    }
+
+    /// And those of derivations.
+    pub fn missing_types(&self) -> Vec<&'static str> {
+        lacking(&[
+            (CHECK, self.check.is_some()),
+            (APART, self.apart.is_some()),
+            (CHECK_BYTES, self.check_bytes.is_some()),
+            (APART_BYTES, self.apart_bytes.is_some()),
+        ])
+    }
+
+    pub fn has_check_bytes(&self) -> bool {
+        self.check_bytes.is_some()
     }
 
     pub fn has_translate(&self) -> bool {
@@ -324,6 +385,54 @@ impl Library {
         // SAFETY: as above.
         unsafe { judge(book.as_ptr(), book.len(), party, listing.as_ptr(), listing.len()) }
     }
+
+    /// The proved `checking::check`, which the library must have.
+    pub fn check(&self, asked: &[u32], derivation: &[u32]) -> types::Verdict {
+        let check = self.check.expect("the library has `check`");
+        let mut finding = Finding::default();
+        // SAFETY: the slices are what they say, and the finding is as large as Rattle's.
+        unsafe { check(&mut finding, &Slice::of(asked), &Slice::of(derivation)) };
+        finding.read()
+    }
+
+    /// The proved `apart::keeps_apart`, which the library must have.
+    pub fn keeps_apart(&self, asked: &[u32]) -> bool {
+        let apart = self.apart.expect("the library has `keeps_apart`");
+        // SAFETY: the slice is what it says.
+        unsafe { apart(&Slice::of(asked)) }
+    }
+
+    /// The proved `nghiralum_check`, which the library must have: its answer as it is packed.
+    pub fn check_bytes(&self, asked: &[u8], derivation: &[u8], room: &mut [u32]) -> u64 {
+        let check = self.check_bytes.expect("the library has `nghiralum_check`");
+        let (lines, length) = (derivation.as_ptr(), derivation.len());
+        // SAFETY: the slices are what they say.
+        unsafe {
+            check(
+                asked.as_ptr(),
+                asked.len(),
+                lines,
+                length,
+                room.as_mut_ptr(),
+                room.len(),
+            )
+        }
+    }
+
+    /// The proved `nghiralum_apart`, which the library must have: its answer as it is packed.
+    pub fn apart_bytes(&self, asked: &[u8], room: &mut [u32]) -> u64 {
+        let apart = self.apart_bytes.expect("the library has `nghiralum_apart`");
+        // SAFETY: as above.
+        unsafe { apart(asked.as_ptr(), asked.len(), room.as_mut_ptr(), room.len()) }
+    }
+}
+
+/// The names of what isn't there.
+fn lacking(all: &[(&'static CStr, bool)]) -> Vec<&'static str> {
+    let missing = all.iter().filter(|(_, there)| !there);
+    missing
+        .map(|(name, _)| name.to_str().expect("names are plain"))
+        .collect()
 }
 
 fn opened(path: &Path) -> Result<*mut c_void, String> {
@@ -434,6 +543,16 @@ mod tests {
         assert_eq!(packed_verdict(&Ok(Verdict::Differs(1_051_906))), 1_051_906 << 40);
         assert_eq!(packed_verdict(&Err(Refusal::new(22, &[u32::MAX]))), 0xff_ffff_ff16);
         assert_eq!(packed_verdict(&Err(Refusal::new(10, &[63, 5]))), 5 << 40 | 63 << 8 | 10);
+    }
+
+    #[test]
+    fn findings_are_packed() {
+        assert_eq!(packed_finding(&Ok(types::Verdict::Safe)), 1 << 8);
+        assert_eq!(packed_finding(&Ok(types::Verdict::Another)), 2 << 8);
+        assert_eq!(packed_finding(&Ok(types::Verdict::Bad(0))), 0);
+        assert_eq!(packed_finding(&Ok(types::Verdict::Bad(1_023))), 1_023 << 40);
+        assert_eq!(packed_finding(&Ok(types::Verdict::Refused(u32::MAX))), 0xff_ffff_ff18);
+        assert_eq!(packed_finding(&Err(Refusal::new(12, &[7]))), 7 << 8 | 12);
     }
 
     #[test]

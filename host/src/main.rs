@@ -25,7 +25,7 @@ host judge --ours FILE PARTY [OUT]      write our own listing for a party, to be
 host words FILE [OUT]                   turn decimal words (# to the line's end is a remark) into a book
 host books [--check] DIR                write (or only check) the files derived in a folder of books
 host shelf [--check] BOOKS CRATE        write (or only check) what the program shelf reads and prints
-host requests [--check] BOOKS CRATE     write (or only check) what the program calls reads and prints
+host requests [--check] BOOKS PROCESSES CRATE   write (or only check) what the program calls reads and prints
 host requests --write FUNCTION WHAT..   print a request; a slice is a file, or =ITEM,.. (COUNTxITEM repeats one),
                                         a number its figures
 host requests --random SEED COUNT       print random requests
@@ -37,9 +37,12 @@ host compare PROGRAM PATH..             compare a program over books and folders
 host compare PROGRAM --random SEED COUNT   compare a program over random books
 host frames OBJECT [NAME..]             print the stack frames of an object's functions, in bytes (x86-64)
 host bench LIB BOOKS [PLOT]             time proved code, a library made by host/library, against this and its anchor
+host bench --types LIB                  time the check of derivations alone
 host routes LIB SEED COUNT [DIR..]      compare proved bytes, proved words and this on books, schedules, questions and
                                         listings
 host routes --lean SEED COUNT [DIR..]   compare the bench's anchor and this on books and schedules
+host routes --types LIB SEED COUNT [DIR..]   compare proved bytes, proved words and this on derivations, of the processes
+                                        of the folders and of random ones
 host types FILE [OUT]                   derive the effect of a process; write OUT.asked and OUT.derivation
 host types --check ASKED DERIVATION     print the verdict on a derivation, a file of words
 host help                               print this
@@ -142,13 +145,13 @@ fn run(arguments: &[String]) -> Result<bool, String> {
         ["requests", "--random", seed, count] => {
             give(&requests::random(number(seed)?, number(count)? as usize), None)?;
         }
-        ["requests", "--check", books, folder] => {
-            let calls = Calls::of(Path::new(books))?;
+        ["requests", "--check", books, processes, folder] => {
+            let calls = Calls::of(Path::new(books), Path::new(processes))?;
             calls.check(Path::new(folder))?;
             say(&format!("{} requests, current in {folder}\n", calls.requests))?;
         }
-        ["requests", books, folder] if !books.starts_with("--") => {
-            let calls = Calls::of(Path::new(books))?;
+        ["requests", books, processes, folder] if !books.starts_with("--") => {
+            let calls = Calls::of(Path::new(books), Path::new(processes))?;
             calls.write(Path::new(folder))?;
             say(&format!("{} requests, written to {folder}\n", calls.requests))?;
         }
@@ -183,6 +186,7 @@ fn run(arguments: &[String]) -> Result<bool, String> {
                 say(&format!("{} {}\n", frame.bytes, frame.name))?;
             }
         }
+        ["bench", "--types", library] => bench::run_types(Path::new(library), &mut io::stdout())?,
         ["bench", library, books, plot @ ..] if plot.len() < 2 => {
             let (library, books) = (Path::new(library), Path::new(books));
             let plot = plot.first().map(Path::new);
@@ -192,6 +196,11 @@ fn run(arguments: &[String]) -> Result<bool, String> {
             let (seed, count) = (number(seed)?, number(count)? as usize);
             let folders: Vec<PathBuf> = folders.iter().map(PathBuf::from).collect();
             return routes::run_lean(seed, count, &folders, &mut io::stdout());
+        }
+        ["routes", "--types", library, seed, count, folders @ ..] => {
+            let (seed, count) = (number(seed)?, number(count)? as usize);
+            let folders: Vec<PathBuf> = folders.iter().map(PathBuf::from).collect();
+            return routes::types::run(Path::new(library), seed, count, &folders, &mut io::stdout());
         }
         ["routes", library, seed, count, folders @ ..] => {
             let (seed, count) = (number(seed)?, number(count)? as usize);

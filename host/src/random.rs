@@ -1,12 +1,14 @@
 //! Random books: most well formed, about half of those playable, those with parties that make nothing among them, the
-//! rest damaged at one place or another, so that every refusal of a book is met. And random questions about summaries, and
-//! listings to be judged.
+//! rest damaged at one place or another, so that every refusal of a book is met. And random questions about summaries,
+//! listings to be judged, and derivations to be checked.
 
 mod damage;
+pub mod derivation;
 mod listing;
 mod question;
 mod shape;
 
+pub use derivation::{derivation, Derivation};
 pub use listing::{lay, listing, runs, spelt, Listing, Run};
 pub use question::{question, Question};
 

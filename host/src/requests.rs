@@ -13,11 +13,14 @@ use crate::judge;
 use crate::rehearse;
 use crate::summary;
 use crate::translate;
+use crate::types;
 use crate::words;
 use std::io::{Read, Write};
 
 /// A slice has at most so many bytes, so 16,384 words.
 pub const MOST_BYTES: usize = 65_536;
+/// The program lends room for the words of two slices.
+const ROOM: usize = MOST_BYTES / 2;
 /// What is printed where a function accepts and has no output.
 const ACCEPTED: &str = "accepted";
 
@@ -40,13 +43,15 @@ enum Parameter {
     Schedule,
     Summary,
     Listing,
+    Asked,
+    Derivation,
     Lent,
     Number,
 }
 
-use Parameter::{Book, Lent, Listing, Number, Schedule, Summary};
+use Parameter::{Asked, Book, Derivation, Lent, Listing, Number, Schedule, Summary};
 
-pub const FUNCTIONS: [Function; 12] = [
+pub const FUNCTIONS: [Function; 16] = [
     Function {
         number: 1,
         name: "read",
@@ -174,6 +179,43 @@ pub const FUNCTIONS: [Function; 12] = [
         call: |given| {
             let verdict = bytes::judge(&given[0], number_of(&given[2]), &given[1])?;
             Ok(verdict.to_string())
+        },
+    },
+    Function {
+        number: 13,
+        name: "check",
+        item: 4,
+        parameters: &[Asked, Derivation],
+        call: |given| {
+            let [asked, derivation] = [0, 1].map(|at| words_of(&given[at]));
+            Ok(types::verdict(&asked, &derivation).to_string())
+        },
+    },
+    Function {
+        number: 14,
+        name: "nghiralum_check",
+        item: 1,
+        parameters: &[Asked, Derivation],
+        call: |given| {
+            let verdict = bytes::check(&given[0], &given[1], &mut [0; ROOM])?;
+            Ok(verdict.to_string())
+        },
+    },
+    Function {
+        number: 15,
+        name: "keeps_apart",
+        item: 4,
+        parameters: &[Asked],
+        call: |given| Ok(said(types::keeps_apart(&words_of(&given[0]))).to_string()),
+    },
+    Function {
+        number: 16,
+        name: "nghiralum_apart",
+        item: 1,
+        parameters: &[Asked],
+        call: |given| {
+            let apart = bytes::keeps_apart(&given[0], &mut [0; ROOM])?;
+            Ok(said(apart).to_string())
         },
     },
 ];

@@ -4,6 +4,7 @@
 
 mod tally;
 mod trial;
+pub mod types;
 
 use crate::book::Refusal;
 use crate::bytes;

@@ -357,21 +357,21 @@ fn what_is_written() {
 
 #[test]
 fn the_crate_is_current() {
-    let calls = Calls::of(&top().join("books")).unwrap();
+    let calls = Calls::of(&top().join("books"), &top().join("processes")).unwrap();
     assert_eq!(calls.check(&top().join("crates/calls")), Ok(()));
 }
 
 /// The stream of the books is answered as it says, and has every kind of answer.
 #[test]
 fn the_stream_of_the_books() {
-    let calls = Calls::of(&top().join("books")).unwrap();
+    let calls = Calls::of(&top().join("books"), &top().join("processes")).unwrap();
     let (lines, count) = answered(&calls.stdin);
     assert_eq!((lines.as_bytes(), count), (&calls.stdout[..], Ok(calls.requests)));
-    assert!(calls.requests < 2_300, "{}", calls.requests);
+    assert!(calls.requests < 3_000, "{}", calls.requests);
     for whole in ["accepted", "yes", "no", "refused 12 16387", "same", "differs 0"] {
         assert!(lines.lines().any(|line| line == whole), "{whole}");
     }
-    for number in (1..=13).chain(20..=22) {
+    for number in (1..=13).chain(20..=22).chain([24]) {
         let refused = format!("refused {number} ");
         assert!(lines.contains(&refused), "{refused}");
     }
@@ -414,18 +414,75 @@ fn the_stream_of_the_books() {
             assert!(met.contains(&(number, kind.to_string())), "{number} {kind}");
         }
     }
-    for number in [10, 12] {
+    for number in [13, 14] {
+        for kind in ["safe", "another", "bad 0", "bad 1", "refused 24"] {
+            assert!(met.contains(&(number, kind.to_string())), "{number} {kind}");
+        }
+    }
+    for number in [15, 16] {
+        for kind in ["yes", "no"] {
+            assert!(met.contains(&(number, kind.to_string())), "{number} {kind}");
+        }
+    }
+    for number in [10, 12, 14, 16] {
         assert!(met.contains(&(number, "refused 1".to_string())), "{number}");
     }
+}
+
+/// Derivations on words and on bytes: the example of docs/DERIVATIONS.md and its neighbours.
+#[test]
+fn derivations() {
+    let asked = [1, 9, 1, 0, 9, 1, 1, 10, 1, 0, 10, 1, 1, 5];
+    let lines = [
+        [1, 0, 0, 0, 56, 0, 0, 0, 0],
+        [16, 0, 0, 0, 56, 67, 0, 0, 0],
+        [18, 1, 0, 0, 56, 64, 0, 71, 1],
+        [18, 2, 0, 0, 56, 61, 0, 68, 2],
+        [17, 3, 0, 0, 56, 58, 0, 68, 1],
+        [17, 4, 0, 0, 56, 55, 0, 0, 0],
+    ];
+    let things = [9, 1, 0, 9, 1, 1, 10, 1, 0, 10, 1, 1, 5, 1, 1, 0, 1, 1, 1];
+    let right = [&[6], lines.concat().as_slice(), &things].concat();
+    let with = |place: usize, word: u32| {
+        let mut words = right.clone();
+        words[place] = word;
+        words
+    };
+    let cases = [
+        (right.clone(), "safe"),
+        (with(29, 4), "bad 3"),
+        (with(27, 65), "refused 24 65"),
+        (with(0, 1_025), "refused 24 1025"),
+        (vec![], "another"),
+    ];
+    let mut stream = Vec::new();
+    let mut expected = String::new();
+    for (derivation, line) in cases {
+        let words = [vec![13], slice(&asked), slice(&derivation)].concat();
+        stream.extend(words::to_bytes(&words));
+        stream.extend(words::to_bytes(&[14]));
+        stream.extend(octets(&words::to_bytes(&asked), 9));
+        stream.extend(octets(&words::to_bytes(&derivation), 9));
+        expected += &format!("{line}\n{line}\n");
+    }
+    for (odd, line) in [(0, "yes"), (2, "refused 1 0")] {
+        let bytes = words::to_bytes(&asked);
+        stream.extend(words::to_bytes(&[16]));
+        stream.extend(octets(&bytes[odd..], 9));
+        expected += &format!("{line}\n");
+    }
+    stream.extend(words::to_bytes(&[vec![15], slice(&asked[1..])].concat()));
+    expected += "no\n";
+    assert_eq!(answered(&stream), (expected, Ok(13)));
 }
 
 /// Random requests are whole, and the same seed gives the same ones.
 #[test]
 fn random_requests() {
-    let stream = requests::random(5, 700);
-    assert_eq!(stream, requests::random(5, 700));
+    let stream = requests::random(5, 1_000);
+    assert_eq!(stream, requests::random(5, 1_000));
     let (lines, count) = answered(&stream);
-    assert_eq!(count, Ok(700));
+    assert_eq!(count, Ok(1_000));
     for kind in [
         "accepted\n",
         "refused 2 ",
@@ -443,7 +500,19 @@ fn random_requests() {
         Request::next(&mut rest).unwrap();
     }
     assert!(functions.iter().all(|count| *count > 10), "{functions:?}");
-    for kind in ["yes", "no", "refused 20", "refused 21", "same", "differs", "refused 22"] {
+    for kind in [
+        "yes",
+        "no",
+        "refused 20",
+        "refused 21",
+        "same",
+        "differs",
+        "refused 22",
+        "safe",
+        "bad",
+        "another",
+        "refused 24",
+    ] {
         let count = lines.lines().filter(|line| line.starts_with(kind)).count();
         assert!(count > 3, "{kind}: {count}");
     }
@@ -489,18 +558,22 @@ fn the_commands() {
     );
 
     let to = Folder::new("requests-crate");
-    let (at, crate_at) = (folder.path(""), to.path(""));
+    let none = Folder::new("requests-processes");
+    let (at, crate_at, types) = (folder.path(""), to.path(""), none.path(""));
     // For the one book 14, of its summary 7 and 4 listings; then 37 questions and 110 listings at the edges, and 4 that are
-    // long.
-    let said = |done: &str| format!("176 requests, {done} {crate_at}\n");
-    assert_eq!(common::printed(&["requests", &at, &crate_at]), said("written to"));
+    // long. Without a process five derivations that are tried by name, 60 at random, and some of odd bytes.
+    let said = |done: &str| format!("{} requests, {done} {crate_at}\n", 176 + 4 * (5 + 60) + 15);
     assert_eq!(
-        common::printed(&["requests", "--check", &at, &crate_at]),
+        common::printed(&["requests", &at, &types, &crate_at]),
+        said("written to")
+    );
+    assert_eq!(
+        common::printed(&["requests", "--check", &at, &types, &crate_at]),
         said("current in")
     );
     to.file("stdout", "");
-    assert!(complains(&["requests", "--check", &at, &crate_at]).contains("stale"));
-    complains(&["requests", "--check", &at]);
+    assert!(complains(&["requests", "--check", &at, &types, &crate_at]).contains("stale"));
+    complains(&["requests", "--check", &at, &types]);
     complains(&["requests", "--write"]);
     complains(&["requests", "--write", "nothing"]);
     complains(&["requests", "--write", "ask", "=1,1,1,1", "0", "0", "zero"]);

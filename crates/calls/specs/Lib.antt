@@ -1,4 +1,1 @@
-pub mod Call
-pub mod Judgement
 pub mod Next
-pub mod Reply

@@ -1,1 +1,3 @@
 pub mod Large
+pub mod Lines
+pub mod Finding

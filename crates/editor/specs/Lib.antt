@@ -1,3 +1,4 @@
 pub mod Bytes
+pub mod Checked
 pub mod Events
 pub mod Packed

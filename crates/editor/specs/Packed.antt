@@ -23,7 +23,8 @@ twoValues n = eqb n 10 || eqb n 13
 unfoldable pub unpack : ℕ → Said
 unpack n = said (n % 256) (n / 256 % 4294967296 ∷ pick (twoValues (n % 256)) (n / 1099511627776 ∷ []) [])
 
--- a summary may have more words than 32 bits count: refusal 20 then tells the largest number that they hold
+-- a summary may have more words than 32 bits count, and so may what is asked and a derivation: refusals 20 and 12 then tell the largest
+-- number that they hold
 abbrev pub capped : Said → Said
 capped s = said (s .number) (map (min 4294967295) (s .values))
 
@@ -51,3 +52,7 @@ returned n bs = record { answer = n; lent = bs }
 
 abbrev pub packed : Outcome → Returned
 packed o = returned (pack (o .says)) (o .lent)
+
+-- the same, where a value may not fit 32 bits
+abbrev pub packedCapped : Outcome → Returned
+packedCapped o = returned (pack (capped (o .says))) (o .lent)

@@ -30,7 +30,7 @@ use words::word;
 ghost use mathlib.Core.Path.{_≡_};
 ghost use mathlib.Core.List.{[], _++_};
 ghost use mathlib.Core.Bool.{false};
-ghost use Prim.Native.Nat.{_+_, _-_, _*_, _≤_, _<_};
+ghost use Prim.Native.Nat.{_+_, _-_, _*_, _≤_, _<_, min, max};
 ghost use lib.ListN.{length, getD};
 ghost use lib.Dec.{eqb};
 ghost use Rattle.words.specs.Choice.{pick};
@@ -399,7 +399,7 @@ struct Range {
 
 // The lower of two, and the higher.
 fn lower(m: usize, n: usize) -> usize
-    ensures { λ r. ⌜ (r ≤ m) × (r ≤ n) ⌝ }
+    ensures { λ r. ⌜ r ≡ min m n ⌝ }
 {
     if m < n {
         return m;
@@ -408,7 +408,7 @@ fn lower(m: usize, n: usize) -> usize
 }
 
 fn higher(m: usize, n: usize) -> usize
-    ensures { λ r. ⌜ (m ≤ r) × (n ≤ r) ⌝ }
+    ensures { λ r. ⌜ r ≡ max m n ⌝ }
 {
     if m < n {
         return n;

@@ -96,7 +96,7 @@ fn line(case: &Case, library: &Library) -> Result<String, String> {
 }
 
 /// The times of both in nanoseconds, a round each; who goes first changes.
-fn in_turn(sides: [&dyn Fn(); 2]) -> [Vec<f64>; 2] {
+pub fn in_turn(sides: [&dyn Fn(); 2]) -> [Vec<f64>; 2] {
     let once = sides.map(|side| stretch(1, side));
     let runs = once.map(repeats);
     let round: f64 = once.iter().zip(runs).map(|(time, runs)| time * runs as f64).sum();

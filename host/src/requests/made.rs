@@ -1,6 +1,7 @@
 //! Streams of requests: the one that the program `calls` is run on, and random ones.
 
-use super::{words_of, Book, Function, Lent, Listing, Number, Request, Schedule, Summary, FUNCTIONS, MOST_BYTES};
+use super::{words_of, Function, Request, FUNCTIONS, MOST_BYTES};
+use super::{Asked, Book, Derivation, Lent, Listing, Number, Schedule, Summary};
 use crate::book;
 use crate::bytes;
 use crate::files;
@@ -26,9 +27,17 @@ const SUMMARY_BYTES: &Function = &FUNCTIONS[8];
 const ASK_BYTES: &Function = &FUNCTIONS[9];
 const JUDGE: &Function = &FUNCTIONS[10];
 const JUDGE_BYTES: &Function = &FUNCTIONS[11];
+const CHECK: &Function = &FUNCTIONS[12];
+const CHECK_BYTES: &Function = &FUNCTIONS[13];
+const APART: &Function = &FUNCTIONS[14];
+const APART_BYTES: &Function = &FUNCTIONS[15];
 
 /// So many listings are judged for each small book, on words and on bytes.
 const LISTINGS: usize = 2;
+/// So many derivations are checked at random.
+const DERIVATIONS: usize = 60;
+/// Of longer ones, two are.
+const LONG: usize = 2_000;
 
 /// The two files of the program's crate, and how many requests are in them.
 pub struct Calls {
@@ -40,8 +49,8 @@ pub struct Calls {
 impl Calls {
     /// Over the books of a folder, in the order of their names: each function for the small ones, in several ways; every
     /// kind of question about the first summary, and every word of the first parts changed; and the longest slices that
-    /// are taken for the longest book.
-    pub fn of(folder: &Path) -> Result<Calls, String> {
+    /// are taken for the longest book. Over the processes of another: the derivation of each, and some at random.
+    pub fn of(folder: &Path, processes: &Path) -> Result<Calls, String> {
         let mut calls = Calls {
             stdin: Vec::new(),
             stdout: Vec::new(),
@@ -75,7 +84,51 @@ impl Calls {
         calls.add(WRITE_SUMMARY, &[&longest, &[BEFORE; MOST_BYTES]]);
         calls.ask(ASK, &longest_question());
         calls.judge(JUDGE, &longest, 0, &longest_listing(&longest));
+        let trials = random::derivation::trials(processes)?;
+        let (long, short): (Vec<_>, Vec<_>) = (trials.iter()).partition(|own| own.derivation.words.len() > LONG);
+        for trial in short.into_iter().chain(long.into_iter().take(2)) {
+            calls.check_all(&trial.derivation);
+        }
+        let given = random::derivation::given(processes)?;
+        let drawn = std::iter::repeat_with(|| random::derivation(&mut random, &given));
+        for own in drawn.filter(|own| own.words.len() <= LONG).take(DERIVATIONS) {
+            calls.check_all(&own);
+        }
+        if let Some(first) = trials.first() {
+            calls.try_odd_derivation(&first.derivation);
+        }
         Ok(calls)
+    }
+
+    /// A derivation, on words and on bytes, and whether what is asked keeps its bound names apart.
+    fn check_all(&mut self, own: &random::Derivation) {
+        let [asked, derivation] = [&own.asked, &own.words].map(|words| words::to_bytes(words));
+        if asked.len().max(derivation.len()) > MOST_BYTES {
+            return;
+        }
+        for function in [CHECK, CHECK_BYTES] {
+            self.add(function, &[&asked, &derivation]);
+        }
+        for function in [APART, APART_BYTES] {
+            self.add(function, &[&asked]);
+        }
+    }
+
+    /// Bytes that make no words, before all else; and as many as a slice may have.
+    fn try_odd_derivation(&mut self, own: &random::Derivation) {
+        let [asked, mut derivation] = [&own.asked, &own.words].map(|words| words::to_bytes(words));
+        for odd in 1..4 {
+            self.add(CHECK_BYTES, &[&asked[odd..], &derivation]);
+            self.add(CHECK_BYTES, &[&asked, &derivation[odd..]]);
+            self.add(CHECK_BYTES, &[&asked[odd..], &[1; 1]]);
+            self.add(APART_BYTES, &[&asked[odd..]]);
+        }
+        derivation.resize(MOST_BYTES, BEFORE);
+        let longest = [BEFORE; MOST_BYTES];
+        for function in [CHECK, CHECK_BYTES] {
+            self.add(function, &[&longest, &derivation]);
+        }
+        self.add(APART_BYTES, &[&longest]);
     }
 
     /// A function called for a book: with room and some to spare, with a word too few, and under schedules in order
@@ -303,6 +356,10 @@ pub fn random(seed: u64, count: usize) -> Vec<u8> {
         let summary = bytes::summary(book).ok();
         let asked = question(&mut random, summary.as_deref());
         let judged = random::listing(&mut random, bytes::programs(book).ok().as_deref());
+        let checked = match function.parameters.contains(&Asked) {
+            true => Some(random::derivation(&mut random, &[])),
+            false => None,
+        };
         let mut numbers = match function.parameters.contains(&Listing) {
             true => vec![judged.party],
             false => asked.numbers.to_vec(),
@@ -321,6 +378,11 @@ pub fn random(seed: u64, count: usize) -> Vec<u8> {
             Listing => {
                 let listing = words::to_bytes(&judged.words);
                 odd(&mut random, whole(&listing, 4).to_vec(), function.item)
+            }
+            Asked | Derivation => {
+                let own = checked.as_ref().expect("it was drawn");
+                let words = if *parameter == Asked { &own.asked } else { &own.words };
+                odd(&mut random, whole(&words::to_bytes(words), 4).to_vec(), function.item)
             }
             Lent => {
                 let lent = lent(&mut random, need(function, book));

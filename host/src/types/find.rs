@@ -19,6 +19,9 @@ struct Finder<'a> {
     asked: &'a Asked,
     lines: Vec<Line>,
     known: HashMap<String, usize>,
+    /// The lines of environments that are good. Each of their entries rests on the one before in several ways, so that
+    /// without this the time would double from entry to entry.
+    good: HashMap<Vec<u32>, usize>,
 }
 
 type Found<T> = Result<T, String>;
@@ -29,6 +32,7 @@ pub fn derive(asked: &Asked) -> Found<Derived> {
         asked,
         lines: Vec::new(),
         known: HashMap::new(),
+        good: HashMap::new(),
     };
     let (_, left) = finder.process(&asked.environment, &asked.process)?;
     Ok(Derived {
@@ -62,8 +66,15 @@ impl Finder<'_> {
         let Some(((_, kind), before)) = environment.split_last() else {
             return Ok(self.line(1, &[], Judgement::Good(Vec::new())));
         };
+        let mut own = Vec::new();
+        write::environment(environment, &mut own);
+        if let Some(&line) = self.good.get(&own) {
+            return Ok(line);
+        }
         let premise = self.kind(&before.to_vec(), kind)?;
-        Ok(self.line(2, &[premise], Judgement::Good(environment.clone())))
+        let line = self.line(2, &[premise], Judgement::Good(environment.clone()));
+        self.good.insert(own, line);
+        Ok(line)
     }
 
     fn kind(&mut self, environment: &Environment, kind: &Type) -> Found<usize> {

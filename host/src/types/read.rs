@@ -12,6 +12,11 @@ impl<'a> Reader<'a> {
         Reader { words, place }
     }
 
+    /// The place of the next word.
+    pub fn place(&self) -> usize {
+        self.place
+    }
+
     /// All words are read.
     pub fn done(&self) -> bool {
         self.place == self.words.len()

@@ -5,7 +5,7 @@ use native.Mathlib.Omega.{arith}
 use lib.Seq.{length-take-le}
 use borrow.Author.Needs.{needs}
 use Rattle.input.specs.Input.Laws.{within-bytes}
-use Rattle.calls.specs.Call.Laws.{front-few}
+use Rattle.calling.specs.Call.Laws.{front-few}
 use Rattle.calls.proofs.answer.Statement.{statement}
 use Rattle.calls.proofs.answer.Tie as tie
 

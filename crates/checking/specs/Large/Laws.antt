@@ -5,14 +5,15 @@ use mathlib.Core.List.{List, [], _∷_}
 use mathlib.Core.Logic.{_↔_}
 use mathlib.Core.Path.{_≡_, refl, sym, _∙_, ap}
 use native.Mathlib.Omega.{arith}
-use native.Mathlib.Decide.{ℕ-discrete as decEq}
+use native.Mathlib.Decide.{decLt, ℕ-discrete as decEq}
 use lib.Dec.{ltb}
-use lib.ListN.{length, getD}
+use lib.ListN.{length, getD, take}
+use lib.Seq.{getD-take}
 use borrow.Author.Tests.{lt-ltb, le-ltb, ltb-true, ltb-false}
 use Rattle.words.specs.Choice.{pick}
 use Rattle.words.specs.Choice.Laws.{pick-true, pick-false, pick-ind}
 use Rattle.words.specs.First.{first, any}
-use Rattle.words.specs.First.Laws.{first-at, first-holds, any-at, any-none, none-any, any-first}
+use Rattle.words.specs.First.Laws.{first-same, first-at, first-holds, any-at, any-none, none-any, any-first}
 use Rattle.typing.specs.Derivation.{lines, lineWord, effectCount, crowded, mostLines, mostEffects, Verdict, verdict, Within}
 use Rattle.checking.specs.Large.{tooLarge}
 
@@ -107,3 +108,44 @@ none-large w =
 
 pub large-exact : (w : List ℕ) → (tooLarge w ≡ 0) ↔ Within w
 large-exact w = (none-large w, large-none w)
+
+-- ---- the lines' own words are enough: one, and nine for each of 1,024 lines
+module _ (w : List ℕ) (n : ℕ) (h : 9217 ≤ n) where
+  lines-front : lines (take n w) ≡ lines w
+  unfolding lines
+  lines-front = getD-take n w 0 0 (omega arith)
+
+  count-front : (i : ℕ) → i < 1024 → effectCount (take n w) i ≡ effectCount w i
+  unfolding effectCount lineWord
+  count-front i l = getD-take n w (1 + 9 * i + 8) 0 (omega arith)
+
+  -- so many lines, and the first of them that states too many effects
+  stated : List ℕ → ℕ → ℕ
+  stated v k = pick (any (crowded v) k) (effectCount v (first (crowded v) k)) 0
+
+  stated-front : (k : ℕ) → k ≤ 1024 → stated (take n w) k ≡ stated w k
+  unfolding stated any crowded
+  stated-front k l =
+      let same : first (crowded (take n w)) k ≡ first (crowded w) k =
+      first-same (crowded (take n w)) (crowded w) k (λ i m. ap (ltb mostEffects) (count-front i (omega arith))) in
+      elim (decLt (first (crowded w) k) k) [
+        | yes m ↦
+            pick-true _ _ _ (lt-ltb (first (crowded (take n w)) k) k (omega arith))
+            ∙ ap (effectCount (take n w)) same ∙ count-front (first (crowded w) k) (omega arith)
+            ∙ sym (pick-true _ _ _ (lt-ltb (first (crowded w) k) k m))
+        | no m ↦
+            pick-false _ _ _ (le-ltb (first (crowded (take n w)) k) k (omega arith))
+            ∙ sym (pick-false _ _ _ (le-ltb (first (crowded w) k) k (omega arith)))
+      ]
+
+  pub large-front : tooLarge (take n w) ≡ tooLarge w
+  unfolding tooLarge stated
+  large-front = elim (decLt mostLines (lines w)) [
+    | yes l ↦
+        pick-true _ _ _ (lt-ltb mostLines (lines (take n w)) (omega (arith, lines-front))) ∙ lines-front
+        ∙ sym (pick-true _ _ _ (lt-ltb mostLines (lines w) l))
+    | no l ↦
+        pick-false _ _ _ (le-ltb mostLines (lines (take n w)) (omega (arith, lines-front)))
+        ∙ ap (stated (take n w)) lines-front ∙ stated-front (lines w) (omega arith)
+        ∙ sym (pick-false _ _ _ (le-ltb mostLines (lines w) (omega arith)))
+  ]

@@ -1,100 +1,40 @@
 -- `running::by_decrypt` meets its contract: the process by its pieces, and its premises. Assumes nothing.
 use borrow.Author.Needs.{needs}
-use mathlib.Core.Path.{refl, sym, _∙_}
 use native.Mathlib.Omega.{arith}
 use Rattle.ruling.specs.Line.{saysProcess, saysTerm}
 use Rattle.shapes.specs.Shape.{madeType}
 use Rattle.running.specs.Rules.Laws.{decrypt, decrypt-other}
-use Rattle.running.specs.Rules.Pieces.{decrypt-pieces, other-word}
+use Rattle.running.specs.Rules.Pieces.{DecryptAt, decrypt-at, other-word}
 use Rattle.running.proofs.by_decrypt.Statement.{statement}
 use Rattle.running.proofs.by_decrypt.Tie as tie
 
-returns : tie.Need-returns
-unfolding saysProcess
-returns c =
-    let after-pieces-of : tie.After-pieces-of = search in
-    let after-word : tie.After-word = search in
-    decrypt-other _ _ _ _ (other-word _ _ _ (after-pieces-of .pieces-of .ensures) _ _ (after-word .word .ensures)
-    (c .if1 .taken))
+-- the process by its pieces
+module _ (c : tie.After-word2) where
+  abbrev start : tie.Start
+  start = search
 
-term-premise-requires : tie.Need-term-premise-requires
-term-premise-requires c κs =
-    let else1 : tie.Else1 = search in
-    let after-pieces-of : tie.After-pieces-of = search in
-    let after-word : tie.After-word = search in
-    let start : tie.Start = search in
-    let word-is = sym (after-word .word .ensures) ∙ else1 .if1 .left in
-    let (is, m, n, t, p) = decrypt-pieces _ _ _ (after-pieces-of .pieces-of .ensures) _ refl word-is in
-    (start .pre .0 .environment, start .pre .1, m)
+  abbrev after-pieces-of : tie.After-pieces-of
+  after-pieces-of = search
 
-term-premise-requires-2 : tie.Need-term-premise-requires-2
-term-premise-requires-2 c κs =
-    let else1 : tie.Else1 = search in
-    let after-pieces-of : tie.After-pieces-of = search in
-    let after-word : tie.After-word = search in
-    let start : tie.Start = search in
-    let word-is = sym (after-word .word .ensures) ∙ else1 .if1 .left in
-    let (is, m, n, t, p) = decrypt-pieces _ _ _ (after-pieces-of .pieces-of .ensures) _ refl word-is in
-    (start .pre .0 .environment, start .pre .2, n)
-
-entered-requires : tie.Need-entered-requires
-entered-requires c κs =
-    let else1 : tie.Else1 = search in
-    let after-pieces-of : tie.After-pieces-of = search in
-    let after-word : tie.After-word = search in
-    let start : tie.Start = search in
-    let word-is = sym (after-word .word .ensures) ∙ else1 .if1 .left in
-    let (is, m, n, t, p) = decrypt-pieces _ _ _ (after-pieces-of .pieces-of .ensures) _ refl word-is in
-    (start .pre .0 .environment, start .pre .3, t, p)
-
-same-as-requires-2 : tie.Need-same-as-requires-2
-same-as-requires-2 c κs =
-    let else1 : tie.Else1 = search in
-    let after-pieces-of : tie.After-pieces-of = search in
-    let after-word : tie.After-word = search in
-    let start : tie.Start = search in
-    let word-is = sym (after-word .word .ensures) ∙ else1 .if1 .left in
-    let (is, m, n, t, p) = decrypt-pieces _ _ _ (after-pieces-of .pieces-of .ensures) _ refl word-is in
-    (start .pre .2 .type, t)
-
-returns-2 : tie.Need-returns-2
-unfolding saysProcess saysTerm madeType
-returns-2 c =
-    let after-fresh : tie.After-fresh = search in
-    let after-unchanged : tie.After-unchanged = search in
-    let after-same-as2 : tie.After-same-as2 = search in
-    let after-same-as : tie.After-same-as = search in
-    let after-entered : tie.After-entered = search in
-    let after-term-premise2 : tie.After-term-premise2 = search in
-    let after-term-premise : tie.After-term-premise = search in
-    let after-word2 : tie.After-word2 = search in
-    let else1 : tie.Else1 = search in
-    let after-pieces-of : tie.After-pieces-of = search in
-    let after-word : tie.After-word = search in
-    let start : tie.Start = search in
-    let word-is = sym (after-word .word .ensures) ∙ else1 .if1 .left in
-    let (is, m, n, t, p) = decrypt-pieces _ _ _ (after-pieces-of .pieces-of .ensures) _ (after-word2 .word2 .ensures)
-    word-is in
-    decrypt _ _ _ _ _ _ _ _ _ _ _ _ _ _ _ _ _ is _ _ _ _ _ _ _ _ (after-term-premise .term-premise .ensures)
-    (after-term-premise2 .term-premise2 .ensures) (after-entered .entered .ensures) (after-same-as .same-as .ensures)
-    (after-same-as2 .same-as2 .ensures) (after-unchanged .unchanged .ensures) (after-fresh .fresh .ensures)
-    (c .all7 .ensures)
+  pieces : DecryptAt (start .args .w .now) (start .args .i .s) (after-pieces-of .pieces-of .result) (c .word2 .result)
+  pieces = search decrypt-at
 
 pub by-decrypt-spec : {M : Type 1} → statement M
+unfolding saysProcess saysTerm madeType
 by-decrypt-spec =
     tie.close
     (tie.spec
     (λ c κs. search needs)  -- word-requires
     (λ c κs. search needs)  -- pieces-of-requires
-    returns
+    (λ c. search (decrypt-other, other-word))  -- returns
     (λ c. omega arith)  -- add-word
     (λ c κs. search needs)  -- word-requires-2
-    term-premise-requires
-    term-premise-requires-2
-    entered-requires
+    (λ c κs. let made = pieces (search) in search needs)  -- term-premise-requires
+    (λ c κs. let made = pieces (search) in search needs)  -- term-premise-requires-2
+    (λ c κs. let made = pieces (search) in search needs)  -- entered-requires
     (λ c κs. search needs)  -- same-as-requires
-    same-as-requires-2
+    (λ c κs. let made = pieces (search) in search needs)  -- same-as-requires-2
     (λ c κs. search needs)  -- unchanged-requires
     (λ c κs. search needs)  -- fresh-requires
     (λ c κs. search needs)  -- all7-requires
-    returns-2)
+    (λ c. let made = pieces (search) in search decrypt))  -- returns-2

@@ -154,3 +154,132 @@ code-by w s r p (suc (suc (suc (suc (suc (suc (suc (suc (suc (suc (suc (suc (suc
 pub other-word : (w : List ℕ) (s : ℕ) (r : Pieces) (p : Pieced w s r) (k c : ℕ) → k ≡ getD w s 0 → (k ≡ c → ⊥)
     → codeOf (processIn w s) ≡ c → ⊥
 other-word w s r p k c e d z = d (e ∙ sym (code-by w s r p (getD w s 0) refl (p .low) (p .high)) ∙ z)
+
+-- ---- what stands at s, and what its pieces read, where the first word says so
+pub record NewAt (w : List ℕ) (s : ℕ) (r : Pieces) (x : ℕ) : Type 0 where
+  pub is : processIn w s ≡ Process.new x (typeIn w (r .t)) (processIn w (r .p))
+  pub t : Reads typeAt w (r .t)
+  pub p : Reads processAt w (r .p)
+  pub word : getD w s 0 ≡ 1
+  pub inside : s + 1 < length w
+
+pub record OutAt (w : List ℕ) (s : ℕ) (r : Pieces) : Type 0 where
+  pub is : processIn w s ≡ Process.out (termIn w (r .m)) (termIn w (r .n)) (processIn w (r .p))
+  pub m : Reads term w (r .m)
+  pub n : Reads term w (r .n)
+  pub p : Reads processAt w (r .p)
+
+pub record InpAt (w : List ℕ) (s : ℕ) (r : Pieces) (x : ℕ) : Type 0 where
+  pub is : processIn w s ≡ Process.inp (termIn w (r .m)) x (typeIn w (r .t)) (processIn w (r .p))
+  pub m : Reads term w (r .m)
+  pub t : Reads typeAt w (r .t)
+  pub p : Reads processAt w (r .p)
+
+pub record ParallelAt (w : List ℕ) (s : ℕ) (r : Pieces) (q : ℕ) : Type 0 where
+  pub is : processIn w s ≡ Process.parallel (processIn w (r .p)) (processIn w q)
+  pub first : Reads processAt w (r .p)
+  pub second : Reads processAt w q
+
+pub record SplitAt (w : List ℕ) (s : ℕ) (r : Pieces) (x y : ℕ) : Type 0 where
+  pub is : processIn w s ≡ Process.split (termIn w (r .m)) x (typeIn w (r .t)) y (typeIn w (r .u)) (processIn w (r .p))
+  pub m : Reads term w (r .m)
+  pub t : Reads typeAt w (r .t)
+  pub u : Reads typeAt w (r .u)
+  pub p : Reads processAt w (r .p)
+
+pub record MatchAt (w : List ℕ) (s : ℕ) (r : Pieces) (x : ℕ) : Type 0 where
+  pub is : processIn w s ≡ Process.match (termIn w (r .m)) (termIn w (r .n)) x (typeIn w (r .t)) (processIn w (r .p))
+  pub m : Reads term w (r .m)
+  pub n : Reads term w (r .n)
+  pub t : Reads typeAt w (r .t)
+  pub p : Reads processAt w (r .p)
+
+pub record DecryptAt (w : List ℕ) (s : ℕ) (r : Pieces) (x : ℕ) : Type 0 where
+  pub is : processIn w s ≡ Process.decrypt (termIn w (r .m)) (termIn w (r .n)) x (typeIn w (r .t)) (processIn w (r .p))
+  pub m : Reads term w (r .m)
+  pub n : Reads term w (r .n)
+  pub t : Reads typeAt w (r .t)
+  pub p : Reads processAt w (r .p)
+
+pub record BeginAt (w : List ℕ) (s : ℕ) (r : Pieces) : Type 0 where
+  pub is : processIn w s ≡ Process.begin (termIn w (r .m)) (processIn w (r .p))
+  pub m : Reads term w (r .m)
+  pub p : Reads processAt w (r .p)
+
+pub record EndAt (w : List ℕ) (s : ℕ) (r : Pieces) : Type 0 where
+  pub is : processIn w s ≡ Process.end (termIn w (r .m)) (processIn w (r .p))
+  pub m : Reads term w (r .m)
+  pub p : Reads processAt w (r .p)
+
+pub record CastAt (w : List ℕ) (s : ℕ) (r : Pieces) (x : ℕ) : Type 0 where
+  pub is : processIn w s ≡ Process.cast (termIn w (r .m)) x (bag (effectsIn w (r .f) (r .k))) (processIn w (r .p))
+  pub m : Reads term w (r .m)
+  pub f : Reads (effects (r .k)) w (r .f)
+  pub p : Reads processAt w (r .p)
+
+pub record CheckAt (w : List ℕ) (s : ℕ) (r : Pieces) : Type 0 where
+  pub is : processIn w s ≡ Process.check (termIn w (r .m)) (termIn w (r .n)) (processIn w (r .p))
+  pub m : Reads term w (r .m)
+  pub n : Reads term w (r .n)
+  pub p : Reads processAt w (r .p)
+
+module _ (w : List ℕ) (s : ℕ) (r : Pieces) (k : ℕ) (e : k ≡ getD w s 0) (a : Pieced w s r) where
+  pub new-at : k ≡ 1 → (x : ℕ) → x ≡ getD w (s + 1) 0 → NewAt w s r x
+  unfolding namesOf pick
+  new-at d x ex =
+      let word = sym e ∙ d in
+      let (is, t, p) = new-pieces w s r a x ex word in
+      record { is = is; t = t; p = p; word = word; inside = name-inside w s r a 1 word (omega arith) }
+
+  pub out-at : k ≡ 2 → OutAt w s r
+  out-at d =
+      let (is, m, n, p) = out-pieces w s r a (sym e ∙ d) in
+      record { is = is; m = m; n = n; p = p }
+
+  pub inp-at : k ≡ 3 → (x : ℕ) → x ≡ getD w (s + 1) 0 → InpAt w s r x
+  inp-at d x ex =
+      let (is, m, t, p) = inp-pieces w s r a x ex (sym e ∙ d) in
+      record { is = is; m = m; t = t; p = p }
+
+  pub parallel-at : k ≡ 4 → (q : ℕ) → Ends w (r .p) (restOf (processAt (drop (r .p) w))) q → ParallelAt w s r q
+  parallel-at d q l =
+      let (is, first, second) = a .two (sym e ∙ d) q l in
+      record { is = is; first = first; second = second }
+
+  pub stop-at : k ≡ 5 → processIn w s ≡ Process.stop
+  stop-at d = a .stop (sym e ∙ d)
+
+  pub split-at : k ≡ 6 → (x y : ℕ) → x ≡ getD w (s + 1) 0 → y ≡ getD w (s + 2) 0 → SplitAt w s r x y
+  split-at d x y ex ey =
+      let (is, m, t, u, p) = split-pieces w s r a x y ex ey (sym e ∙ d) in
+      record { is = is; m = m; t = t; u = u; p = p }
+
+  pub match-at : k ≡ 7 → (x : ℕ) → x ≡ getD w (s + 1) 0 → MatchAt w s r x
+  match-at d x ex =
+      let (is, m, n, t, p) = match-pieces w s r a x ex (sym e ∙ d) in
+      record { is = is; m = m; n = n; t = t; p = p }
+
+  pub decrypt-at : k ≡ 8 → (x : ℕ) → x ≡ getD w (s + 1) 0 → DecryptAt w s r x
+  decrypt-at d x ex =
+      let (is, m, n, t, p) = decrypt-pieces w s r a x ex (sym e ∙ d) in
+      record { is = is; m = m; n = n; t = t; p = p }
+
+  pub begin-at : k ≡ 9 → BeginAt w s r
+  begin-at d =
+      let (is, m, p) = begin-pieces w s r a (sym e ∙ d) in
+      record { is = is; m = m; p = p }
+
+  pub end-at : k ≡ 10 → EndAt w s r
+  end-at d =
+      let (is, m, p) = end-pieces w s r a (sym e ∙ d) in
+      record { is = is; m = m; p = p }
+
+  pub cast-at : k ≡ 11 → (x : ℕ) → x ≡ getD w (s + 1) 0 → CastAt w s r x
+  cast-at d x ex =
+      let (is, m, f, p) = cast-pieces w s r a x ex (sym e ∙ d) in
+      record { is = is; m = m; f = f; p = p }
+
+  pub check-at : k ≡ 12 → CheckAt w s r
+  check-at d =
+      let (is, m, n, p) = check-pieces w s r a (sym e ∙ d) in
+      record { is = is; m = m; n = n; p = p }

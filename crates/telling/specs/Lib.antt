@@ -1,0 +1,4 @@
+pub mod Found
+pub mod Judgement
+pub mod Loaded
+pub mod Reply

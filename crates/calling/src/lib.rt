@@ -1,104 +1,21 @@
 // The line of any call: of a function's number and the bytes of its slices and numbers. `call_line` leaves exactly the line's bytes, for any
-// bytes; the other three say what is read of a function: how many slices, how many bytes of each, how many numbers.
+// bytes.
+use functions::Function;
+use functions::is_judgement;
+use functions::is_question;
+use functions::on_bytes;
 use telling::Room;
 use translation::Answer;
 ghost use mathlib.Core.Path.{_≡_};
 ghost use mathlib.Core.Bool.{true};
-ghost use Prim.Native.Nat.{_/_, _^_, _≤_, _<_};
+ghost use Prim.Native.Nat.{_/_, _≤_, _<_};
 ghost use lib.ListN.{length, take};
 ghost use Rattle.io.specs.Counts.{Counts};
-ghost use Rattle.octets.specs.Octets.{wordAt, wordsIn};
+ghost use Rattle.octets.specs.Octets.{wordsIn};
 ghost use Rattle.translation.specs.Outcome.{came};
 ghost use Rattle.line.specs.Line.{Inside, lineOf};
-ghost use Rattle.calling.specs.Call.{Known, OfBooks, OfTypes, onBytes, asks, judges, slicesOf, numbersOf, sliceSize};
+ghost use Rattle.functions.specs.Functions.{Known, OfBooks, OfTypes, asks, judges};
 ghost use Rattle.calling.specs.Call.{OnWords, OnBytes, verdictLine, wordsLine, bytesLine, questionLine, judgeLine, typingLine, bookLine, callLine};
-
-// The functions' numbers. Each stays its function's own.
-pub struct Function {}
-
-impl Function {
-    pub const READ: u32 = 1;
-
-    pub const ACCEPT: u32 = 2;
-
-    pub const TRANSLATE: u32 = 3;
-
-    pub const REHEARSE: u32 = 4;
-
-    pub const TRANSLATE_BYTES: u32 = 5;
-
-    pub const REHEARSE_BYTES: u32 = 6;
-
-    pub const WRITE_SUMMARY: u32 = 7;
-
-    pub const ASK: u32 = 8;
-
-    pub const SUMMARY_BYTES: u32 = 9;
-
-    pub const ASK_BYTES: u32 = 10;
-
-    pub const JUDGE: u32 = 11;
-
-    pub const JUDGE_BYTES: u32 = 12;
-
-    pub const CHECK: u32 = 13;
-
-    pub const CHECK_BYTES: u32 = 14;
-
-    pub const APART: u32 = 15;
-
-    pub const APART_BYTES: u32 = 16;
-}
-
-// What is read at most.
-struct Most {}
-
-impl Most {
-    // Behind the summary of a question: a party, a row and a step.
-    const NUMBERS: usize = 3;
-}
-
-// The function's slices are of bytes.
-fn on_bytes(function: u32) -> bool
-    ensures { λ r. ⌜ r ≡ onBytes function ⌝ }
-{
-    if function < Function::TRANSLATE_BYTES {
-        return false;
-    }
-    if function < Function::WRITE_SUMMARY {
-        return true;
-    }
-    if function == Function::JUDGE {
-        return false;
-    }
-    if function == Function::CHECK {
-        return false;
-    }
-    if function == Function::APART {
-        return false;
-    }
-    Function::ASK < function
-}
-
-// The function answers a question: numbers stand behind its slice.
-fn is_question(function: u32) -> bool
-    ensures { λ r. ⌜ r ≡ asks function ⌝ }
-{
-    if function == Function::ASK {
-        return true;
-    }
-    function == Function::ASK_BYTES
-}
-
-// The function judges a listing: a party's number stands behind its slices.
-fn is_judgement(function: u32) -> bool
-    ensures { λ r. ⌜ r ≡ judges function ⌝ }
-{
-    if function == Function::JUDGE {
-        return true;
-    }
-    function == Function::JUDGE_BYTES
-}
 
 // The line of a call that has no output, into the front of `line`; answers its length.
 fn verdict_line(line: &mut [u8], function: u32, book: &[u32]) -> usize
@@ -276,50 +193,4 @@ pub fn call_line(
         return typing_line(line, function, first, second);
     }
     book_line(line, function, first, second, third)
-}
-
-// How many bytes a slice of a function has: by its count, the word that the first four bytes make, which is of words or of bytes.
-pub fn slice_size(function: u32, head: &[u8; 4]) -> usize
-    ensures { λ r. ⌜ (r ≡ sliceSize function (wordAt (now (head .entry)) 0)) × (r < 2 ^ 34) ⌝ }
-{
-    let count = words::wide(octets::word(head[0], head[1], head[2], head[3]));
-    if on_bytes(function) {
-        return count;
-    }
-    4 * count
-}
-
-// How many slices a function has: a reading, a question and the test of bound names one, a rehearsal three, the others two.
-pub fn slices(function: u32) -> usize
-    ensures { λ r. ⌜ r ≡ slicesOf function ⌝ }
-{
-    if function < Function::TRANSLATE {
-        return 1;
-    }
-    if is_question(function) {
-        return 1;
-    }
-    if function == Function::REHEARSE {
-        return 3;
-    }
-    if function == Function::REHEARSE_BYTES {
-        return 3;
-    }
-    if Function::CHECK_BYTES < function {
-        return 1;
-    }
-    2
-}
-
-// How many numbers a function has behind its slices: a question three, a judgement one.
-pub fn numbers(function: u32) -> usize
-    ensures { λ r. ⌜ (r ≡ numbersOf function) × (r ≤ 3) ⌝ }
-{
-    if is_question(function) {
-        return Most::NUMBERS;
-    }
-    if is_judgement(function) {
-        return 1;
-    }
-    0
 }

@@ -1,13 +1,14 @@
 // Any call without code: reads requests from standard input, each a function's number, its slices and its numbers, calls the function and
-// prints its answer on one line. What is read of a function and the line are `calling`'s, for any bytes; here they are read and printed.
-use calling::Function;
+// prints its answer on one line. What is read of a function is told by `functions`, its line by `calling`, for any bytes; here
+// they are read and printed.
+use functions::Function;
 use input::Input;
 use libc::STDERR_FILENO;
 use libc::STDIN_FILENO;
 ghost use Prim.Native.Nat.{_≤_};
 ghost use lib.ListN.{length};
 ghost use Rattle.input.specs.Input.{Within};
-ghost use Rattle.calling.specs.Call.{Known};
+ghost use Rattle.functions.specs.Functions.{Known};
 ghost use Rattle.calls.specs.Next.{Asked};
 
 // What is read and printed at most.
@@ -55,7 +56,7 @@ fn read_slice(function: u32, bytes: &mut [u8]) -> Input
     if !read_all(&mut head) {
         return Input::Failed;
     }
-    let size = calling::slice_size(function, &head);
+    let size = functions::slice_size(function, &head);
     if Most::BYTES < size {
         io::write_all(STDERR_FILENO, b"a slice has more than 65536 bytes\n");
         return Input::Failed;
@@ -71,7 +72,7 @@ fn read_numbers(function: u32, bytes: &mut [u8]) -> Input
     requires { ⌜ 65536 ≤ length (now bytes) ⌝ }
     ensures { λ r. ⌜ Within r 65536 ⌝ }
 {
-    let size = 4 * calling::numbers(function);
+    let size = 4 * functions::numbers(function);
     if !read_all(&mut bytes[0..size]) {
         return Input::Failed;
     }
@@ -83,7 +84,7 @@ fn read_nth(function: u32, k: usize, bytes: &mut [u8]) -> Input
     requires { ⌜ 65536 ≤ length (now bytes) ⌝ }
     ensures { λ r. ⌜ Within r 65536 ⌝ }
 {
-    let n = calling::slices(function);
+    let n = functions::slices(function);
     if k < n {
         return read_slice(function, bytes);
     }

@@ -1,12 +1,13 @@
 -- The line of what is found in a derivation. Document 02, [14]: "The verdict is "safe" .. else the smallest bad line; if none is bad, that
 -- the last doesn't give that"; so is it printed, in a word and, of a bad line, in decimal its number. Refusal 24 is printed as any other.
 use Prim.Native.Nat.{ℕ}
-use mathlib.Core.List.{List, [], _∷_, _++_}
+use mathlib.Core.List.{List, [], _∷_}
 use lib.Dec.{eqb}
 use lib.ListN.{getD}
 use Rattle.words.specs.Choice.{pick}
 use Rattle.book.specs.Said.{Said}
-use Rattle.line.specs.Line.{spaced, ended, refusalLine}
+use Rattle.line.specs.Line.{refusalLine}
+use Rattle.telling.specs.Numbered.{numberedLine}
 pub mod Laws
 
 -- the words "safe" and "another", each with a newline
@@ -19,10 +20,6 @@ anotherLine = 97 ∷ 110 ∷ 111 ∷ 116 ∷ 104 ∷ 101 ∷ 114 ∷ 10 ∷ []
 -- the word "bad" and a space
 abbrev pub bad : List ℕ
 bad = 98 ∷ 97 ∷ 100 ∷ 32 ∷ []
-
--- a text, and a number behind it
-unfoldable pub numberedLine : List ℕ → ℕ → List ℕ
-numberedLine text n = ended (text ++ spaced n)
 
 -- of what is said of a derivation, where 1 is safe, 2 another, and 0 has the bad line behind it
 unfoldable pub foundLine : Said → List ℕ

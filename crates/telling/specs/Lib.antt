@@ -1,4 +1,5 @@
 pub mod Found
 pub mod Judgement
 pub mod Loaded
+pub mod Numbered
 pub mod Reply

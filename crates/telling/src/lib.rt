@@ -15,8 +15,9 @@ ghost use Rattle.typing.specs.Derivation.{verdict};
 ghost use Rattle.editor.specs.Checked.{foundSays, checkedSays, verdictSaid, checkedSaid, apartSaid, apartAsked};
 ghost use Rattle.summary.specs.Summary.{asked};
 ghost use Rattle.summary.specs.Reply.{replySays};
-ghost use Rattle.telling.specs.Found.{numberedLine, foundLine};
-ghost use Rattle.telling.specs.Judgement.{differsLine, judgementLine};
+ghost use Rattle.telling.specs.Numbered.{numberedLine};
+ghost use Rattle.telling.specs.Found.{foundLine};
+ghost use Rattle.telling.specs.Judgement.{judgementLine};
 ghost use Rattle.telling.specs.Reply.{replyLine};
 
 // The room that is lent for words.
@@ -28,6 +29,17 @@ impl Room {
 
     // Of what is asked and a derivation: each a slice's words.
     const BOTH: usize = 32768;
+}
+
+// The line of a text and a number behind it; answers its length.
+fn numbered_line(line: &mut [u8], text: &[u8], number: u64) -> usize
+    requires { ⌜ (length (now text) ≤ 50) × (71 ≤ length (now line)) ⌝ }
+    ensures { λ r. ⌜ Counts r (now (line .exit)) ⌝ }
+    ensures { λ r. ⌜ take r (now (line .exit)) ≡ numberedLine (now (text .entry)) number ⌝ }
+{
+    let start = line::put_text(line, 0, text);
+    let at = line::put_number(line, start, number);
+    line::end(line, at)
 }
 
 // The reply to a question about the words that the bytes of a summary make.
@@ -65,17 +77,6 @@ pub fn judge_words(book: &[u8], party: u32, listing: &[u8]) -> Verdict
     judge::judge(&words[..n], party, &theirs[..m])
 }
 
-// The line of a place at which a listing differs: the word "differs", and the place.
-fn differs_line(line: &mut [u8], place: usize) -> usize
-    requires { ⌜ 71 ≤ length (now line) ⌝ }
-    ensures { λ r. ⌜ Counts r (now (line .exit)) ⌝ }
-    ensures { λ r. ⌜ take r (now (line .exit)) ≡ differsLine place ⌝ }
-{
-    let start = line::put_text(line, 0, b"differs ");
-    let at = line::put_number(line, start, place as u64);
-    line::end(line, at)
-}
-
 // The line of a verdict on a listing: the word "same", or where it differs, or its refusal.
 pub fn judgement_line(line: &mut [u8], verdict: Verdict) -> usize
     requires { ⌜ 71 ≤ length (now line) ⌝ }
@@ -84,7 +85,7 @@ pub fn judgement_line(line: &mut [u8], verdict: Verdict) -> usize
 {
     match verdict {
         Verdict::Same => line::put_text(line, 0, b"same\n"),
-        Verdict::Differs(place) => differs_line(line, place),
+        Verdict::Differs(place) => numbered_line(line, b"differs ", place as u64),
         Verdict::Refused(refusal) => line::refusal_line(line, refusal),
     }
 }
@@ -108,17 +109,6 @@ pub fn check_bytes(asked: &[u8], derivation: &[u8]) -> Checked
 {
     let mut room = [0u32; Room::BOTH];
     editor::check(asked, derivation, &mut room)
-}
-
-// A word, and a number behind it: the line's length.
-fn numbered_line(line: &mut [u8], text: &[u8], number: u64) -> usize
-    requires { ⌜ (length (now text) ≤ 50) × (71 ≤ length (now line)) ⌝ }
-    ensures { λ r. ⌜ Counts r (now (line .exit)) ⌝ }
-    ensures { λ r. ⌜ take r (now (line .exit)) ≡ numberedLine (now (text .entry)) number ⌝ }
-{
-    let start = line::put_text(line, 0, text);
-    let at = line::put_number(line, start, number);
-    line::end(line, at)
 }
 
 // The line of what is found: the word "safe", or "bad" and the line, or "another", or refusal 24.

@@ -3,7 +3,8 @@
 use mathlib.Core.Path.{_∙_}
 use native.Mathlib.Omega.{arith}
 use borrow.Author.Needs.{needs}
-use Rattle.calling.specs.Call.Laws.{judges-bytes, calls-judge, calls-judge-bytes}
+use Rattle.functions.specs.Functions.Laws.{judges-bytes}
+use Rattle.calling.specs.Call.Laws.{calls-judge, calls-judge-bytes}
 use Rattle.calling.proofs.judge_line.Statement.{statement}
 use Rattle.calling.proofs.judge_line.Tie as tie
 

@@ -3,7 +3,8 @@
 use mathlib.Core.Path.{_∙_}
 use native.Mathlib.Omega.{arith}
 use borrow.Author.Needs.{needs}
-use Rattle.calling.specs.Call.Laws.{asks-bytes, calls-ask, calls-ask-bytes}
+use Rattle.functions.specs.Functions.Laws.{asks-bytes}
+use Rattle.calling.specs.Call.Laws.{calls-ask, calls-ask-bytes}
 use Rattle.calling.proofs.question_line.Statement.{statement}
 use Rattle.calling.proofs.question_line.Tie as tie
 

@@ -1,7 +1,6 @@
--- What is read and printed of each number, computed from `slicesOf`, `numbersOf` and `callLine`: the table of docs/CALLS.md. Assumes
--- nothing.
+-- What is printed of each number, computed from `callLine`: the table of docs/CALLS.md. Assumes nothing.
 use Prim.Native.Nat.{ℕ}
-use mathlib.Core.List.{List, [], _∷_, map}
+use mathlib.Core.List.{List}
 use mathlib.Core.Path.{_≡_, refl}
 use Rattle.words.specs.Choice.{pick}
 use Rattle.octets.specs.Octets.{wordsIn}
@@ -18,19 +17,9 @@ use Rattle.line.specs.Line.{readingLine, lineOf}
 use Rattle.telling.specs.Reply.{replyLine}
 use Rattle.telling.specs.Judgement.{judgementLine}
 use Rattle.telling.specs.Found.{foundLine}
-use Rattle.calling.specs.Call.{onBytes, asks, judges, slicesOf, numbersOf, verdictLine, wordsLine, inWords, bytesLine, number}
+use Rattle.functions.specs.Functions.{onBytes, asks, judges}
+use Rattle.calling.specs.Call.{verdictLine, wordsLine, inWords, bytesLine, number}
 use Rattle.calling.specs.Call.{questionLine, judgeLine, bookLine, typingLine, callLine}
-
-abbrev all : List ℕ
-all = 1 ∷ 2 ∷ 3 ∷ 4 ∷ 5 ∷ 6 ∷ 7 ∷ 8 ∷ 9 ∷ 10 ∷ 11 ∷ 12 ∷ 13 ∷ 14 ∷ 15 ∷ 16 ∷ []
-
-pub slices-of-all : map slicesOf all ≡ 1 ∷ 1 ∷ 2 ∷ 3 ∷ 2 ∷ 3 ∷ 2 ∷ 1 ∷ 2 ∷ 1 ∷ 2 ∷ 2 ∷ 2 ∷ 2 ∷ 1 ∷ 1 ∷ []
-unfolding slicesOf asks pick
-slices-of-all = refl
-
-pub numbers-of-all : map numbersOf all ≡ 0 ∷ 0 ∷ 0 ∷ 0 ∷ 0 ∷ 0 ∷ 0 ∷ 3 ∷ 0 ∷ 3 ∷ 1 ∷ 1 ∷ 0 ∷ 0 ∷ 0 ∷ 0 ∷ []
-unfolding numbersOf asks judges pick
-numbers-of-all = refl
 
 module _ (a b c : List ℕ) where
   pub line-1 : callLine 1 a b c ≡ readingLine (verdict (wordsIn a))

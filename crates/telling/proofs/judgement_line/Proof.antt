@@ -19,11 +19,11 @@ returns c =
 -- a place
 returns-2 : tie.Need-returns-2
 returns-2 c =
-    let after-differs-line : tie.After-differs-line = search in
+    let after-numbered-line : tie.After-numbered-line = search in
     let after-verdict : tie.After-verdict = search in
     let given = after-verdict .verdict .given in
-    let (counts, line) = after-differs-line .differs-line .ensures in
-    (counts, line ∙ line-differs (given .0 .0) (given .1))
+    let (counts, line) = after-numbered-line .numbered-line .ensures in
+    (counts, line ∙ line-differs (given .0 .0) refl (given .1))
 
 -- a refusal
 returns-3 : tie.Need-returns-3
@@ -42,7 +42,8 @@ judgement-line-spec =
     (λ c. search needs)  -- slice-aggregate-put-text
     (λ c κs. search needs)  -- put-text-requires
     (λ c. search needs)  -- enum-known-verdict
-    (λ c κs. search needs)  -- differs-line-requires
+    (λ c. search needs)  -- slice-aggregate-numbered-line
+    (λ c κs. search needs)  -- numbered-line-requires
     (λ c. search needs)  -- enum-known-verdict-2
     (λ c κs. search needs)  -- refusal-line-requires
     (λ c. search needs)  -- same-length

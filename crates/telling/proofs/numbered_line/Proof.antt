@@ -2,7 +2,7 @@
 -- nothing.
 use native.Mathlib.Omega.{arith}
 use borrow.Author.Needs.{needs}
-use Rattle.telling.specs.Found.Laws.{line-numbered}
+use Rattle.telling.specs.Numbered.Laws.{line-numbered}
 use Rattle.telling.proofs.numbered_line.Statement.{statement}
 use Rattle.telling.proofs.numbered_line.Tie as tie
 

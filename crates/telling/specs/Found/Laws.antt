@@ -16,15 +16,8 @@ use Rattle.editor.specs.declared.Checked.{Checked}
 use Rattle.editor.specs.declared.Checked.the-variants.{Found, Refused}
 use Rattle.editor.specs.Checked.{foundSays, checkedSays}
 use Rattle.line.specs.Line.{places, decimal, spaced, spacedAll, ended, refused, refusalLine, Put}
-use Rattle.line.specs.Line.Laws.{put-then}
-use Rattle.telling.specs.Found.{safeLine, anotherLine, bad, numberedLine, foundLine}
-
--- ---- numberedLine
--- the number behind the text, put one behind the other, and the newline
-pub line-numbered : (k : ℕ) {text old mid new line : List ℕ} {a r : ℕ} → Put text old 0 mid a → Put (spaced k) mid a new r
-    → line ≡ ended (take r new) → line ≡ numberedLine text k
-unfolding numberedLine
-line-numbered k word number ends = ends ∙ ap ended (put-then word number .front)
+use Rattle.telling.specs.Numbered.{numberedLine}
+use Rattle.telling.specs.Found.{safeLine, anotherLine, bad, foundLine}
 
 -- ---- foundLine
 module _ {f : Finding} where

@@ -14,17 +14,9 @@ use Rattle.renaming.specs.declared.Verdict.{Verdict}
 use Rattle.renaming.specs.declared.Verdict.the-variants.{Same, Differs, Refused}
 use Rattle.renaming.specs.Verdict.{verdictSays}
 use Rattle.line.specs.Line.{places, decimal, spaced, ended, refusalLine, Put}
-use Rattle.line.specs.Line.Laws.{put-then}
-use Rattle.telling.specs.Judgement.{sameLine, differs, differsLine, judgementLine}
+use Rattle.telling.specs.Numbered.{numberedLine}
+use Rattle.telling.specs.Judgement.{sameLine, differs, judgementLine}
 
--- ---- differsLine
--- the place behind the word, put one behind the other, and the newline
-pub line-place : (k : ℕ) {text old mid new line : List ℕ} {a r : ℕ} → Put text old 0 mid a → text ≡ differs → Put (spaced k) mid a new r
-    → line ≡ ended (take r new) → line ≡ differsLine k
-unfolding differsLine
-line-place k word e place ends = ends ∙ ap ended (put-then word place .front ∙ ap (λ (l : List ℕ). l ++ spaced k) e)
-
--- ---- judgementLine
 -- the word "same", put at the line's start
 module _ {verdict : Verdict} where
   pub line-same : {text old new : List ℕ} {r : ℕ} → Put text old 0 new r → text ≡ sameLine → verdict ≡ Same
@@ -32,9 +24,10 @@ module _ {verdict : Verdict} where
   unfolding judgementLine pick
   line-same put e is = put .front ∙ e ∙ ap (λ v. judgementLine (verdictSays v)) (sym is)
 
-  pub line-differs : (k : ℕ) → verdict ≡ Differs k → differsLine k ≡ judgementLine (verdictSays verdict)
+  pub line-differs : (k : ℕ) {text : List ℕ} → text ≡ differs → verdict ≡ Differs k
+      → numberedLine text k ≡ judgementLine (verdictSays verdict)
   unfolding judgementLine pick
-  line-differs k is = ap (λ v. judgementLine (verdictSays v)) (sym is)
+  line-differs k e is = ap (λ t. numberedLine t k) e ∙ ap (λ v. judgementLine (verdictSays v)) (sym is)
 
   pub line-unjudged : (f : Refusal) → verdict ≡ Refused f → refusalLine (refusalSays f) ≡ judgementLine (verdictSays verdict)
   unfolding judgementLine
@@ -42,5 +35,5 @@ module _ {verdict : Verdict} where
 
 -- a line, computed: "differs 10"
 pub differs-shown : judgementLine (said 0 (0 ∷ 10 ∷ [])) ≡ differs ++ 49 ∷ 48 ∷ 10 ∷ []
-unfolding judgementLine pick differsLine ended spaced decimal places first firstFrom
+unfolding judgementLine pick numberedLine ended spaced decimal places first firstFrom
 differs-shown = refl

@@ -1,8 +1,8 @@
--- `calling::on_bytes` meets its contract: by the number (`bytes-before` and its kin). Assumes nothing.
+-- `functions::on_bytes` meets its contract: by the number (`bytes-before` and its kin). Assumes nothing.
 use native.Mathlib.Omega.{arith}
-use Rattle.calling.specs.Call.Laws.{bytes-before, bytes-early, bytes-judge, bytes-check, bytes-apart, bytes-late}
-use Rattle.calling.proofs.on_bytes.Statement.{statement}
-use Rattle.calling.proofs.on_bytes.Tie as tie
+use Rattle.functions.specs.Functions.Laws.{bytes-before, bytes-early, bytes-judge, bytes-check, bytes-apart, bytes-late}
+use Rattle.functions.proofs.on_bytes.Statement.{statement}
+use Rattle.functions.proofs.on_bytes.Tie as tie
 
 returns : tie.Need-returns
 returns c = let start : tie.Start = search in bytes-before (start .args .function) (omega arith)

@@ -1,8 +1,8 @@
--- `calling::is_judgement` meets its contract: by the number (`judges-words`, `judges-other`). Assumes nothing.
+-- `functions::is_judgement` meets its contract: by the number (`judges-words`, `judges-other`). Assumes nothing.
 use native.Mathlib.Omega.{arith}
-use Rattle.calling.specs.Call.Laws.{judges-words, judges-other}
-use Rattle.calling.proofs.is_judgement.Statement.{statement}
-use Rattle.calling.proofs.is_judgement.Tie as tie
+use Rattle.functions.specs.Functions.Laws.{judges-words, judges-other}
+use Rattle.functions.proofs.is_judgement.Statement.{statement}
+use Rattle.functions.proofs.is_judgement.Tie as tie
 
 returns : tie.Need-returns
 returns c = let start : tie.Start = search in judges-words (start .args .function) (omega arith)

@@ -1,10 +1,10 @@
--- `calling::slices` meets its contract: by the number (`slices-read` and its kin). Assumes nothing.
+-- `functions::slices` meets its contract: by the number (`slices-read` and its kin). Assumes nothing.
 use native.Mathlib.Omega.{arith}
 use borrow.Author.Needs.{needs}
-use Rattle.calling.specs.Call.Laws.{slices-read, slices-ask, slices-rehearse, slices-rehearse-bytes}
-use Rattle.calling.specs.Call.Laws.{slices-apart, slices-lent}
-use Rattle.calling.proofs.slices.Statement.{statement}
-use Rattle.calling.proofs.slices.Tie as tie
+use Rattle.functions.specs.Functions.Laws.{slices-read, slices-ask, slices-rehearse, slices-rehearse-bytes}
+use Rattle.functions.specs.Functions.Laws.{slices-apart, slices-lent}
+use Rattle.functions.proofs.slices.Statement.{statement}
+use Rattle.functions.proofs.slices.Tie as tie
 
 -- of a reading
 returns : tie.Need-returns

@@ -1,8 +1,8 @@
--- `calling::is_question` meets its contract: by the number (`asks-words`, `asks-other`). Assumes nothing.
+-- `functions::is_question` meets its contract: by the number (`asks-words`, `asks-other`). Assumes nothing.
 use native.Mathlib.Omega.{arith}
-use Rattle.calling.specs.Call.Laws.{asks-words, asks-other}
-use Rattle.calling.proofs.is_question.Statement.{statement}
-use Rattle.calling.proofs.is_question.Tie as tie
+use Rattle.functions.specs.Functions.Laws.{asks-words, asks-other}
+use Rattle.functions.proofs.is_question.Statement.{statement}
+use Rattle.functions.proofs.is_question.Tie as tie
 
 returns : tie.Need-returns
 returns c = let start : tie.Start = search in asks-words (start .args .function) (omega arith)

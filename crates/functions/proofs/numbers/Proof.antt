@@ -1,10 +1,10 @@
--- `calling::numbers` meets its contract: a question has three (`numbers-ask`), a judgement one (`numbers-judge`), what is
+-- `functions::numbers` meets its contract: a question has three (`numbers-ask`), a judgement one (`numbers-judge`), what is
 -- neither has none. Assumes nothing.
 use native.Mathlib.Omega.{arith}
 use borrow.Author.Needs.{needs}
-use Rattle.calling.specs.Call.Laws.{numbers-ask, numbers-judge, numbers-none}
-use Rattle.calling.proofs.numbers.Statement.{statement}
-use Rattle.calling.proofs.numbers.Tie as tie
+use Rattle.functions.specs.Functions.Laws.{numbers-ask, numbers-judge, numbers-none}
+use Rattle.functions.proofs.numbers.Statement.{statement}
+use Rattle.functions.proofs.numbers.Tie as tie
 
 returns : tie.Need-returns
 returns c =

@@ -1,12 +1,12 @@
--- `calling::slice_size` meets its contract: the count is the word of the four bytes, and by the function it is of words
+-- `functions::slice_size` meets its contract: the count is the word of the four bytes, and by the function it is of words
 -- or of bytes (`size-words`, `size-bytes`). Assumes nothing.
 use mathlib.Core.Path.{_∙_}
 use native.Mathlib.Omega.{arith}
 use borrow.Author.Needs.{needs}
 use Rattle.octets.specs.Octets.{wordAt}
-use Rattle.calling.specs.Call.Laws.{size-words, size-bytes}
-use Rattle.calling.proofs.slice_size.Statement.{statement}
-use Rattle.calling.proofs.slice_size.Tie as tie
+use Rattle.functions.specs.Functions.Laws.{size-words, size-bytes}
+use Rattle.functions.proofs.slice_size.Statement.{statement}
+use Rattle.functions.proofs.slice_size.Tie as tie
 
 -- of bytes
 returns : tie.Need-returns

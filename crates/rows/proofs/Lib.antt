@@ -1,0 +1,4 @@
+pub mod Header
+pub mod Lists
+pub mod Rows
+pub mod Sizes

@@ -1,0 +1,4 @@
+pub mod Scans
+pub mod Scanned
+pub mod Parts
+pub mod Tests

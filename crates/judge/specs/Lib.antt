@@ -1,5 +1,1 @@
-pub mod Scan
-pub mod Mirror
-pub mod Called
-pub mod Agreeing
-pub mod Stepping
+pub mod Program

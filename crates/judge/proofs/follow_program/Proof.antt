@@ -5,7 +5,7 @@ use native.Mathlib.Omega.{arith}
 use borrow.Author.Needs.{needs}
 use borrow.Author.Tests.{not-true, not-false}
 use Rattle.words.specs.Overlay.Laws.{wrote-length}
-use Rattle.judge.specs.Stepping.End.{program-broken, end-kept, end-narrow, end-few, end-sized, end-compare, end-followed}
+use Rattle.judge.specs.Program.End.{program-broken, end-kept, end-narrow, end-few, end-sized, end-compare, end-followed}
 use Rattle.judge.proofs.follow_program.Statement.{statement}
 use Rattle.judge.proofs.follow_program.Tie as tie
 

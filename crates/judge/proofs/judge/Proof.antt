@@ -2,7 +2,7 @@
 use mathlib.Core.Path.{ap, _∙_}
 use borrow.Author.Needs.{needs}
 use Rattle.renaming.specs.Verdict.{judged}
-use Rattle.judge.specs.Stepping.Judged.{theirs-alone}
+use Rattle.judge.specs.Program.Judged.{theirs-alone}
 use Rattle.judge.proofs.judge.Statement.{statement}
 use Rattle.judge.proofs.judge.Tie as tie
 

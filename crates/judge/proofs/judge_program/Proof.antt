@@ -2,7 +2,7 @@
 use mathlib.Core.Path.{refl}
 use borrow.Author.Needs.{needs}
 use borrow.Author.Tests.{not-true, not-false}
-use Rattle.judge.specs.Stepping.Judged.{judged-broken, judged-longer, judged-same}
+use Rattle.judge.specs.Program.Judged.{judged-broken, judged-longer, judged-same}
 use Rattle.judge.proofs.judge_program.Statement.{statement}
 use Rattle.judge.proofs.judge_program.Tie as tie
 

@@ -1,5 +1,5 @@
--- Answers, packed and on bytes: the bounds that packing rests on, and what came of a call on the words that bytes make. Assumes nothing.
-use Prim.Native.Nat.{ℕ, _+_, _/_, _≤_, _<_, min}
+-- Answers on bytes: what came of a call on the words that bytes make, also where it is packed. Assumes nothing.
+use Prim.Native.Nat.{ℕ, _+_, _/_, _≤_, min}
 use mathlib.Core.List.{List, [], _∷_}
 use mathlib.Core.Path.{_≡_, refl, sym, ap, ap₂, _∙_}
 use native.Mathlib.Omega.{arith}
@@ -27,7 +27,7 @@ use Rattle.summary.specs.Summary.{summary, summarySays}
 use Rattle.summary.specs.Summary.Laws.{summary-length}
 use Rattle.summary.specs.Summary.Written.{exactly-summarized, summarized-says}
 use Rattle.editor.specs.Bytes.Laws.{room-enough, summary-room-enough}
-use Rattle.editor.specs.Packed.{pack, Packs, returned, packed}
+use Rattle.packing.specs.Packed.{pack, returned, packed}
 
 -- ---- an output that is laid over what was lent keeps its length
 laid-length : (s : Said) (out ws : List ℕ) → length (laid s out ws .lent) ≡ length out
@@ -36,15 +36,7 @@ laid-length s out ws = elim (ℕ-discrete (s .number) 0) [
   | no n ↦ ap length (laid-keeps s out ws n)
 ]
 
--- ---- packing
--- the bounds of one value, and of two
-pub one-bounds : {n v : ℕ} → Packs (said n (v ∷ [])) → (n < 256) × (v < 4294967296)
-one-bounds (Packs.one ln lv) = (ln, lv)
-
-pub two-bounds : {n v w : ℕ} → Packs (said n (v ∷ w ∷ [])) → (n < 256) × (v < 4294967296) × (w < 16777216)
-two-bounds (Packs.two ln lv lw) = (ln, lv, lw)
-
--- what a caller in another language gets
+-- ---- what a caller in another language gets
 pub packed-came : {o : Outcome} {new : List ℕ} {n : ℕ} (r : Answer) → came r new ≡ o → n ≡ pack (answerSays r) → returned n new ≡ packed o
 packed-came {new = new} r e f = ap (λ k. returned k new) f ∙ ap packed e
 

@@ -1,30 +1,23 @@
 -- The outcome on bytes, of any length each. Document 02, [1]: "translation and rehearsal callable .. on plain byte slices, low byte
 -- first, same answers. A book or schedule whose byte length isn't a multiple of four is refusal 1, before all else, place 0. Refusal
 -- 12 still counts words; up to three spare output bytes are untouched." Summaries, [4], are written and asked about in the same way.
-use Prim.Native.Nat.{ℕ, _%_}
-use mathlib.Core.Bool.{Bool, not, _||_}
+use Prim.Native.Nat.{ℕ}
+use mathlib.Core.Bool.{_||_}
 use mathlib.Core.List.{List, [], _∷_}
 use mathlib.Core.Path.{_≡_}
 use lib.ListN.{length}
-use lib.Dec.{eqb}
 use Rattle.words.specs.Choice.{pick}
-use Rattle.octets.specs.Octets.{wordsIn, spare, bytesOfAll}
+use Rattle.octets.specs.Octets.{wordsIn, uneven, spare, bytesOfAll}
 use Rattle.book.specs.Said.{Said, said}
 use Rattle.translation.specs.Listing.{listing}
 use Rattle.translation.specs.Outcome.{Outcome, translationSays, laid}
 use Rattle.playing.specs.Rehearsal.{eventsDone, rehearsalSays}
 use Rattle.summary.specs.Summary.{summary, summarySays, asked}
 use Rattle.renaming.specs.Verdict.{judged}
+use Rattle.examining.specs.Checked.{odd}
+pub mod Fits
 pub mod Laws
 pub mod Judged
-
--- the bytes make no whole words
-abbrev pub uneven : List ℕ → Bool
-uneven bs = not (eqb (length bs % 4) 0)
-
--- refusal 1, place 0: no lent byte changes
-abbrev pub odd : List ℕ → Outcome
-odd out = record { says = said 1 (0 ∷ []); lent = out }
 
 -- of the words b, and of the schedule ms, into lent bytes: what is said is what is said where the words are lent that these bytes make,
 -- and on acceptance the bytes of the output are laid over them

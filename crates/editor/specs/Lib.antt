@@ -1,4 +1,2 @@
 pub mod Bytes
-pub mod Checked
 pub mod Events
-pub mod Packed

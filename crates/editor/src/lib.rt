@@ -2,23 +2,25 @@
 // `nghiralum_ask`, `nghiralum_judge`, `nghiralum_check` and `nghiralum_apart` answer for any bytes what the faces on words answer for the
 // words that they make, in one number, and leave the same words as bytes; a book, a schedule, a summary, a listing, what is asked or a
 // derivation that makes no whole words is refused before all else.
-use apart::keeps_apart;
 use book::ByRow;
 use book::Code;
 use book::Layout;
 use book::Refusal;
-use book::Told;
 use book::Triple;
 use book::parties;
 use book::steps;
-use book::told_of;
-use checking::Finding;
-use checking::too_large;
+use examining::apart;
+use examining::check;
 use holding::start;
 use judge::judge_listing;
+use octets::is_uneven;
 use octets::load;
 use octets::put_words;
 use octets::word_at;
+use packing::pack;
+use packing::pack_checked;
+use packing::pack_reply;
+use packing::pack_verdict;
 use renaming::Verdict;
 use summary::Found;
 use summary::Reply;
@@ -34,23 +36,20 @@ use words::put;
 use words::put2;
 use words::wide;
 ghost use mathlib.Core.Path.{_≡_};
-ghost use Prim.Native.Nat.{_+_, _/_, _≤_, min};
+ghost use Prim.Native.Nat.{_/_, min};
 ghost use lib.ListN.{length};
 ghost use Rattle.words.specs.Overlay.{Wrote};
 ghost use Rattle.octets.specs.Octets.{bytesOfAll, wordsIn};
-ghost use Rattle.book.specs.Said.{toldSays};
 ghost use Rattle.translation.specs.Listing.{listing, partWords};
-ghost use Rattle.translation.specs.Outcome.{answerSays, came};
+ghost use Rattle.translation.specs.Outcome.{came};
 ghost use Rattle.translator.specs.Parts.{HeadsIn, bodiesOf};
 ghost use Rattle.translator.specs.Ready.{Writable};
-ghost use Rattle.checking.specs.Large.{tooLarge};
 ghost use Rattle.summary.specs.Summary.{asked};
 ghost use Rattle.summary.specs.Reply.{replySays};
-ghost use Rattle.editor.specs.Bytes.{uneven, translated, rehearsed, summarizedOn, translationBytes, rehearsalBytes, summaryBytes, askedBytes, judgedBytes};
-ghost use Rattle.editor.specs.Checked.{foundSays, checkedSays, found, checked, checkedIn, checkedBytes};
-ghost use Rattle.editor.specs.Checked.{apartFound, replied, apartIn, apartBytes};
+ghost use Rattle.editor.specs.Bytes.{translated, rehearsed, summarizedOn, translationBytes, rehearsalBytes, summaryBytes, askedBytes, judgedBytes};
+ghost use Rattle.examining.specs.Checked.{checkedBytes, apartBytes};
 ghost use Rattle.editor.specs.Events.{EventsReady, WroteEvents};
-ghost use Rattle.editor.specs.Packed.{pack as packOf, capped as cappedOf, Small, Packs, returned, packed, packedCapped};
+ghost use Rattle.packing.specs.Packed.{pack as packOf, capped as cappedOf, returned, packed, packedCapped};
 ghost use Rattle.renaming.specs.Verdict.{verdictSays};
 
 // What is read and kept at most.
@@ -69,9 +68,6 @@ impl Most {
 
     // The words of a summary: 3, and 1,024 for each of 16 parties.
     const SUMMARY: usize = 16387;
-
-    // The words of a derivation's lines: their number, and nine for each of 1,024.
-    const LINES: usize = 9217;
 }
 
 // Behind a party's events: where the next byte goes, and the words of what it stored.
@@ -193,13 +189,6 @@ fn translate_words(book: &[u32], out: &mut [u8]) -> Answer
             Answer::Written(n)
         }
     }
-}
-
-// The bytes make no whole words.
-fn is_uneven(bytes: &[u8]) -> bool
-    ensures { λ r. ⌜ r ≡ uneven (now (bytes .entry)) ⌝ }
-{
-    bytes.len() % 4 != 0
 }
 
 // The same for the bytes of a book.
@@ -333,58 +322,6 @@ pub fn summarize(book: &[u8], out: &mut [u8]) -> Answer
     summarize_words(&words[..n], out)
 }
 
-// An answer's number and values in one number.
-fn pack_told(told: Told) -> u64
-    requires { ⌜ Packs (toldSays told) ⌝ }
-    ensures { λ r. ⌜ r ≡ packOf (toldSays told) ⌝ }
-{
-    match told {
-        Told::One(number, first) => number + 256 * first,
-        Told::Two(number, first, second) => number + 256 * first + 1099511627776 * second,
-    }
-}
-
-fn pack(answer: Answer) -> u64
-    requires { ⌜ Small (answerSays answer) ⌝ }
-    ensures { λ r. ⌜ r ≡ packOf (answerSays answer) ⌝ }
-{
-    match answer {
-        Answer::Written(n) => pack_told(Told::One(0, n as u64)),
-        Answer::Refused(refusal) => pack_told(told_of(refusal)),
-    }
-}
-
-// A value, or the largest that 32 bits hold.
-fn cap(value: u64) -> u64
-    ensures { λ r. ⌜ r ≡ min 4294967295 value ⌝ }
-{
-    if value < 4294967295 {
-        return value;
-    }
-    4294967295
-}
-
-fn capped(told: Told) -> Told
-    ensures { λ r. ⌜ toldSays r ≡ cappedOf (toldSays told) ⌝ }
-{
-    match told {
-        Told::One(number, first) => Told::One(number, cap(first)),
-        Told::Two(number, first, second) => Told::Two(number, cap(first), cap(second)),
-    }
-}
-
-// A reply in one number.
-fn pack_reply(reply: Reply) -> u64
-    requires { ⌜ Small (cappedOf (replySays reply)) ⌝ }
-    ensures { λ r. ⌜ r ≡ packOf (cappedOf (replySays reply)) ⌝ }
-{
-    match reply {
-        Reply::Yes => pack_told(Told::One(0, 1)),
-        Reply::No => pack_told(Told::One(0, 0)),
-        Reply::Refused(refusal) => pack_told(capped(told_of(refusal))),
-    }
-}
-
 // The verdict on another translator's listing of a party, of the bytes of a book and of the listing, which is read where it lies: it may be
 // of any length.
 pub fn judge(book: &[u8], party: u32, listing: &[u8]) -> Verdict
@@ -400,118 +337,6 @@ pub fn judge(book: &[u8], party: u32, listing: &[u8]) -> Verdict
     let n = load(book, &mut words);
     let none = [0u32; 1];
     judge_listing(&words[..n], party, &none[0..0], listing)
-}
-
-// A verdict in one number.
-fn pack_verdict(verdict: Verdict) -> u64
-    requires { ⌜ Packs (verdictSays verdict) ⌝ }
-    ensures { λ r. ⌜ r ≡ packOf (verdictSays verdict) ⌝ }
-{
-    match verdict {
-        Verdict::Same => pack_told(Told::One(0, 1)),
-        Verdict::Differs(place) => pack_told(Told::Two(0, 0, place as u64)),
-        Verdict::Refused(refusal) => pack_told(told_of(refusal)),
-    }
-}
-
-// What is said of the bytes of a derivation: what is found in the words that they make, or why it was not checked.
-pub enum Checked {
-    Found(Finding),
-    Refused(Refusal),
-}
-
-// Refusal 24 of the words that a derivation's bytes make, or 0. It is told by the lines' own words.
-fn large(derivation: &[u8]) -> u32
-    ensures { λ r. ⌜ r ≡ tooLarge (wordsIn (now (derivation .entry))) ⌝ }
-{
-    let mut words = [0u32; Most::LINES];
-    let n = load(derivation, &mut words);
-    too_large(&words[..n])
-}
-
-// The words of the derivation at the front of the room, those of what is asked behind them, and what is found in them. The rest of the
-// room stays.
-fn check_in(asked: &[u8], derivation: &[u8], room: &mut [u32]) -> Finding
-    requires { ⌜ length (now derivation) / 4 + length (now asked) / 4 ≤ length (now room) ⌝ }
-    ensures { λ r. ⌜ found r (now (room .exit)) ≡ checkedIn (now (asked .entry)) (now (derivation .entry)) (now (room .entry)) ⌝ }
-{
-    let n = load(derivation, room);
-    let m = load(asked, &mut room[n..]);
-    let end = n + m;
-    let words = &room[..];
-    checking::check(&words[n..end], &words[..n])
-}
-
-// The verdict on a derivation of what is asked, of the bytes of both. Neither has a bound on its words, so that the caller lends room for
-// them all.
-pub fn check(asked: &[u8], derivation: &[u8], room: &mut [u32]) -> Checked
-    ensures { λ r. ⌜ checked r (now (room .exit)) ≡ checkedBytes (now (asked .entry)) (now (derivation .entry)) (now (room .entry)) ⌝ }
-{
-    if is_uneven(asked) {
-        return Checked::Refused(Refusal::Short);
-    }
-    if is_uneven(derivation) {
-        return Checked::Refused(Refusal::Short);
-    }
-    let count = large(derivation);
-    if count != 0 {
-        return Checked::Found(Finding::Refused(count));
-    }
-    let needed = derivation.len() / 4 + asked.len() / 4;
-    if room.len() < needed {
-        return Checked::Refused(Refusal::Room(needed));
-    }
-    Checked::Found(check_in(asked, derivation, room))
-}
-
-// The number and the values of what is found.
-fn told_finding(finding: Finding) -> Told
-    ensures { λ r. ⌜ toldSays r ≡ foundSays finding ⌝ }
-{
-    match finding {
-        Finding::Safe => Told::One(0, 1),
-        Finding::Bad(line) => Told::Two(0, 0, line as u64),
-        Finding::Another => Told::One(0, 2),
-        Finding::Refused(count) => Told::One(24, count as u64),
-    }
-}
-
-// What is said of a derivation, in one number.
-fn pack_checked(checked: Checked) -> u64
-    requires { ⌜ Packs (cappedOf (checkedSays checked)) ⌝ }
-    ensures { λ r. ⌜ r ≡ packOf (cappedOf (checkedSays checked)) ⌝ }
-{
-    match checked {
-        Checked::Found(finding) => pack_told(capped(told_finding(finding))),
-        Checked::Refused(refusal) => pack_told(capped(told_of(refusal))),
-    }
-}
-
-// Whether what is asked keeps its bound names apart, by the words that its bytes make, at the front of the room.
-fn apart_in(asked: &[u8], room: &mut [u32]) -> bool
-    requires { ⌜ length (now asked) / 4 ≤ length (now room) ⌝ }
-    ensures { λ r. ⌜ apartFound r (now (room .exit)) ≡ apartIn (now (asked .entry)) (now (room .entry)) ⌝ }
-{
-    let n = load(asked, room);
-    let words = &room[..];
-    keeps_apart(&words[..n])
-}
-
-// The same for any bytes, and any room.
-pub fn apart(asked: &[u8], room: &mut [u32]) -> Reply
-    ensures { λ r. ⌜ replied r (now (room .exit)) ≡ apartBytes (now (asked .entry)) (now (room .entry)) ⌝ }
-{
-    if is_uneven(asked) {
-        return Reply::Refused(Refusal::Short);
-    }
-    let needed = asked.len() / 4;
-    if room.len() < needed {
-        return Reply::Refused(Refusal::Room(needed));
-    }
-    if apart_in(asked, room) {
-        return Reply::Yes;
-    }
-    Reply::No
 }
 
 // The translation for callers in other languages.

@@ -1,6 +1,8 @@
 -- Words and bytes. Document 02, [1]: "on plain byte slices, low byte first".
 use Prim.Native.Nat.{ℕ, _+_, _*_, _/_, _%_}
+use mathlib.Core.Bool.{Bool, not}
 use mathlib.Core.List.{List, [], _∷_, _++_}
+use lib.Dec.{eqb}
 use lib.ListN.{length, getD, drop}
 use Rattle.words.specs.Run.{values}
 pub mod Laws
@@ -16,6 +18,10 @@ wordAt bs i = wordOf (getD bs (4 * i) 0) (getD bs (4 * i + 1) 0) (getD bs (4 * i
 -- the words that the bytes make, four bytes a word
 abbrev pub wordsIn : List ℕ → List ℕ
 wordsIn bs = values (wordAt bs) 0 (length bs / 4)
+
+-- the bytes make no whole words
+abbrev pub uneven : List ℕ → Bool
+uneven bs = not (eqb (length bs % 4) 0)
 
 -- the one to three bytes behind them that make no word
 abbrev pub spare : List ℕ → List ℕ

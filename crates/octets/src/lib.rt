@@ -1,5 +1,6 @@
-// Words and bytes, low byte first. `word_at` is one of the words that bytes make, and `load` lays them over lent words; `put_word` and
-// `put_words` write words as bytes, each byte whose place is inside, and answer the next place, also past the end.
+// Words and bytes, low byte first. `is_uneven` is of bytes that make no whole words, `word_at` one of the words that bytes make, and `load`
+// lays them over lent words; `put_word` and `put_words` write words as bytes, each byte whose place is inside, and answer the next place,
+// also past the end.
 use words::Place;
 use words::put;
 ghost use mathlib.Core.Path.{_≡_};
@@ -7,13 +8,20 @@ ghost use mathlib.Core.List.{[], _∷_};
 ghost use Prim.Native.Nat.{_/_, _≤_, min};
 ghost use lib.ListN.{length, getD, take};
 ghost use Rattle.words.specs.Overlay.{Wrote};
-ghost use Rattle.octets.specs.Octets.{wordOf, wordsIn, bytesOf, bytesOfAll};
+ghost use Rattle.octets.specs.Octets.{wordOf, wordsIn, uneven, bytesOf, bytesOfAll};
 
 // The word of four bytes.
 pub fn word(a: u8, b: u8, c: u8, d: u8) -> u32
     ensures { λ r. ⌜ r ≡ wordOf a b c d ⌝ }
 {
     a as u32 + 256 * (b as u32) + 65536 * (c as u32) + 16777216 * (d as u32)
+}
+
+// The bytes make no whole words.
+pub fn is_uneven(bytes: &[u8]) -> bool
+    ensures { λ r. ⌜ r ≡ uneven (now (bytes .entry)) ⌝ }
+{
+    bytes.len() % 4 != 0
 }
 
 // Word i that the bytes make, or 0 where they make no such word.

@@ -9,7 +9,7 @@ use Rattle.octets.specs.Octets.{wordsIn}
 use Rattle.octets.specs.Octets.Laws.{loaded-all}
 use Rattle.renaming.specs.Verdict.{judged}
 use Rattle.typing.specs.Derivation.{verdict as verdictOf}
-use Rattle.editor.specs.Checked.{verdictSaid}
+use Rattle.examining.specs.Checked.{verdictSaid}
 
 pub loaded-words : (bs : List ℕ) {old new : List ℕ} {r : ℕ} → length old ≡ 16384 → Wrote (take (length old) (wordsIn bs)) old 0 new r
     → length bs ≤ 65536 → take r new ≡ wordsIn bs

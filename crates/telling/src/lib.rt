@@ -1,7 +1,7 @@
 // Answers that are no listings: a reply to a question, a verdict on a listing and what is found in a derivation. Each is asked of the bytes of
 // slices, as words and as bytes, and has a line; the functions of lines leave exactly its bytes.
 use checking::Finding;
-use editor::Checked;
+use examining::Checked;
 use renaming::Verdict;
 use summary::Reply;
 ghost use mathlib.Core.Path.{_≡_};
@@ -12,7 +12,7 @@ ghost use Rattle.octets.specs.Octets.{wordsIn};
 ghost use Rattle.renaming.specs.Verdict.{judged, verdictSays};
 ghost use Rattle.typing.specs.Apart.{keepsApart};
 ghost use Rattle.typing.specs.Derivation.{verdict};
-ghost use Rattle.editor.specs.Checked.{foundSays, checkedSays, verdictSaid, checkedSaid, apartSaid, apartAsked};
+ghost use Rattle.examining.specs.Checked.{foundSays, checkedSays, verdictSaid, checkedSaid, apartSaid, apartAsked};
 ghost use Rattle.summary.specs.Summary.{asked};
 ghost use Rattle.summary.specs.Reply.{replySays};
 ghost use Rattle.telling.specs.Numbered.{numberedLine};
@@ -108,7 +108,7 @@ pub fn check_bytes(asked: &[u8], derivation: &[u8]) -> Checked
     ensures { λ r. ⌜ checkedSays r ≡ checkedSaid (now (asked .entry)) (now (derivation .entry)) ⌝ }
 {
     let mut room = [0u32; Room::BOTH];
-    editor::check(asked, derivation, &mut room)
+    examining::check(asked, derivation, &mut room)
 }
 
 // The line of what is found: the word "safe", or "bad" and the line, or "another", or refusal 24.
@@ -156,5 +156,5 @@ pub fn apart_bytes(asked: &[u8]) -> Reply
     ensures { λ r. ⌜ replySays r ≡ apartAsked (now (asked .entry)) ⌝ }
 {
     let mut room = [0u32; Room::WORDS];
-    editor::apart(asked, &mut room)
+    examining::apart(asked, &mut room)
 }

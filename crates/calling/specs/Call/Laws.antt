@@ -9,7 +9,7 @@ use lib.ListN.{length, getD, take, length-take}
 use borrow.Author.Tests.{lt-ltb, le-ltb}
 use Rattle.words.specs.Choice.{pick}
 use Rattle.words.specs.Choice.Laws.{pick-true, pick-false}
-use Rattle.octets.specs.Octets.{wordsIn}
+use Rattle.octets.specs.Octets.{wordsIn, uneven}
 use Rattle.octets.specs.Octets.Laws.{words-length}
 use Rattle.book.specs.Said.{Said}
 use Rattle.book.specs.Refusals.{verdict}
@@ -22,9 +22,9 @@ use Rattle.summary.specs.Summary.{summarized, asked}
 use Rattle.typing.specs.Apart.{keepsApart}
 use Rattle.typing.specs.Derivation.{verdict as verdictOf}
 use Rattle.summary.specs.Summary.Written.{exactly-summarized, summarized-says}
-use Rattle.editor.specs.Bytes.{uneven, odd, translationBytes, rehearsalBytes, summaryBytes, askedBytes, judgedBytes, AsWords}
+use Rattle.editor.specs.Bytes.{translationBytes, rehearsalBytes, summaryBytes, askedBytes, judgedBytes, AsWords}
 use Rattle.editor.specs.Bytes.Laws.{translation-words, rehearsal-words, summary-words, of-odd, of-odd-book, of-odd-schedule, of-odd-summarized}
-use Rattle.editor.specs.Checked.{verdictSaid, checkedSaid, apartSaid, apartAsked}
+use Rattle.examining.specs.Checked.{odd, verdictSaid, checkedSaid, apartSaid, apartAsked}
 use Rattle.line.specs.Line.{readingLine, lineOf, Inside}
 use Rattle.line.specs.Line.Laws.{inside-outcome, inside-rehearsal}
 use Rattle.telling.specs.Reply.{replyLine}

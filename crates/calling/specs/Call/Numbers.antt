@@ -12,7 +12,7 @@ use Rattle.summary.specs.Summary.{summarized, asked}
 use Rattle.typing.specs.Apart.{keepsApart}
 use Rattle.typing.specs.Derivation.{verdict as verdictOf}
 use Rattle.editor.specs.Bytes.{translationBytes, rehearsalBytes, summaryBytes, askedBytes, judgedBytes}
-use Rattle.editor.specs.Checked.{verdictSaid, checkedSaid, apartSaid, apartAsked}
+use Rattle.examining.specs.Checked.{verdictSaid, checkedSaid, apartSaid, apartAsked}
 use Rattle.line.specs.Line.{readingLine, lineOf}
 use Rattle.telling.specs.Reply.{replyLine}
 use Rattle.telling.specs.Judgement.{judgementLine}

@@ -2,7 +2,7 @@
 use mathlib.Core.Path.{ap, _∙_}
 use borrow.Author.Needs.{needs}
 use Rattle.editor.specs.Bytes.Laws.{asked-bytes-small}
-use Rattle.editor.specs.Packed.{pack as packOf, capped as cappedOf}
+use Rattle.packing.specs.Packed.{pack as packOf, capped as cappedOf}
 use Rattle.editor.proofs.nghiralum_ask.Statement.{statement}
 use Rattle.editor.proofs.nghiralum_ask.Tie as tie
 

@@ -3,7 +3,7 @@ use mathlib.Core.Path.{ap, _∙_}
 use native.Mathlib.Omega.{arith}
 use borrow.Author.Needs.{needs}
 use Rattle.editor.specs.Bytes.Judged.{judged-packs}
-use Rattle.editor.specs.Packed.{pack as packOf}
+use Rattle.packing.specs.Packed.{pack as packOf}
 use Rattle.editor.proofs.nghiralum_judge.Statement.{statement}
 use Rattle.editor.proofs.nghiralum_judge.Tie as tie
 

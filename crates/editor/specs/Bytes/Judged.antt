@@ -1,19 +1,18 @@
 -- Laws of judging on bytes: it is judging on the words that they make, refusal 1 before all else; so much of a book is enough; and the
 -- verdict fits one number and is read back from it. Assumes nothing.
-use Prim.Native.Nat.{ℕ, _+_, _%_, _≤_, _<_}
-use mathlib.Core.Bool.{Bool, true, false, not, _||_}
-use mathlib.Core.List.{List, [], _∷_, _++_, append-nil}
+use Prim.Native.Nat.{ℕ, _+_, _≤_, _<_}
+use mathlib.Core.Bool.{Bool, true, false, _||_}
+use mathlib.Core.List.{List, [], _∷_}
 use mathlib.Core.Logic.{_⊎_, inl, inr, ⊎-elim}
 use mathlib.Core.Path.{_≡_, refl, sym, ap, ap₂, _∙_}
 use native.Mathlib.Omega.{arith}
 use native.Mathlib.Decide.{ℕ-discrete, decLt}
 use lib.ListN.{length, getD, take}
 use lib.Seq.{take-all}
-use borrow.Author.Tests.{eq-eqb}
 use Rattle.words.specs.Choice.Laws.{pick-true, pick-false}
-use Rattle.words.specs.Run.{All, values}
-use Rattle.octets.specs.Octets.{wordsIn, bytesOfAll}
-use Rattle.octets.specs.Octets.Laws.{bytes-length, words-bytes}
+use Rattle.words.specs.Run.{All}
+use Rattle.octets.specs.Octets.{wordsIn, uneven, bytesOfAll}
+use Rattle.octets.specs.Octets.Laws.{bytes-even, bytes-back}
 use Rattle.book.specs.Layout.{loaded, parties}
 use Rattle.book.specs.Said.{Said, said}
 use Rattle.translation.specs.Outcome.{acceptance, Plays}
@@ -25,10 +24,11 @@ use Rattle.renaming.specs.Renaming.Laws.{follow-most}
 use Rattle.renaming.specs.Verdict.{judged}
 use Rattle.renaming.specs.Verdict.Laws.{verdict-either}
 use Rattle.renaming.specs.Verdict.Judged.{judged-book-first, judged-exactly-reading, exactly-22, judged-says}
-use Rattle.editor.specs.Bytes.{uneven, judgedBytes}
+use Rattle.packing.specs.Packed.{pack, unpackVerdict, Small, Packs}
+use Rattle.packing.specs.Packed.Laws.{small-packs, verdict-told, verdict-placed}
+use Rattle.editor.specs.Bytes.{judgedBytes}
+use Rattle.editor.specs.Bytes.Fits.{acceptance-small, plays-from}
 use Rattle.editor.specs.Bytes.Laws.{Misfit, misfit}
-use Rattle.editor.specs.Packed.{pack, unpackVerdict, Small, Packs}
-use Rattle.editor.specs.Packed.Laws.{small-packs, verdict-told, verdict-placed, acceptance-small, plays-from}
 
 -- ---- bytes that make whole words, and others
 module _ (bs : List ℕ) (p : ℕ) (ls : List ℕ) where
@@ -110,14 +110,7 @@ module _ (bs : List ℕ) (p : ℕ) (ls : List ℕ) (low : p < 4294967296) where
 
 -- ---- the bytes of words are judged as the words are
 module _ (b ws : List ℕ) (p : ℕ) (lowBook : All (λ w. w < 4294967296) b) (low : All (λ w. w < 4294967296) ws) where
-  even : (l : List ℕ) → uneven (bytesOfAll l) ≡ false
-  even l = let n = bytes-length l in let e : length (bytesOfAll l) % 4 ≡ 0 = omega arith in ap not (eq-eqb _ _ e)
-
-  back : (l : List ℕ) → All (λ w. w < 4294967296) l → wordsIn (bytesOfAll l) ≡ l
-  unfolding values
-  back l h = ap wordsIn (sym (append-nil (bytesOfAll l))) ∙ words-bytes l [] h ∙ append-nil l
-
   pub judged-of-words : judgedBytes (bytesOfAll b) p (bytesOfAll ws) ≡ judged b p ws
   judged-of-words =
-      of-whole-judged (bytesOfAll b) p (bytesOfAll ws) (even b) (even ws)
-      ∙ ap₂ (λ (x y : List ℕ). judged x p y) (back b lowBook) (back ws low)
+      of-whole-judged (bytesOfAll b) p (bytesOfAll ws) (bytes-even b) (bytes-even ws)
+      ∙ ap₂ (λ (x y : List ℕ). judged x p y) (bytes-back b lowBook) (bytes-back ws low)

@@ -1,8 +1,8 @@
 -- Laws of the outcome on bytes: it is the outcome on words, with the spare bytes as they were; what is longer than a book or a schedule
 -- may be changes nothing by its length; and a question to bytes is a question to their words. Assumes nothing.
-use Prim.Native.Nat.{ℕ, zero, suc, _+_, _*_, _/_, _%_, _≤_, _<_, min}
-use mathlib.Core.Bool.{Bool, true, false, not}
-use mathlib.Core.List.{List, [], _∷_, _++_, append-nil}
+use Prim.Native.Nat.{ℕ, zero, suc, _+_, _*_, _/_, _≤_, _<_, min}
+use mathlib.Core.Bool.{Bool, true, false}
+use mathlib.Core.List.{List, [], _∷_}
 use mathlib.Core.Logic.{_↔_}
 use mathlib.Core.Path.{_≡_, refl, sym, ap, ap₂, _∙_}
 use native.Mathlib.Omega.{arith}
@@ -11,14 +11,14 @@ use lib.ListN.{length, getD, take}
 use lib.Dec.{ltb}
 use lib.Seq.{length-sets, length-take-le, take-all, getD-take}
 use borrow.Author.Count.{below-more}
-use borrow.Author.Tests.{lt-ltb, le-ltb, eq-eqb}
+use borrow.Author.Tests.{lt-ltb, le-ltb}
 use Rattle.words.specs.Choice.{pick}
 use Rattle.words.specs.Choice.Laws.{pick-true, pick-false}
-use Rattle.words.specs.Run.{All, values}
+use Rattle.words.specs.Run.{All}
 use Rattle.words.specs.First.{first}
 use Rattle.words.specs.First.Laws.{first-same, first-le, first-at, first-end, first-holds, first-fails}
-use Rattle.octets.specs.Octets.{wordsIn, spare, bytesOfAll}
-use Rattle.octets.specs.Octets.Laws.{words-length, words-bytes, bytes-length, words-laid, spare-laid}
+use Rattle.octets.specs.Octets.{wordsIn, uneven, spare, bytesOfAll}
+use Rattle.octets.specs.Octets.Laws.{words-length, bytes-even, bytes-back, words-laid, spare-laid}
 use Rattle.book.specs.Layout.{header, sections, longest, loaded, offset, parties}
 use Rattle.book.specs.Rules.{countBreaks, OffsetRule, stated, offsetBreaks}
 use Rattle.book.specs.Rules.Laws.{count-exact, offset-exact}
@@ -36,9 +36,11 @@ use Rattle.playing.specs.Rehearsal.Low.{done-low}
 use Rattle.summary.specs.Summary.{summaryWords, summary, summarySays, summarized, asked}
 use Rattle.summary.specs.Summary.Laws.{summary-length, summary-low, summary-most}
 use Rattle.summary.specs.Summary.Written.{summary-exactly-reading, exactly-summarized}
-use Rattle.editor.specs.Bytes.{uneven, odd, translated, rehearsed, summarizedOn, translationBytes, rehearsalBytes, summaryBytes, askedBytes, AsWords}
-use Rattle.editor.specs.Packed.{pack, unpack, capped, packed, Small}
-use Rattle.editor.specs.Packed.Laws.{unpack-pack, plays-from, translation-small, rehearsal-small, summary-small, capped-back, asked-small, asked-whole, asked-never-1}
+use Rattle.examining.specs.Checked.{odd}
+use Rattle.packing.specs.Packed.{pack, unpack, capped, packed, Small}
+use Rattle.packing.specs.Packed.Laws.{unpack-pack, capped-back}
+use Rattle.editor.specs.Bytes.{translated, rehearsed, summarizedOn, translationBytes, rehearsalBytes, summaryBytes, askedBytes, AsWords}
+use Rattle.editor.specs.Bytes.Fits.{plays-from, translation-small, rehearsal-small, summary-small, asked-small, asked-whole, asked-never-1}
 
 -- ---- a book that is longer than a book can be
 -- of as many words as are loaded, the first of more
@@ -411,14 +413,8 @@ module _ (bs : List ℕ) (p r t : ℕ) where
 -- the bytes of words are asked as the words are, and nothing of the answer is lost where the words are no more than 32 bits count
 module _ (ws : List ℕ) (low : All (λ w. w < 4294967296) ws) (p r t : ℕ) where
   pub asked-of-words : askedBytes (bytesOfAll ws) p r t ≡ asked ws p r t
-  unfolding values
   asked-of-words =
-      let n = bytes-length ws in
-      let even : length (bytesOfAll ws) % 4 ≡ 0 = omega arith in
-      let whole = words-bytes ws [] low in
-      let bare : bytesOfAll ws ++ [] ≡ bytesOfAll ws = append-nil (bytesOfAll ws) in
-      of-whole-summary (bytesOfAll ws) p r t (ap not (eq-eqb _ _ even))
-      ∙ ap (λ (s : List ℕ). asked s p r t) (ap wordsIn (sym bare) ∙ whole ∙ append-nil ws)
+      of-whole-summary (bytesOfAll ws) p r t (bytes-even ws) ∙ ap (λ (s : List ℕ). asked s p r t) (bytes-back ws low)
 
   pub asked-words-unpacked : length ws < 4294967296 → p < 4294967296 → r < 4294967296 → t < 4294967296
       → unpack (pack (capped (askedBytes (bytesOfAll ws) p r t))) ≡ asked ws p r t

@@ -1,6 +1,7 @@
 -- Laws of words and bytes: writing the bytes of words one after another, and that the bytes of words make these words again.
 -- Assumes nothing.
 use Prim.Native.Nat.{ℕ, zero, suc, _+_, _-_, _*_, _/_, _%_, _≤_, _<_, min}
+use mathlib.Core.Bool.{false, not}
 use mathlib.Core.List.{List, [], _∷_, _++_, append-nil, append-assoc}
 use mathlib.Core.Path.{_≡_, refl, sym, ap, ap₂, _∙_}
 use native.Mathlib.Omega.{arith}
@@ -8,11 +9,12 @@ use native.Mathlib.Numerals.{add-one}
 use native.Mathlib.Nat.{zero-add}
 use lib.ListN.{length, getD, take, drop, replicate, length-take, length-drop, length-replicate, List·getD-eq-default}
 use lib.Seq.{take-suc, take-nil, take-all, ext-getD, getD-drop, drop-drop, drop-append-add, sets, sets-eq, length-sets}
+use borrow.Author.Tests.{eq-eqb}
 use Rattle.words.specs.Overlay.{cap, Wrote}
 use Rattle.words.specs.Overlay.Laws.{wrote-none, wrote-then, wrote-as, wrote-more, wrote-take}
-use Rattle.words.specs.Run.{All}
+use Rattle.words.specs.Run.{All, values}
 use Rattle.words.specs.Run.Laws.{values-length, values-getD, zeros}
-use Rattle.octets.specs.Octets.{wordOf, wordAt, wordsIn, spare, bytesOf, bytesOfAll}
+use Rattle.octets.specs.Octets.{wordOf, wordAt, wordsIn, uneven, spare, bytesOf, bytesOfAll}
 
 -- the front of a list, which ends where the list does
 take-min : (ws : List ℕ) (n i : ℕ) → i ≡ min n (length ws) → take n ws ≡ take i ws
@@ -120,6 +122,14 @@ words-bytes [] bs h = refl
 words-bytes (w ∷ ws) bs h =
     ap wordsIn (append-assoc (bytesOf w) (bytesOfAll ws) bs) ∙ words-cons w (bytesOfAll ws ++ bs) (h .0)
     ∙ ap (λ (l : List ℕ). w ∷ l) (words-bytes ws bs (h .1))
+
+-- alone they are whole, and make these and no more
+pub bytes-even : (ws : List ℕ) → uneven (bytesOfAll ws) ≡ false
+bytes-even ws = let n = bytes-length ws in let e : length (bytesOfAll ws) % 4 ≡ 0 = omega arith in ap not (eq-eqb _ _ e)
+
+pub bytes-back : (ws : List ℕ) → All (λ w. w < 4294967296) ws → wordsIn (bytesOfAll ws) ≡ ws
+unfolding values
+bytes-back ws h = ap wordsIn (sym (append-nil (bytesOfAll ws))) ∙ words-bytes ws [] h ∙ append-nil ws
 
 -- ---- bytes of words laid over the front of bytes
 -- word i of bytes whose first m words are left out

@@ -3,7 +3,7 @@ use mathlib.Core.Path.{ap, _∙_}
 use native.Mathlib.Omega.{arith}
 use borrow.Author.Needs.{needs}
 use Rattle.translation.specs.Outcome.{Outcome}
-use Rattle.editor.specs.Checked.Laws.{apart-roomy}
+use Rattle.examining.specs.Checked.Laws.{apart-roomy}
 use Rattle.telling.proofs.apart_bytes.Statement.{statement}
 use Rattle.telling.proofs.apart_bytes.Tie as tie
 

@@ -7,7 +7,7 @@ use lib.Seq.{length-take-le}
 use borrow.Author.Needs.{needs}
 use Rattle.octets.specs.Octets.Laws.{loaded-many}
 use Rattle.typing.specs.Apart.{keepsApart}
-use Rattle.editor.specs.Checked.Laws.{said-apart, said-not-apart}
+use Rattle.examining.specs.Checked.Laws.{said-apart, said-not-apart}
 use Rattle.telling.specs.Loaded.{loaded-words}
 use Rattle.telling.proofs.apart_words.Statement.{statement}
 use Rattle.telling.proofs.apart_words.Tie as tie

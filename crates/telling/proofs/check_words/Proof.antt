@@ -6,7 +6,7 @@ use native.Mathlib.Omega.{arith}
 use lib.Seq.{length-take-le}
 use borrow.Author.Needs.{needs}
 use Rattle.octets.specs.Octets.Laws.{loaded-many}
-use Rattle.editor.specs.Checked.{verdictSaid}
+use Rattle.examining.specs.Checked.{verdictSaid}
 use Rattle.telling.specs.Loaded.{loaded-words, checks-loaded}
 use Rattle.telling.proofs.check_words.Statement.{statement}
 use Rattle.telling.proofs.check_words.Tie as tie

@@ -12,9 +12,9 @@ use Rattle.book.specs.Said.{said, refusalSays}
 use Rattle.book.specs.Said.Laws.{refusal-number}
 use Rattle.checking.specs.declared.Finding.{Finding}
 use Rattle.checking.specs.declared.Finding.the-variants as finding
-use Rattle.editor.specs.declared.Checked.{Checked}
-use Rattle.editor.specs.declared.Checked.the-variants.{Found, Refused}
-use Rattle.editor.specs.Checked.{foundSays, checkedSays}
+use Rattle.examining.specs.declared.Checked.{Checked}
+use Rattle.examining.specs.declared.Checked.the-variants.{Found, Refused}
+use Rattle.examining.specs.Checked.{foundSays, checkedSays}
 use Rattle.line.specs.Line.{places, decimal, spaced, spacedAll, ended, refused, refusalLine, Put}
 use Rattle.telling.specs.Numbered.{numberedLine}
 use Rattle.telling.specs.Found.{safeLine, anotherLine, bad, foundLine}

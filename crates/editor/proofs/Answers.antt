@@ -10,19 +10,13 @@ use Rattle.words.specs.Overlay.{Wrote}
 use Rattle.octets.specs.Octets.{wordsIn, bytesOfAll}
 use Rattle.octets.specs.Octets.Laws.{words-length}
 use Rattle.book.specs.declared.Refusal.{Refusal}
-use Rattle.book.specs.Said.{Said, said, readingSays}
-use Rattle.book.specs.Layout.{parties}
+use Rattle.book.specs.Said.{Said, said}
 use Rattle.translation.specs.declared.Answer.{Answer}
 use Rattle.translation.specs.declared.Answer.the-variants.{Written, Refused}
-use Rattle.translation.specs.Listing.{listing}
-use Rattle.translation.specs.Outcome.{Outcome, answerSays, translationSays, laid, came}
+use Rattle.translation.specs.Outcome.{Outcome, answerSays, laid, came}
 use Rattle.translation.specs.Outcome.Laws.{came-refused, came-written, laid-keeps, laid-lays}
-use Rattle.translator.specs.declared.Findings.{Findings}
-use Rattle.translator.specs.Surveyed.{Surveyed, fitted}
-use Rattle.translator.specs.Surveyed.Laws.{fitted-says}
 use Rattle.playing.specs.Rehearsal.{eventsDone, rehearsalSays}
 use Rattle.playing.specs.Rehearsal.Laws.{exactly-played, played-says, done-length}
-use Rattle.editor.specs.Bytes.{translated}
 use Rattle.summary.specs.Summary.{summary, summarySays}
 use Rattle.summary.specs.Summary.Laws.{summary-length}
 use Rattle.summary.specs.Summary.Written.{exactly-summarized, summarized-says}
@@ -39,19 +33,6 @@ laid-length s out ws = elim (ℕ-discrete (s .number) 0) [
 -- ---- what a caller in another language gets
 pub packed-came : {o : Outcome} {new : List ℕ} {n : ℕ} (r : Answer) → came r new ≡ o → n ≡ pack (answerSays r) → returned n new ≡ packed o
 packed-came {new = new} r e f = ap (λ k. returned k new) f ∙ ap packed e
-
--- ---- the survey's findings are carried out on bytes
-module _ {b : List ℕ} {r : Findings} (out : List ℕ) (s : Surveyed b r) {n : ℕ} {a : Answer} (d : n ≡ length out / 4)
-    (e : answerSays a ≡ fitted (readingSays (r .reading)) (r .end) n) where
-  pub refused-came : {f : Refusal} → a ≡ Refused f → came (Refused f) out ≡ translated b out
-  refused-came {f} k =
-      came-refused _ out (bytesOfAll (listing b)) f (sym (sym (ap answerSays k) ∙ e ∙ fitted-says s (wordsIn out) (d ∙ sym (words-length out))))
-
-  pub written-came : {i j : ℕ} {new : List ℕ} → a ≡ Written i → Wrote (bytesOfAll (listing b)) out 0 new j
-      → came (Written i) new ≡ translated b out
-  written-came {i} {new = new} k w =
-      came-written _ out (bytesOfAll (listing b)) new i
-      (sym (sym (ap answerSays k) ∙ e ∙ fitted-says s (wordsIn out) (d ∙ sym (words-length out)))) (w .list)
 
 -- ---- an output ws into words, and from there, as bytes, to what was lent. Of the words between s is said, and t of those that the bytes
 -- make; both are the same, as there are as many words between as the output can have

@@ -9,21 +9,18 @@ use lib.ListN.{length}
 use Rattle.words.specs.Choice.{pick}
 use Rattle.octets.specs.Octets.{wordsIn, uneven, spare, bytesOfAll}
 use Rattle.book.specs.Said.{Said, said}
-use Rattle.translation.specs.Listing.{listing}
-use Rattle.translation.specs.Outcome.{Outcome, translationSays, laid}
+use Rattle.translation.specs.Outcome.{Outcome, laid}
 use Rattle.playing.specs.Rehearsal.{eventsDone, rehearsalSays}
 use Rattle.summary.specs.Summary.{summary, summarySays, asked}
 use Rattle.renaming.specs.Verdict.{judged}
 use Rattle.examining.specs.Checked.{odd}
+use Rattle.writing.specs.Translated.{translated}
 pub mod Fits
 pub mod Laws
 pub mod Judged
 
--- of the words b, and of the schedule ms, into lent bytes: what is said is what is said where the words are lent that these bytes make,
--- and on acceptance the bytes of the output are laid over them
-abbrev pub translated : List ℕ → List ℕ → Outcome
-translated b out = laid (translationSays b (wordsIn out)) out (bytesOfAll (listing b))
-
+-- of the words b, and of the schedule ms, into lent bytes, as `translated` is: what is said is what is said where the words are lent that
+-- these bytes make, and on acceptance the bytes of the output are laid over them
 abbrev pub rehearsed : List ℕ → List ℕ → List ℕ → Outcome
 rehearsed b ms out = laid (rehearsalSays b ms (wordsIn out)) out (bytesOfAll (eventsDone b ms))
 

@@ -2,16 +2,10 @@
 // `nghiralum_ask`, `nghiralum_judge`, `nghiralum_check` and `nghiralum_apart` answer for any bytes what the faces on words answer for the
 // words that they make, in one number, and leave the same words as bytes; a book, a schedule, a summary, a listing, what is asked or a
 // derivation that makes no whole words is refused before all else.
-use book::ByRow;
-use book::Code;
 use book::Layout;
 use book::Refusal;
-use book::Triple;
-use book::parties;
-use book::steps;
 use examining::apart;
 use examining::check;
-use holding::start;
 use judge::judge_listing;
 use octets::is_uneven;
 use octets::load;
@@ -27,28 +21,16 @@ use summary::Reply;
 use summary::decide;
 use summary::find;
 use translation::Answer;
-use translator::fit;
-use translator::survey;
-use walking::act;
-use walking::next_own;
-use words::narrow;
-use words::put;
-use words::put2;
-use words::wide;
+use writing::translate_words;
 ghost use mathlib.Core.Path.{_≡_};
 ghost use Prim.Native.Nat.{_/_, min};
 ghost use lib.ListN.{length};
-ghost use Rattle.words.specs.Overlay.{Wrote};
-ghost use Rattle.octets.specs.Octets.{bytesOfAll, wordsIn};
-ghost use Rattle.translation.specs.Listing.{listing, partWords};
+ghost use Rattle.octets.specs.Octets.{wordsIn};
 ghost use Rattle.translation.specs.Outcome.{came};
-ghost use Rattle.translator.specs.Parts.{HeadsIn, bodiesOf};
-ghost use Rattle.translator.specs.Ready.{Writable};
 ghost use Rattle.summary.specs.Summary.{asked};
 ghost use Rattle.summary.specs.Reply.{replySays};
-ghost use Rattle.editor.specs.Bytes.{translated, rehearsed, summarizedOn, translationBytes, rehearsalBytes, summaryBytes, askedBytes, judgedBytes};
+ghost use Rattle.editor.specs.Bytes.{rehearsed, summarizedOn, translationBytes, rehearsalBytes, summaryBytes, askedBytes, judgedBytes};
 ghost use Rattle.examining.specs.Checked.{checkedBytes, apartBytes};
-ghost use Rattle.editor.specs.Events.{EventsReady, WroteEvents};
 ghost use Rattle.packing.specs.Packed.{pack as packOf, capped as cappedOf, returned, packed, packedCapped};
 ghost use Rattle.renaming.specs.Verdict.{verdictSays};
 
@@ -61,137 +43,13 @@ impl Most {
 
     const MOVES: usize = 4097;
 
-    // The words of a step's events.
-    const STEP: usize = 16388;
-
     const PARTIES: usize = 16;
 
     // The words of a summary: 3, and 1,024 for each of 16 parties.
     const SUMMARY: usize = 16387;
 }
 
-// Behind a party's events: where the next byte goes, and the words of what it stored.
-struct Events {
-    at: usize,
-    kept: usize,
-}
-
-// A party's events, step by step: each step's words go to a buffer that has room for any step's, and from there, as bytes, to the output.
-fn write_events(
-    book: &[u32],
-    since: &ByRow,
-    partners: &ByRow,
-    party: u32,
-    log: &mut [u32],
-    out: &mut [u8],
-    at: usize,
-) -> Events
-    requires { ⌜ EventsReady (now book) (now partners) party ⌝ }
-    ensures { λ r. ⌜ WroteEvents (now (book .entry)) party (now (log .entry)) (now (log .exit)) (now (out .entry)) at (now (out .exit)) (r .at) (r .kept) ⌝ }
-{
-    let mut step = [0u32; Most::STEP];
-    let n = steps(book);
-    let mut entries = start(book, party);
-    let mut given = 0;
-    let mut kept = 0;
-    let mut next = at;
-    let mut i = next_own(book, party, 0);
-    while i < n {
-        let acted = act(
-            book,
-            since,
-            partners,
-            &mut entries,
-            given,
-            kept,
-            party,
-            i,
-            log,
-            &mut step,
-            0,
-        );
-        given = acted.next;
-        kept = acted.kept;
-        next = put_words(out, next, &step, acted.at);
-        i = next_own(book, party, i + 1);
-    }
-    Events { at: next, kept }
-}
-
-// The program of a party whose walk stops nowhere, as bytes.
-fn write_program(
-    book: &[u32],
-    since: &ByRow,
-    partners: &ByRow,
-    party: u32,
-    out: &mut [u8],
-    at: usize,
-) -> usize
-    requires { ⌜ EventsReady (now book) (now partners) party ⌝ }
-    ensures { λ r. ⌜ Wrote (bytesOfAll (partWords (now (book .entry)) party)) (now (out .entry)) at (now (out .exit)) r ⌝ }
-{
-    let mut log = [0u32; Triple::ALL];
-    let events = write_events(book, since, partners, party, &mut log, out, at);
-    let mut end = [0u32; 2];
-    put2(&mut end, 0, Code::END, narrow(events.kept / Triple::WORDS));
-    let triples = put_words(out, events.at, &end, 2);
-    put_words(out, triples, &log, events.kept)
-}
-
-// The programs, in party order, as bytes.
-fn write_bodies(book: &[u32], since: &ByRow, partners: &ByRow, out: &mut [u8], at: usize) -> usize
-    requires { ⌜ Writable (now book) (now since) (now partners) ⌝ }
-    ensures { λ r. ⌜ Wrote (bytesOfAll (bodiesOf (now (book .entry)))) (now (out .entry)) at (now (out .exit)) r ⌝ }
-{
-    let n = parties(book);
-    let mut next = at;
-    let mut party = 0;
-    while party < n {
-        next = write_program(book, since, partners, party, out, next);
-        party += 1;
-    }
-    next
-}
-
-// The whole output, as bytes: its heads were found before.
-fn write_listing(
-    book: &[u32],
-    since: &ByRow,
-    partners: &ByRow,
-    heads: &[u32],
-    out: &mut [u8],
-) -> usize
-    requires { ⌜ Writable (now book) (now since) (now partners) × HeadsIn (now book) (now heads) ⌝ }
-    ensures { λ r. ⌜ Wrote (bytesOfAll (listing (now (book .entry)))) (now (out .entry)) 0 (now (out .exit)) r ⌝ }
-{
-    let n = parties(book);
-    let mut front = [0u32; 1];
-    put(&mut front, 0, n);
-    let first = put_words(out, 0, &front, 1);
-    let next = put_words(out, first, heads, 2 * wide(n));
-    write_bodies(book, since, partners, out, next)
-}
-
-// The output of any words into any lent bytes, or the first refusal that applies.
-fn translate_words(book: &[u32], out: &mut [u8]) -> Answer
-    ensures { λ r. ⌜ came r (now (out .exit)) ≡ translated (now (book .entry)) (now (out .entry)) ⌝ }
-{
-    let all = survey(book);
-    let reading = all.reading;
-    let answer = fit(reading, all.end, out.len() / 4);
-    match answer {
-        Answer::Refused(why) => Answer::Refused(why),
-        Answer::Written(n) => {
-            let since = all.since;
-            let partners = all.partners;
-            let heads = all.heads;
-            write_listing(book, &since, &partners, &heads, out);
-            Answer::Written(n)
-        }
-    }
-}
-
-// The same for the bytes of a book.
+// The output of the bytes of a book into any lent bytes, or the first refusal that applies.
 pub fn translate(book: &[u8], out: &mut [u8]) -> Answer
     ensures { λ r. ⌜ came r (now (out .exit)) ≡ translationBytes (now (book .entry)) (now (out .entry)) ⌝ }
 {

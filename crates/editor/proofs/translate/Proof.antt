@@ -10,7 +10,7 @@ use borrow.Author.Needs.{needs}
 use Rattle.octets.specs.Octets.{wordsIn}
 use Rattle.octets.specs.Octets.Laws.{loaded-many, loaded-front}
 use Rattle.book.specs.Layout.{loaded}
-use Rattle.editor.specs.Bytes.{translated}
+use Rattle.writing.specs.Translated.{translated}
 use Rattle.editor.specs.Bytes.Laws.{of-whole, of-odd, long-book}
 use Rattle.editor.proofs.translate.Statement.{statement}
 use Rattle.editor.proofs.translate.Tie as tie

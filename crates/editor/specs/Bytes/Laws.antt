@@ -37,9 +37,10 @@ use Rattle.summary.specs.Summary.{summaryWords, summary, summarySays, summarize
 use Rattle.summary.specs.Summary.Laws.{summary-length, summary-low, summary-most}
 use Rattle.summary.specs.Summary.Written.{summary-exactly-reading, exactly-summarized}
 use Rattle.examining.specs.Checked.{odd}
+use Rattle.writing.specs.Translated.{translated}
 use Rattle.packing.specs.Packed.{pack, unpack, capped, packed, Small}
 use Rattle.packing.specs.Packed.Laws.{unpack-pack, capped-back}
-use Rattle.editor.specs.Bytes.{translated, rehearsed, summarizedOn, translationBytes, rehearsalBytes, summaryBytes, askedBytes, AsWords}
+use Rattle.editor.specs.Bytes.{rehearsed, summarizedOn, translationBytes, rehearsalBytes, summaryBytes, askedBytes, AsWords}
 use Rattle.editor.specs.Bytes.Fits.{plays-from, translation-small, rehearsal-small, summary-small, asked-small, asked-whole, asked-never-1}
 
 -- ---- a book that is longer than a book can be

@@ -18,7 +18,7 @@ use Rattle.holding.specs.View.{rowOf}
 use Rattle.walking.specs.Walking.Laws.{part-words}
 use Rattle.translator.specs.Parts.{programsTo, headsOf, HeadsIn, bodiesOf}
 use Rattle.translator.specs.Parts.Laws.{bodies-more, listing-parts}
-use Rattle.editor.specs.Events.{EventsReady, WroteEvents}
+use Rattle.writing.specs.Events.{EventsReady, WroteEvents}
 
 -- ---- a program
 module _ {b ps : List ℕ} {p : ℕ} (ready : EventsReady b ps p) {log logAfter out middle : List ℕ} {a next kept : ℕ} where

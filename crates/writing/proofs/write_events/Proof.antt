@@ -1,4 +1,4 @@
--- `editor::write_events` meets its contract: the bytes of the steps before the party's next one are written, and each
+-- `writing::write_events` meets its contract: the bytes of the steps before the party's next one are written, and each
 -- turn adds those of one step (`flushed-on`). Assumes nothing.
 use Prim.Native.Nat.{_-_, _<_}
 use mathlib.Core.Path.{refl}
@@ -7,9 +7,9 @@ use borrow.Author.Needs.{needs}
 use Rattle.words.specs.Overlay.Laws.{wrote-length}
 use Rattle.book.specs.Layout.{steps}
 use Rattle.book.specs.Headed.Laws.{valid-headed, few-steps}
-use Rattle.editor.proofs.Flushed.{Flushed, flushed-start, flushed-ready, flushed-size, flushed-few, flushed-on, flushed-end}
-use Rattle.editor.proofs.write_events.Statement.{statement}
-use Rattle.editor.proofs.write_events.Tie as tie
+use Rattle.writing.proofs.Flushed.{Flushed, flushed-start, flushed-ready, flushed-size, flushed-few, flushed-on, flushed-end}
+use Rattle.writing.proofs.write_events.Statement.{statement}
+use Rattle.writing.proofs.write_events.Tie as tie
 
 abbrev Inv-loop : tie.InvT-loop
 Inv-loop book since partners party log₀ out₀ at step₀ n entries₀ given₀ kept₀ next₀ i₀

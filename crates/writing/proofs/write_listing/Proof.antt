@@ -1,4 +1,4 @@
--- `editor::write_listing` meets its contract: the bytes of the number of parties, of the heads and of the programs, one
+-- `writing::write_listing` meets its contract: the bytes of the number of parties, of the heads and of the programs, one
 -- after another (`listing-wrote`). Assumes nothing.
 use mathlib.Core.Path.{refl}
 use native.Mathlib.Omega.{arith}
@@ -6,9 +6,9 @@ use borrow.Author.Needs.{needs}
 use Rattle.words.specs.Overlay.Laws.{wrote-length}
 use Rattle.book.specs.Headed.Laws.{valid-headed}
 use Rattle.translator.specs.Parts.Laws.{heads-there}
-use Rattle.editor.proofs.Parts.{listing-wrote}
-use Rattle.editor.proofs.write_listing.Statement.{statement}
-use Rattle.editor.proofs.write_listing.Tie as tie
+use Rattle.writing.proofs.Parts.{listing-wrote}
+use Rattle.writing.proofs.write_listing.Statement.{statement}
+use Rattle.writing.proofs.write_listing.Tie as tie
 
 returns : tie.Need-returns
 returns c =

@@ -1,13 +1,13 @@
--- `editor::translate_words` meets its contract: what fits the survey's findings is said, and where it is a length, the
+-- `writing::translate_words` meets its contract: what fits the survey's findings is said, and where it is a length, the
 -- listing is written as bytes. Assumes nothing.
 use Prim.Native.Nat.{_/_}
 use mathlib.Core.Path.{refl}
 use lib.ListN.{length}
 use borrow.Author.Needs.{needs}
 use Rattle.translator.specs.Surveyed.Laws.{written-accepted}
-use Rattle.editor.proofs.Answers.{refused-came, written-came}
-use Rattle.editor.proofs.translate_words.Statement.{statement}
-use Rattle.editor.proofs.translate_words.Tie as tie
+use Rattle.writing.proofs.Carried.{refused-came, written-came}
+use Rattle.writing.proofs.translate_words.Statement.{statement}
+use Rattle.writing.proofs.translate_words.Tie as tie
 
 -- a length is answered, so the book is accepted, and as writing asks
 write-listing-requires : tie.Need-write-listing-requires

@@ -1,4 +1,4 @@
--- `editor::write_bodies` meets its contract: the bytes of the programs of the parties passed are written, and each turn
+-- `writing::write_bodies` meets its contract: the bytes of the programs of the parties passed are written, and each turn
 -- adds one program's (`bodies-on`). Assumes nothing.
 use Prim.Native.Nat.{_-_, _<_}
 use native.Mathlib.Omega.{arith}
@@ -6,9 +6,9 @@ use borrow.Author.Needs.{needs}
 use Rattle.words.specs.Overlay.Laws.{wrote-length}
 use Rattle.book.specs.Layout.{parties}
 use Rattle.book.specs.Headed.Laws.{valid-headed}
-use Rattle.editor.proofs.Parts.{Laid, bodies-start, bodies-on, bodies-end}
-use Rattle.editor.proofs.write_bodies.Statement.{statement}
-use Rattle.editor.proofs.write_bodies.Tie as tie
+use Rattle.writing.proofs.Parts.{Laid, bodies-start, bodies-on, bodies-end}
+use Rattle.writing.proofs.write_bodies.Statement.{statement}
+use Rattle.writing.proofs.write_bodies.Tie as tie
 
 abbrev Inv-loop : tie.InvT-loop
 Inv-loop book since partners out₀ at n next₀ party₀ out next party = Laid book n party out₀ at out next

@@ -29,7 +29,7 @@ use Rattle.walking.specs.Walk.Laws.{before-skip}
 use Rattle.holding.specs.Partners.{Partners}
 use Rattle.walking.specs.Walking.{actDid, ActReady, Acting, Along}
 use Rattle.walking.specs.Walking.Laws.{along-more, along-fits, along-on}
-use Rattle.editor.specs.Events.{WroteEvents}
+use Rattle.writing.specs.Events.{WroteEvents}
 
 -- party p came through the first i steps: `count` words, whose bytes were written from a on. It holds the entries e, m is its next
 -- placeholder, and k the words of what it stored

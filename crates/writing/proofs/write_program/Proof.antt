@@ -1,13 +1,13 @@
--- `editor::write_program` meets its contract: the events' bytes, END's first words', and the triples' that the log has.
+-- `writing::write_program` meets its contract: the events' bytes, END's first words', and the triples' that the log has.
 -- Assumes nothing.
 use Prim.Native.Nat.{_≤_}
 use mathlib.Core.Path.{refl}
 use native.Mathlib.Omega.{arith}
 use borrow.Author.Needs.{needs}
 use Rattle.words.specs.Overlay.Laws.{wrote-length}
-use Rattle.editor.proofs.Parts.{few-triples, programmed}
-use Rattle.editor.proofs.write_program.Statement.{statement}
-use Rattle.editor.proofs.write_program.Tie as tie
+use Rattle.writing.proofs.Parts.{few-triples, programmed}
+use Rattle.writing.proofs.write_program.Statement.{statement}
+use Rattle.writing.proofs.write_program.Tie as tie
 
 -- the triples are few
 few : (c : tie.After-write-events) → c .write-events .result .kept ≤ 3072

@@ -7,25 +7,17 @@ use mathlib.Core.List.{List, [], _∷_}
 use mathlib.Core.Path.{_≡_}
 use lib.ListN.{length}
 use Rattle.words.specs.Choice.{pick}
-use Rattle.octets.specs.Octets.{wordsIn, uneven, spare, bytesOfAll}
+use Rattle.octets.specs.Octets.{wordsIn, uneven, spare}
 use Rattle.book.specs.Said.{Said, said}
-use Rattle.translation.specs.Outcome.{Outcome, laid}
-use Rattle.playing.specs.Rehearsal.{eventsDone, rehearsalSays}
-use Rattle.summary.specs.Summary.{summary, summarySays, asked}
+use Rattle.translation.specs.Outcome.{Outcome}
+use Rattle.summary.specs.Summary.{asked}
 use Rattle.renaming.specs.Verdict.{judged}
 use Rattle.examining.specs.Checked.{odd}
 use Rattle.writing.specs.Translated.{translated}
+use Rattle.relaying.specs.Relayed.{rehearsed, summarizedOn}
 pub mod Fits
 pub mod Laws
 pub mod Judged
-
--- of the words b, and of the schedule ms, into lent bytes, as `translated` is: what is said is what is said where the words are lent that
--- these bytes make, and on acceptance the bytes of the output are laid over them
-abbrev pub rehearsed : List ℕ → List ℕ → List ℕ → Outcome
-rehearsed b ms out = laid (rehearsalSays b ms (wordsIn out)) out (bytesOfAll (eventsDone b ms))
-
-abbrev pub summarizedOn : List ℕ → List ℕ → Outcome
-summarizedOn b out = laid (summarySays b (wordsIn out)) out (bytesOfAll (summary b))
 
 -- of the bytes of a book, and of a schedule
 unfoldable pub translationBytes : List ℕ → List ℕ → Outcome

@@ -2,7 +2,8 @@
 use mathlib.Core.Path.{ap}
 use borrow.Author.Needs.{needs}
 use Rattle.translation.specs.Outcome.{Outcome}
-use Rattle.packing.specs.Packed.Derivations.{apart-small, packed-checked}
+use Rattle.packing.specs.Packed.Derivations.{apart-small}
+use Rattle.packing.specs.Packed.Laws.{packed-checked}
 use Rattle.editor.proofs.nghiralum_apart.Statement.{statement}
 use Rattle.editor.proofs.nghiralum_apart.Tie as tie
 

@@ -3,7 +3,8 @@
 use mathlib.Core.Path.{ap}
 use borrow.Author.Needs.{needs}
 use Rattle.translation.specs.Outcome.{Outcome}
-use Rattle.packing.specs.Packed.Derivations.{checked-packs, packed-checked}
+use Rattle.packing.specs.Packed.Derivations.{checked-packs}
+use Rattle.packing.specs.Packed.Laws.{packed-checked}
 use Rattle.editor.proofs.nghiralum_check.Statement.{statement}
 use Rattle.editor.proofs.nghiralum_check.Tie as tie
 

@@ -9,7 +9,7 @@ use borrow.Author.Needs.{needs}
 use Rattle.octets.specs.Octets.{wordsIn}
 use Rattle.octets.specs.Octets.Laws.{loaded-many, loaded-front}
 use Rattle.book.specs.Layout.{loaded}
-use Rattle.editor.specs.Bytes.{rehearsed}
+use Rattle.relaying.specs.Relayed.{rehearsed}
 use Rattle.editor.specs.Bytes.Laws.{of-wholes, of-odd-book, of-odd-schedule, long-played-book, long-schedule}
 use Rattle.editor.proofs.rehearse.Statement.{statement}
 use Rattle.editor.proofs.rehearse.Tie as tie

@@ -10,7 +10,7 @@ use borrow.Author.Needs.{needs}
 use Rattle.octets.specs.Octets.{wordsIn}
 use Rattle.octets.specs.Octets.Laws.{loaded-many, loaded-front}
 use Rattle.book.specs.Layout.{loaded}
-use Rattle.editor.specs.Bytes.{summarizedOn}
+use Rattle.relaying.specs.Relayed.{summarizedOn}
 use Rattle.editor.specs.Bytes.Laws.{of-whole-summarized, of-odd-summarized, long-summarized-book}
 use Rattle.editor.proofs.summarize.Statement.{statement}
 use Rattle.editor.proofs.summarize.Tie as tie

@@ -1,7 +1,7 @@
 -- Every answer of a translation, of a rehearsal, of a summary and to a question fits one number. Assumes nothing.
 use Prim.Native.Nat.{ℕ, zero, suc, _+_, _*_, _≤_, _<_, min}
 use mathlib.Core.Bool.{Bool, true, false}
-use mathlib.Core.List.{List, [], _∷_, _++_, append-nil}
+use mathlib.Core.List.{List, [], _∷_, _++_}
 use mathlib.Core.Path.{_≡_, refl, sym, ap, _∙_}
 use native.Mathlib.Omega.{arith}
 use native.Mathlib.Decide.{ℕ-discrete, decLt}
@@ -24,10 +24,11 @@ use Rattle.translation.specs.Low.Laws.{stop-low}
 use Rattle.translation.specs.Narration.{narration}
 use Rattle.translation.specs.Taken.Laws.{stop-cases}
 use Rattle.translation.specs.Outcome.{stopLine, roomLine, acceptance, translationSays, Plays}
-use Rattle.translation.specs.Outcome.Laws.{ten, ten-apart, ten-lines, book-first, keep-plays, plays-keep}
+use Rattle.translation.specs.Outcome.Laws.{ten, ten-lines, book-first, plays-keep}
 use Rattle.playing.specs.Rehearsal.{longLine, moveLine, rehearsalSays}
 use Rattle.summary.specs.Summary.{summaryWords, summarySays, lengthLine, questionLine, answered, asked}
 use Rattle.summary.specs.Summary.Laws.{summary-most}
+use Rattle.relaying.specs.Relayed.Laws.{plays-from}
 use Rattle.packing.specs.Packed.{capped, Small}
 
 -- ---- an answer of a table, line by line
@@ -96,12 +97,6 @@ module _ (b : List ℕ) where
         (λ plays. last-says Refuses accepted (λ n. absurd (n refl))))
   ]
 
-  pub plays-from : acceptance b .number ≡ 0 → Plays b
-  unfolding acceptance
-  plays-from z =
-      keep-plays b (none-given (ten b) accepted (ten-apart b 0 (omega arith) (omega arith) (omega arith))
-      (ap (λ (ls : List Line). firstOf ls accepted .number) (sym (ten-lines b [] ∙ append-nil _)) ∙ z))
-
   -- ---- and 12, or acceptance: of an output whose length fits
   room-small : (out : List ℕ) (need : ℕ) → (Plays b → need < 4294967296)
       → Small (firstOf (readingTable b ++ stopLine b ∷ roomLine (length out) need ∷ []) (said 0 (need ∷ [])))
@@ -109,7 +104,7 @@ module _ (b : List ℕ) where
   room-small out need low = elim (ℕ-discrete (acceptance b .number) 0) [
     | no n ↦ rw (book-first b (roomLine (length out) need ∷ []) (said 0 (need ∷ [])) n) (acceptance-small n)
     | yes z ↦
-        let p = plays-from z in
+        let p = plays-from b z in
         let short = low p in
         let rest = said 0 (need ∷ []) in
         let line12 = roomLine (length out) need in
@@ -132,7 +127,7 @@ module _ (b : List ℕ) where
   rehearsal-small ms out = elim (ℕ-discrete (acceptance b .number) 0) [
     | no n ↦ rw (book-first b _ _ n) (acceptance-small n)
     | yes z ↦
-        let p = plays-from z in
+        let p = plays-from b z in
         let few = valid-headed b (p .valid) .fewParties in
         let rest = said 0 (parties b ∷ []) in
         rw (

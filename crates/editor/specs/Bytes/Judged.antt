@@ -24,10 +24,11 @@ use Rattle.renaming.specs.Renaming.Laws.{follow-most}
 use Rattle.renaming.specs.Verdict.{judged}
 use Rattle.renaming.specs.Verdict.Laws.{verdict-either}
 use Rattle.renaming.specs.Verdict.Judged.{judged-book-first, judged-exactly-reading, exactly-22, judged-says}
+use Rattle.relaying.specs.Relayed.Laws.{plays-from}
 use Rattle.packing.specs.Packed.{pack, unpackVerdict, Small, Packs}
 use Rattle.packing.specs.Packed.Laws.{small-packs, verdict-told, verdict-placed}
 use Rattle.editor.specs.Bytes.{judgedBytes}
-use Rattle.editor.specs.Bytes.Fits.{acceptance-small, plays-from}
+use Rattle.editor.specs.Bytes.Fits.{acceptance-small}
 use Rattle.editor.specs.Bytes.Laws.{Misfit, misfit}
 
 -- ---- bytes that make whole words, and others

@@ -19,29 +19,31 @@ use Rattle.words.specs.First.{first}
 use Rattle.words.specs.First.Laws.{first-same, first-le, first-at, first-end, first-holds, first-fails}
 use Rattle.octets.specs.Octets.{wordsIn, uneven, spare, bytesOfAll}
 use Rattle.octets.specs.Octets.Laws.{words-length, bytes-even, bytes-back, words-laid, spare-laid}
-use Rattle.book.specs.Layout.{header, sections, longest, loaded, offset, parties}
+use Rattle.book.specs.Layout.{header, sections, longest, loaded, offset}
 use Rattle.book.specs.Rules.{countBreaks, OffsetRule, stated, offsetBreaks}
 use Rattle.book.specs.Rules.Laws.{count-exact, offset-exact}
 use Rattle.book.specs.Said.{Said, said, accepted}
 use Rattle.book.specs.Refusals.{readingTable, verdict}
 use Rattle.book.specs.Refusals.Laws.{scan-here, scan-on}
 use Rattle.translation.specs.Listing.{listing}
-use Rattle.book.specs.Headed.Laws.{rules-headed, valid-headed, long-most}
+use Rattle.book.specs.Headed.Laws.{rules-headed, long-most}
 use Rattle.translation.specs.Low.Laws.{listing-low}
-use Rattle.translation.specs.Outcome.{Outcome, roomLine, acceptance, translationSays, laid, outcome}
-use Rattle.translation.specs.Outcome.Laws.{laid-keeps, laid-lays, exactly-reading, exactly-written, book-first}
+use Rattle.translation.specs.Outcome.{Outcome, acceptance, translationSays, laid, outcome}
+use Rattle.translation.specs.Outcome.Laws.{laid-keeps, laid-lays, exactly-reading, exactly-written}
 use Rattle.playing.specs.Rehearsal.{eventsDone, rehearsalSays, rehearsal, BadMoves}
 use Rattle.playing.specs.Rehearsal.Laws.{rehearsal-acceptance-first, rehearsal-exactly-reading, rehearsal-exactly-11, exactly-played, done-length}
 use Rattle.playing.specs.Rehearsal.Low.{done-low}
-use Rattle.summary.specs.Summary.{summaryWords, summary, summarySays, summarized, asked}
-use Rattle.summary.specs.Summary.Laws.{summary-length, summary-low, summary-most}
+use Rattle.summary.specs.Summary.{summary, summarySays, summarized, asked}
+use Rattle.summary.specs.Summary.Laws.{summary-length, summary-low}
 use Rattle.summary.specs.Summary.Written.{summary-exactly-reading, exactly-summarized}
 use Rattle.examining.specs.Checked.{odd}
 use Rattle.writing.specs.Translated.{translated}
+use Rattle.relaying.specs.Relayed.{rehearsed, summarizedOn}
+use Rattle.relaying.specs.Relayed.Laws.{plays-from}
 use Rattle.packing.specs.Packed.{pack, unpack, capped, packed, Small}
 use Rattle.packing.specs.Packed.Laws.{unpack-pack, capped-back}
-use Rattle.editor.specs.Bytes.{rehearsed, summarizedOn, translationBytes, rehearsalBytes, summaryBytes, askedBytes, AsWords}
-use Rattle.editor.specs.Bytes.Fits.{plays-from, translation-small, rehearsal-small, summary-small, asked-small, asked-whole, asked-never-1}
+use Rattle.editor.specs.Bytes.{translationBytes, rehearsalBytes, summaryBytes, askedBytes, AsWords}
+use Rattle.editor.specs.Bytes.Fits.{translation-small, rehearsal-small, summary-small, asked-small, asked-whole, asked-never-1}
 
 -- ---- a book that is longer than a book can be
 -- of as many words as are loaded, the first of more
@@ -226,29 +228,6 @@ module _ (b ms out : List ℕ) where
           (λ e. let f = ap (λ (s : Said). s .number) theirs in absurd (omega arith))
     ]
   ]
-
--- ---- a rehearsal needs room for no more than 16 words, a summary for no more than 16,387
-room-most : (most room need : ℕ) → need ≤ most → ltb (min most room) need ≡ ltb room need
-room-most most room need h = elim (decLt room need) [
-  | yes l ↦ lt-ltb (min most room) need (omega arith) ∙ sym (lt-ltb room need l)
-  | no l ↦ le-ltb (min most room) need (omega arith) ∙ sym (le-ltb room need (omega arith))
-]
-
-pub room-enough : (b ms out lent : List ℕ) → length lent ≡ min 16 (length out) → rehearsalSays b ms lent ≡ rehearsalSays b ms out
-unfolding rehearsalSays roomLine
-room-enough b ms out lent e = elim (ℕ-discrete (acceptance b .number) 0) [
-  | no n ↦ book-first b _ _ n ∙ sym (book-first b _ _ n)
-  | yes z ↦
-      let few = valid-headed b (plays-from b z .valid) .fewParties in
-      rw (e, room-most 16 (length out) (parties b) few)
-]
-
-pub summary-room-enough : (b out lent : List ℕ) → length lent ≡ min 16387 (length out) → summarySays b lent ≡ summarySays b out
-unfolding summarySays roomLine
-summary-room-enough b out lent e = elim (ℕ-discrete (acceptance b .number) 0) [
-  | no n ↦ book-first b _ _ n ∙ sym (book-first b _ _ n)
-  | yes z ↦ rw (e, room-most 16387 (length out) (summaryWords b) (summary-most b (plays-from b z .valid)))
-]
 
 -- ---- the outcome on words
 laid-words : (s : Said) (out ws : List ℕ) → (s .number ≡ 0 → All (λ w. w < 4294967296) ws × (length ws ≤ length out / 4))

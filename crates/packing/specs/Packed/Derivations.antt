@@ -3,7 +3,7 @@ use Prim.Native.Nat.{ℕ, _/_, _<_, min}
 use mathlib.Core.Bool.{Bool, true, false}
 use mathlib.Core.List.{List, [], _∷_}
 use mathlib.Core.Logic.{_⊎_, inl, inr}
-use mathlib.Core.Path.{_≡_, refl, ap, _∙_}
+use mathlib.Core.Path.{_≡_, refl}
 use native.Mathlib.Omega.{arith}
 use native.Mathlib.Decide.{decLt}
 use lib.ListN.{length}
@@ -16,7 +16,7 @@ use Rattle.book.specs.Said.{Said, said}
 use Rattle.translation.specs.Outcome.{Outcome}
 use Rattle.examining.specs.Checked.{verdictSaid, odd, short, checkedBytes, apartIn, apartBytes}
 use Rattle.examining.specs.Checked.Laws.{checked-by, apart-odd, apart-short, apart-enough}
-use Rattle.packing.specs.Packed.{pack, unpack, unpackVerdict, capped, Small, Packs, returned, packedCapped}
+use Rattle.packing.specs.Packed.{pack, unpack, unpackVerdict, capped, Small, Packs}
 use Rattle.packing.specs.Packed.Laws.{unpack-pack, verdict-told, verdict-placed}
 
 -- ---- all that is said fits
@@ -78,8 +78,3 @@ apart-small xs room = go (uneven xs) refl
 
 pub apart-unpacked : (xs room : List ℕ) → unpack (pack (capped (apartBytes xs room .says))) ≡ capped (apartBytes xs room .says)
 apart-unpacked xs room = unpack-pack _ (apart-small xs room)
-
--- ---- what a caller in another language gets
-pub packed-checked : {o : Outcome} {s : Said} {new : List ℕ} {n : ℕ} → record { says = s; lent = new } ≡ o → n ≡ pack (capped s)
-    → returned n new ≡ packedCapped o
-packed-checked {new = new} e f = ap (λ k. returned k new) f ∙ ap packedCapped e

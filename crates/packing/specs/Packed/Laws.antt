@@ -1,4 +1,4 @@
--- Laws of an answer in one number: an answer that fits is read back from it. Assumes nothing.
+-- Laws of an answer in one number: an answer that fits is read back from it; what a caller in another language gets. Assumes nothing.
 use Prim.Native.Nat.{ℕ, suc, _+_, _*_, _/_, _%_, _<_, min}
 use mathlib.Core.Bool.{true, false}
 use mathlib.Core.List.{List, [], _∷_, map}
@@ -10,7 +10,9 @@ use lib.Dec.{eqb}
 use borrow.Author.Tests.{eq-eqb, ne-eqb}
 use Rattle.words.specs.Choice.Laws.{pick-true, pick-false, or-left, or-right}
 use Rattle.book.specs.Said.{Said, said}
-use Rattle.packing.specs.Packed.{pack, twoValues, unpack, unpackVerdict, capped, Small, Packs}
+use Rattle.translation.specs.declared.Answer.{Answer}
+use Rattle.translation.specs.Outcome.{Outcome, answerSays, came}
+use Rattle.packing.specs.Packed.{pack, twoValues, unpack, unpackVerdict, capped, Small, Packs, returned, packed, packedCapped}
 
 -- ---- read back
 pub unpack-pack : (s : Said) → Small s → unpack (pack s) ≡ s
@@ -78,3 +80,12 @@ capped-back s n v l e = go (s .number) (s .values) e
     go k (w ∷ x ∷ vs) f =
         let z : suc (suc (length (map (min 4294967295) vs))) ≡ length (v ∷ []) = ap (λ (y : Said). length (y .values)) f in
         absurd (omega arith)
+
+-- ---- what a caller in another language gets
+pub packed-came : {o : Outcome} {new : List ℕ} {n : ℕ} (r : Answer) → came r new ≡ o → n ≡ pack (answerSays r) → returned n new ≡ packed o
+packed-came {new = new} r e f = ap (λ k. returned k new) f ∙ ap packed e
+
+-- the same, capped
+pub packed-checked : {o : Outcome} {s : Said} {new : List ℕ} {n : ℕ} → record { says = s; lent = new } ≡ o → n ≡ pack (capped s)
+    → returned n new ≡ packedCapped o
+packed-checked {new = new} e f = ap (λ k. returned k new) f ∙ ap packedCapped e

@@ -1,10 +1,10 @@
--- `editor::rehearse_words` meets its contract: the words between are as many as the output has room for, or as parties
+-- `relaying::rehearse_words` meets its contract: the words between are as many as the output has room for, or as parties
 -- can be. Assumes nothing.
 use native.Mathlib.Omega.{arith}
 use lib.ListN.{length-take}
 use borrow.Author.Needs.{needs}
-use Rattle.editor.proofs.rehearse_words.Statement.{statement}
-use Rattle.editor.proofs.rehearse_words.Tie as tie
+use Rattle.relaying.proofs.rehearse_words.Statement.{statement}
+use Rattle.relaying.proofs.rehearse_words.Tie as tie
 
 pub rehearse-words-spec : {M : Type 1} → statement M
 rehearse-words-spec =

@@ -1,10 +1,10 @@
--- `editor::summarize_words` meets its contract: the words between are as many as the output has room for, or as a summary
+-- `relaying::summarize_words` meets its contract: the words between are as many as the output has room for, or as a summary
 -- can have. Assumes nothing.
 use native.Mathlib.Omega.{arith}
 use lib.ListN.{length-take}
 use borrow.Author.Needs.{needs}
-use Rattle.editor.proofs.summarize_words.Statement.{statement}
-use Rattle.editor.proofs.summarize_words.Tie as tie
+use Rattle.relaying.proofs.summarize_words.Statement.{statement}
+use Rattle.relaying.proofs.summarize_words.Tie as tie
 
 pub summarize-words-spec : {M : Type 1} → statement M
 summarize-words-spec =

@@ -1,4 +1,4 @@
--- `editor::rehearse_through` meets its contract: the words of the rehearsal, where it is accepted, are written as
+-- `relaying::rehearse_through` meets its contract: the words of the rehearsal, where it is accepted, are written as
 -- bytes. Assumes nothing.
 use native.Mathlib.Omega.{arith}
 use mathlib.Core.Path.{_≡_}
@@ -7,9 +7,9 @@ use Prim.Native.Nat.{ℕ}
 use borrow.Author.Needs.{needs}
 use Rattle.playing.specs.Rehearsal.{rehearsalSays, eventsDone, rehearsal}
 use Rattle.translation.specs.Outcome.{Outcome, laid}
-use Rattle.editor.proofs.Answers.{rehearsal-fits, between-rehearsal, through-length, through-refused, through-many, through-written}
-use Rattle.editor.proofs.rehearse_through.Statement.{statement}
-use Rattle.editor.proofs.rehearse_through.Tie as tie
+use Rattle.relaying.proofs.Through.{rehearsal-fits, between-rehearsal, through-length, through-refused, through-many, through-written}
+use Rattle.relaying.proofs.rehearse_through.Statement.{statement}
+use Rattle.relaying.proofs.rehearse_through.Tie as tie
 
 -- what came of the rehearsal into the words between
 as-laid : (b ms out : List ℕ) {o : Outcome} → o ≡ rehearsal b ms out

@@ -1,4 +1,4 @@
--- `editor::ask_words` meets its contract: the length and the words that are read are those of the words that the bytes
+-- `relaying::ask_words` meets its contract: the length and the words that are read are those of the words that the bytes
 -- make. Assumes nothing.
 use mathlib.Core.Path.{sym}
 use borrow.Author.Needs.{needs}
@@ -6,8 +6,8 @@ use Rattle.octets.specs.Octets.{wordsIn}
 use Rattle.octets.specs.Octets.Laws.{words-length}
 use Rattle.summary.specs.Found.{Decides}
 use Rattle.summary.specs.Found.Laws.{replied-refused, replied-at}
-use Rattle.editor.proofs.ask_words.Statement.{statement}
-use Rattle.editor.proofs.ask_words.Tie as tie
+use Rattle.relaying.proofs.ask_words.Statement.{statement}
+use Rattle.relaying.proofs.ask_words.Tie as tie
 
 module _ (c : tie.After-find) where
   abbrev start : tie.Start

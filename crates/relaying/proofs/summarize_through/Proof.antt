@@ -1,4 +1,4 @@
--- `editor::summarize_through` meets its contract: the words of the summary, where the book is accepted, are written as
+-- `relaying::summarize_through` meets its contract: the words of the summary, where the book is accepted, are written as
 -- bytes. Assumes nothing.
 use native.Mathlib.Omega.{arith}
 use mathlib.Core.Path.{_≡_}
@@ -7,9 +7,9 @@ use Prim.Native.Nat.{ℕ}
 use borrow.Author.Needs.{needs}
 use Rattle.summary.specs.Summary.{summary, summarySays, summarized}
 use Rattle.translation.specs.Outcome.{Outcome, laid}
-use Rattle.editor.proofs.Answers.{summary-fits, between-summary, through-length, through-refused, through-many, through-written}
-use Rattle.editor.proofs.summarize_through.Statement.{statement}
-use Rattle.editor.proofs.summarize_through.Tie as tie
+use Rattle.relaying.proofs.Through.{summary-fits, between-summary, through-length, through-refused, through-many, through-written}
+use Rattle.relaying.proofs.summarize_through.Statement.{statement}
+use Rattle.relaying.proofs.summarize_through.Tie as tie
 
 -- what came of the summary into the words between
 as-laid : (b out : List ℕ) {o : Outcome} → o ≡ summarized b out → o ≡ laid (summarySays b out) out (summary b)

@@ -1,4 +1,4 @@
--- Answers on bytes: what came of a call on the words that bytes make, also where it is packed. Assumes nothing.
+-- An output that went through words between: what came of it on bytes. Assumes nothing.
 use Prim.Native.Nat.{ℕ, _+_, _/_, _≤_, min}
 use mathlib.Core.List.{List, [], _∷_}
 use mathlib.Core.Path.{_≡_, refl, sym, ap, ap₂, _∙_}
@@ -20,8 +20,7 @@ use Rattle.playing.specs.Rehearsal.Laws.{exactly-played, played-says, done-leng
 use Rattle.summary.specs.Summary.{summary, summarySays}
 use Rattle.summary.specs.Summary.Laws.{summary-length}
 use Rattle.summary.specs.Summary.Written.{exactly-summarized, summarized-says}
-use Rattle.editor.specs.Bytes.Laws.{room-enough, summary-room-enough}
-use Rattle.packing.specs.Packed.{pack, returned, packed}
+use Rattle.relaying.specs.Relayed.Laws.{room-enough, summary-room-enough}
 
 -- ---- an output that is laid over what was lent keeps its length
 laid-length : (s : Said) (out ws : List ℕ) → length (laid s out ws .lent) ≡ length out
@@ -29,10 +28,6 @@ laid-length s out ws = elim (ℕ-discrete (s .number) 0) [
   | yes z ↦ ap length (laid-lays s out ws z) ∙ length-sets out 0 ws
   | no n ↦ ap length (laid-keeps s out ws n)
 ]
-
--- ---- what a caller in another language gets
-pub packed-came : {o : Outcome} {new : List ℕ} {n : ℕ} (r : Answer) → came r new ≡ o → n ≡ pack (answerSays r) → returned n new ≡ packed o
-packed-came {new = new} r e f = ap (λ k. returned k new) f ∙ ap packed e
 
 -- ---- an output ws into words, and from there, as bytes, to what was lent. Of the words between s is said, and t of those that the bytes
 -- make; both are the same, as there are as many words between as the output can have

@@ -1,21 +1,23 @@
 -- Refusal 6: rows that agree in kind, tag and parts, and a row that repeats an earlier one. Assumes nothing.
 use Prim.Native.Nat.{ℕ, _+_, _%_, _≤_, _<_}
-use mathlib.Core.Bool.{true, false}
+use mathlib.Core.Bool.{Bool, true, false, not, true≢false}
 use mathlib.Core.List.{List}
 use mathlib.Core.Path.{_≡_, sym, ap, _∙_}
 use lib.ListN.{length, getD}
 use lib.Seq.{ext-getD}
-use lib.Dec.{ltb}
+use lib.Dec.{ltb, eqb}
 use native.Mathlib.Omega.{arith}
 use native.Mathlib.Decide.{decLt}
 use borrow.Author.Count.{below-none, below-more}
-use borrow.Author.Tests.{eq-eqb, ne-eqb}
+use borrow.Author.Tests.{eq-eqb, ne-eqb, not-true, not-false}
 use Rattle.words.specs.Choice.Laws.{pick-true, pick-false}
 use Rattle.words.specs.First.{first, any}
 use Rattle.words.specs.Run.Laws.{run-length, run-getD}
 use Rattle.book.specs.Layout.{begins, rows, kind, tag, rowFirst, rowCount, pooled, parts}
-use Rattle.book.specs.Rules.{Alike, alike, repeats}
-use Rattle.book.specs.Rules.Laws.{alike-exact, not-alike}
+use Rattle.book.specs.Rules.{differs, Alike, alike, repeats}
+use Rattle.book.specs.Rules.Laws.{none-of, of-none, differs-same, differs-true, differs-false, alike-exact, not-alike}
+use Rattle.rows.specs.Tests.{one-here, one-on, one-last}
+use Rattle.twins.specs.Heads.{headsDiffer}
 use Rattle.twins.specs.Keys.{keyOf, chains, chainOf, NextIn, ChainedFrom}
 use Rattle.twins.specs.Keys.Laws.{next-within, next-passed, next-chained}
 use Rattle.rows.specs.Scans.{Scanning}
@@ -45,15 +47,39 @@ module _ (b : List ℕ) (r k : ℕ) where
       let q = parts-length b r in
       ext-getD 0 _ _ (omega arith) (λ j l. parts-at b k j (omega arith) ∙ h j (omega arith) ∙ sym (parts-at b r j (omega arith)))
 
-  -- ---- alike: what was read of the row r and of the row k differs
-  pub kind-differs : (c c' : ℕ) → c ≡ kind b r → c' ≡ kind b k → (c' ≡ c → ⊥) → alike b r k ≡ false
-  kind-differs c c' e a n = not-alike b r k (λ x. n (a ∙ x .kinds ∙ sym e))
+  -- ---- headsDiffer, test after test: c', t' and n' were read of row k, and c, t and n of row r
+  module _ (c' c : ℕ) (dc' : c' ≡ kind b k) (dc : c ≡ kind b r) where
+    pub kind-differs : (c' ≡ c → ⊥) → true ≡ headsDiffer b r k
+    unfolding headsDiffer
+    kind-differs n = one-here _ _ (differs-true _ _ (λ z. n (dc' ∙ z ∙ sym dc)))
 
-  pub tag-differs : (t t' : ℕ) → t ≡ tag b r → t' ≡ tag b k → (t' ≡ t → ⊥) → alike b r k ≡ false
-  tag-differs t t' e a n = not-alike b r k (λ x. n (a ∙ x .tags ∙ sym e))
+    module _ (h : c' ≡ c) (t' t : ℕ) (dt' : t' ≡ tag b k) (dt : t ≡ tag b r) where
+      kinds : differs (kind b k) (kind b r) ≡ false
+      kinds = differs-same _ _ (sym dc' ∙ h ∙ dc)
 
-  pub count-differs : (n n' : ℕ) → n ≡ rowCount b r → n' ≡ rowCount b k → (n' ≡ n → ⊥) → alike b r k ≡ false
-  count-differs n n' e a m = not-alike b r k (λ x. m (a ∙ alike-counts x ∙ sym e))
+      pub tag-differs : (t' ≡ t → ⊥) → true ≡ headsDiffer b r k
+      unfolding headsDiffer
+      tag-differs n = one-on _ _ _ kinds (one-here _ _ (differs-true _ _ (λ z. n (dt' ∙ z ∙ sym dt))))
+
+      pub count-differs : t' ≡ t → (n' n : ℕ) → n' ≡ rowCount b k → n ≡ rowCount b r → not (eqb n' n) ≡ headsDiffer b r k
+      unfolding headsDiffer differs
+      count-differs g n' n dn' dn =
+          one-on _ _ _ kinds (one-on _ _ _ (differs-same _ _ (sym dt' ∙ g ∙ dt)) (one-last _ _ (rw (dn', dn))))
+
+  -- ---- rows whose heads differ are not alike; v is what a call said
+  module _ (v : Bool) (d : v ≡ headsDiffer b r k) where
+    heads-same : Alike b r k → v ≡ false
+    unfolding headsDiffer
+    heads-same x = d ∙ of-none _ (differs-same _ _ (x .kinds), (differs-same _ _ (x .tags), (differs-same _ _ (alike-counts x), tt)))
+
+    pub heads-differ : not v ≡ false → alike b r k ≡ false
+    heads-differ e = not-alike b r k (λ x. true≢false (sym (not-false v e) ∙ heads-same x))
+
+    heads-agree : not v ≡ true → (kind b k ≡ kind b r) × (tag b k ≡ tag b r) × (rowCount b k ≡ rowCount b r)
+    unfolding headsDiffer
+    heads-agree e =
+        let t = none-of _ (sym d ∙ not-true v e) in
+        (differs-false _ _ (t .0), differs-false _ _ (t .1 .0), differs-false _ _ (t .1 .1 .0))
 
 -- ---- SameHeads: the rows r and k are the same in kind and tag, and both have n parts, which begin at f and at g in the pool
 pub record SameHeads (b : List ℕ) (r k f g n : ℕ) : Type 0 where
@@ -70,28 +96,25 @@ pub record SameTo (b : List ℕ) (r k f g n j : ℕ) : Type 0 where
   pub within : j ≤ n
   pub equal : (i : ℕ) → i < j → pooled b g i ≡ pooled b f i
 
--- y, c, t, f and n are what was read of row r: its key, kind and tag, where its parts begin and how many they are
-pub record Own (b : List ℕ) (r y c t f n : ℕ) : Type 0 where
+-- y, f and n are what was read of row r: its key, where its parts begin and how many they are
+pub record Own (b : List ℕ) (r y f n : ℕ) : Type 0 where
   pub key : y ≡ keyOf b r
-  pub kind : c ≡ kind b r
-  pub tag : t ≡ tag b r
   pub first : f ≡ rowFirst b r
   pub count : n ≡ rowCount b r
 
--- c', t', n' and g are what was read of row k
-pub same-begins : {b : List ℕ} {r y c t f n : ℕ} → Own b r y c t f n → (k c' t' g n' : ℕ) → c' ≡ kind b k → c' ≡ c → t' ≡ tag b k
-    → t' ≡ t → n' ≡ rowCount b k → n' ≡ n → g ≡ rowFirst b k → SameTo b r k f g n 0
-same-begins own k c' t' g n' ec hc et ht en hn eg =
-    let c = own .kind in
-    let t = own .tag in
+-- the heads do not differ, as a call said, and the parts of row k begin at g
+pub same-begins : {b : List ℕ} {r y f n : ℕ} → Own b r y f n → (k : ℕ) (v : Bool) → v ≡ headsDiffer b r k → not v ≡ true
+    → (g : ℕ) → g ≡ rowFirst b k → SameTo b r k f g n 0
+same-begins {b} {r} own k v d e g dg =
+    let (kinds, tags, counts) = heads-agree b r k v d e in
     let n = own .count in
     record {
       heads = record {
-        kinds = omega arith;
-        tags = omega arith;
+        kinds = kinds;
+        tags = tags;
         own-first = own .first;
         own-count = n;
-        other-first = eg;
+        other-first = dg;
         other-count = omega arith;
       };
       within = omega arith;

@@ -17,6 +17,7 @@ ghost use Rattle.book.specs.Headed.{Headed};
 ghost use Rattle.book.specs.Layout.{rows as rowsOf};
 ghost use Rattle.book.specs.Rules.{alike, repeats};
 ghost use Rattle.rows.specs.Scanned.{RowsKeep};
+ghost use Rattle.twins.specs.Heads.{headsDiffer};
 ghost use Rattle.twins.specs.Keys.{mixed as mixedOf, keyOf, ChainedFrom};
 
 // One word more in a key: 33 times the key and the word, by sums that wrap around at 32 bits.
@@ -66,6 +67,20 @@ fn chain(book: &[u32], keys: &mut ByRow, heads: &mut ByRow, nexts: &mut ByRow)
     }
 }
 
+// The other row differs from the row in kind, in tag or in how many parts it has.
+fn heads_differ(book: &[u32], row: u32, other: u32) -> bool
+    requires { ⌜ Headed (now book) × (row < rowsOf (now book)) × (other < rowsOf (now book)) ⌝ }
+    ensures { λ r. ⌜ r ≡ headsDiffer (now (book .entry)) row other ⌝ }
+{
+    if row_kind(book, other) != row_kind(book, row) {
+        return true;
+    }
+    if row_tag(book, other) != row_tag(book, row) {
+        return true;
+    }
+    row_count(book, other) != row_count(book, row)
+}
+
 // The first row before this one that agrees with it in kind, tag and parts, or the row itself: only rows of its bucket can, and of
 // these only those with its key.
 fn twin(book: &[u32], keys: &ByRow, heads: &ByRow, nexts: &ByRow, row: u32) -> u32
@@ -73,8 +88,6 @@ fn twin(book: &[u32], keys: &ByRow, heads: &ByRow, nexts: &ByRow, row: u32) -> u
     ensures { λ r. ⌜ r ≡ first (alike (now (book .entry)) row) row ⌝ }
 {
     let key = keys[wide(row)];
-    let kind = row_kind(book, row);
-    let tag = row_tag(book, row);
     let first = row_first(book, row);
     let n = row_count(book, row);
     let mut k = heads[wide(key % 1024)];
@@ -83,21 +96,17 @@ fn twin(book: &[u32], keys: &ByRow, heads: &ByRow, nexts: &ByRow, row: u32) -> u
             break 'rows row;
         }
         if keys[wide(k)] == key {
-            if row_kind(book, k) == kind {
-                if row_tag(book, k) == tag {
-                    if row_count(book, k) == n {
-                        let other = row_first(book, k);
-                        let mut j = 0;
-                        'parts: loop {
-                            if j == n {
-                                break 'rows k;
-                            }
-                            if pooled(book, other, j) != pooled(book, first, j) {
-                                break 'parts;
-                            }
-                            j += 1;
-                        }
+            if !heads_differ(book, row, k) {
+                let other = row_first(book, k);
+                let mut j = 0;
+                'parts: loop {
+                    if j == n {
+                        break 'rows k;
                     }
+                    if pooled(book, other, j) != pooled(book, first, j) {
+                        break 'parts;
+                    }
+                    j += 1;
                 }
             }
         }

@@ -1,5 +1,5 @@
--- `twins::twin` meets its contract: no row passed agrees, since it is in another chain or differs in key, kind, tag,
--- count or part; the row that is returned is alike in all of them. Assumes nothing.
+-- `twins::twin` meets its contract: no row passed agrees, since it is in another chain or differs in key, head or part;
+-- the row that is returned is alike in all of them. Assumes nothing.
 use Prim.Native.Nat.{_-_, _%_}
 use mathlib.Core.Path.{refl, ap, _∙_}
 use mathlib.Core.Logic.{inl, inr}
@@ -9,21 +9,21 @@ use Rattle.words.specs.First.Laws.{first-at, first-end}
 use Rattle.twins.specs.Keys.{chains}
 use Rattle.twins.specs.Keys.Laws.{key-differs}
 use Rattle.rows.specs.Parts.Laws.{parts-of}
-use Rattle.twins.proofs.Twins.{SameTo, same-begins, same-goes, same-alike, kind-differs, tag-differs, count-differs, part-differs, Own, Hunting, key-read, hunting-starts, hunting-goes, hunting-on}
+use Rattle.twins.proofs.Twins.{heads-differ, SameTo, same-begins, same-goes, same-alike, part-differs, Own, Hunting, key-read, hunting-starts, hunting-goes, hunting-on}
 use Rattle.twins.proofs.twin.Statement.{statement}
 use Rattle.twins.proofs.twin.Tie as tie
 
 abbrev Inv-parts : tie.InvT-parts
-Inv-parts book keys heads nexts row key kind tag first n k other j₀ j = SameTo book row k first other n j
+Inv-parts book keys heads nexts row key first n k other j₀ j = SameTo book row k first other n j
 
 abbrev μ-parts : tie.MeasureT-parts
-μ-parts book keys heads nexts row key kind tag first n k other j₀ j = n - j
+μ-parts book keys heads nexts row key first n k other j₀ j = n - j
 
 abbrev Inv-rows : tie.InvT-rows
-Inv-rows book keys heads nexts row key kind tag first n k₀ k = Own book row key kind tag first n × Hunting book row k
+Inv-rows book keys heads nexts row key first n k₀ k = Own book row key first n × Hunting book row k
 
 abbrev μ-rows : tie.MeasureT-rows
-μ-rows book keys heads nexts row key kind tag first n k₀ k = row - k
+μ-rows book keys heads nexts row key first n k₀ k = row - k
 
 -- a place or a need of `twin`, by its name
 abbrev in-twin : (tie.InvT-parts → tie.MeasureT-parts → tie.InvT-rows → tie.MeasureT-rows → Type 0) → Type 0
@@ -35,34 +35,25 @@ rows-holds c =
     let chain : in-twin tie.After-wide2 = search in
     let count : in-twin tie.After-row-count = search in
     let first : in-twin tie.After-row-first = search in
-    let tag : in-twin tie.After-row-tag = search in
-    let kind : in-twin tie.After-row-kind = search in
     let wide : in-twin tie.After-wide = search in
     let start : in-twin tie.Start = search in
     let (headed, keep, chained, inside) = start .pre in
     let key = key-read chained inside (wide .wide .ensures .0) in (
       record {
         key = key;
-        kind = kind .row-kind .ensures;
-        tag = tag .row-tag .ensures;
         first = first .row-first .ensures .0;
         count = count .row-count .ensures .0;
       },
       hunting-starts chained inside (chain .wide2 .ensures .0 ∙ ap (λ y. y % chains) key),
     )
 
--- behind the four tests the rows are alike, but for their parts
+-- behind the two tests the rows are alike, but for their parts
 parts-holds : in-twin tie.Need-parts-holds
 parts-holds c =
-    let then5 : in-twin tie.Then5 = search in
-    let count2 : in-twin tie.After-row-count2 = search in
-    let then4 : in-twin tie.Then4 = search in
-    let tag2 : in-twin tie.After-row-tag2 = search in
     let then3 : in-twin tie.Then3 = search in
-    let kind2 : in-twin tie.After-row-kind2 = search in
+    let differ : in-twin tie.After-heads-differ = search in
     let at-rows : in-twin tie.At-rows = search in
-    same-begins (at-rows .rows .inv .0) _ _ _ _ _ (kind2 .row-kind2 .ensures) (then3 .if3 .taken)
-    (tag2 .row-tag2 .ensures) (then4 .if4 .taken) (count2 .row-count2 .ensures .0) (then5 .if5 .taken)
+    same-begins (at-rows .rows .inv .0) _ _ (differ .heads-differ .ensures) (then3 .if3 .taken) _
     (c .row-first2 .ensures .0)
 
 -- both rows keep their rules, so that their parts lie in the pool
@@ -91,12 +82,12 @@ parts-again : in-twin tie.Need-parts-again
 parts-again c =
     let part2 : in-twin tie.After-pooled2 = search in
     let part : in-twin tie.After-pooled = search in
-    let else6 : in-twin tie.Else6 = search in
+    let else6 : in-twin tie.Else4 = search in
     let at-parts : in-twin tie.At-parts = search in
-    same-goes _ _ _ _ _ _ _ (at-parts .parts .inv) (else6 .if6 .left) _ _ (part .pooled .ensures)
-    (part2 .pooled2 .ensures) (c .if7 .left)
+    same-goes _ _ _ _ _ _ _ (at-parts .parts .inv) (else6 .if4 .left) _ _ (part .pooled .ensures)
+    (part2 .pooled2 .ensures) (c .if5 .left)
 
--- the other row differs in a part, in its count, its tag, its kind or its key; the hunt goes on along the chain
+-- the other row differs in a part, in its head or in its key; the hunt goes on along the chain
 rows-again : in-twin tie.Need-rows-again
 rows-again c =
     let start : in-twin tie.Start = search in
@@ -112,14 +103,10 @@ rows-again c =
       own,
       hunting-goes chained inside hunt (else1 .if1 .left)
           (elim (joined .if2 .came) [
-            | inl (if2, kind2, if3, tag2, if4, count2, if5, first2, parts, if6, part, part2, if7) ↦
-                part-differs _ _ _ _ _ _ _ (parts .inv) (if6 .left) _ _ (part .ensures) (part2 .ensures) (if7 .taken)
-            | inr (inl (if2, kind2, if3, tag2, if4, count2, if5)) ↦
-                count-differs _ _ _ _ _ (own .count) (count2 .ensures .0) (if5 .left)
-            | inr (inr (inl (if2, kind2, if3, tag2, if4))) ↦
-                tag-differs _ _ _ _ _ (own .tag) (tag2 .ensures) (if4 .left)
-            | inr (inr (inr (inl (if2, kind2, if3)))) ↦ kind-differs _ _ _ _ _ (own .kind) (kind2 .ensures) (if3 .left)
-            | inr (inr (inr (inr if2))) ↦ key-differs _ _ _ _ _ (own .key) key (if2 .left)
+            | inl (if2, differ, if3, first2, parts, if4, part, part2, if5) ↦
+                part-differs _ _ _ _ _ _ _ (parts .inv) (if4 .left) _ _ (part .ensures) (part2 .ensures) (if5 .taken)
+            | inr (inl (if2, differ, if3)) ↦ heads-differ _ _ _ _ (differ .ensures) (if3 .left)
+            | inr (inr if2) ↦ key-differs _ _ _ _ _ (own .key) key (if2 .left)
           ]) (next .wide4 .ensures .0),
     )
 
@@ -151,7 +138,7 @@ returns-2 c =
     let hunt = at-rows .rows .inv .1 in
     let within = hunt .scan .within in
     first-at _ _ _ (omega (arith, within, else1 .if1 .left)) (hunt .scan .passed)
-    (same-alike _ _ _ _ _ _ _ (at-parts .parts .inv) (c .if6 .taken))
+    (same-alike _ _ _ _ _ _ _ (at-parts .parts .inv) (c .if4 .taken))
 
 pub twin-spec : {M : Type 1} → statement M
 twin-spec =
@@ -164,8 +151,6 @@ twin-spec =
     (λ c κs. search needs)  -- wide-requires
     (λ c. search needs)  -- mul-key
     (λ c. omega arith)  -- element-copy-out-key
-    (λ c κs. search needs)  -- row-kind-requires
-    (λ c κs. search needs)  -- row-tag-requires
     (λ c κs. search needs)  -- row-first-requires
     (λ c κs. search needs)  -- row-count-requires
     (λ c κs. search needs)  -- wide-requires-2
@@ -175,9 +160,7 @@ twin-spec =
     (λ c κs. search needs)  -- wide-requires-3
     (λ c. search needs)  -- mul-if2
     (λ c. omega arith)  -- element-copy-out-if2
-    (λ c κs. (search needs, omega arith))  -- row-kind-requires-2
-    (λ c κs. (search needs, omega arith))  -- row-tag-requires-2
-    (λ c κs. (search needs, omega arith))  -- row-count-requires-2
+    (λ c κs. (search needs, search needs, omega arith))  -- heads-differ-requires
     (λ c κs. (search needs, omega arith))  -- row-first-requires-2
     parts-holds
     pooled-requires

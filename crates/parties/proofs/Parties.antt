@@ -13,7 +13,7 @@ use Rattle.book.specs.Rules.{differs, listBreaks, nameBreaks, partyBreaks}
 use Rattle.book.specs.Rules.Laws.{differs-same, differs-true, list-exact, party-exact}
 use Rattle.rows.specs.Scanned.{Summed}
 use Rattle.rows.specs.Scanned.Laws.{summed-begins, summed-goes}
-use Rattle.rows.specs.Tests.{one-here, one-on, one-last}
+use Rattle.header.specs.Tests.{one-here, one-on, one-last}
 
 -- ---- nameBreaks, test after test: the name is no row, no atom, an earlier party's
 module _ (b : List ℕ) (p who t : ℕ) (dn : who ≡ name b p) (dt : t ≡ rows b) where

@@ -12,7 +12,7 @@ use Rattle.book.specs.Rules.{listBreaks, stepBreaks}
 use Rattle.book.specs.Rules.Laws.{step-exact}
 use Rattle.rows.specs.Scanned.{Summed}
 use Rattle.rows.specs.Scanned.Laws.{summed-begins, summed-goes}
-use Rattle.rows.specs.Tests.{one-here, one-on, one-last}
+use Rattle.header.specs.Tests.{one-here, one-on, one-last}
 
 -- ---- stepBreaks, test after test: no party sends, none receives, the same one does both, the messages break the rule of a list
 module _ (b : List ℕ) (s from to q q' : ℕ) (df : from ≡ sender b s) (dt : to ≡ receiver b s) where

@@ -18,8 +18,9 @@ use Rattle.book.specs.Headed.Laws.{rules-headed}
 use Rattle.book.specs.Said.{Said, said, accepted}
 use Rattle.book.specs.Refusals.{here, zero-place, firstOf, readingTable, verdict}
 use Rattle.book.specs.Refusals.Laws.{firstOf-none, scan-here, scan-on}
-use Rattle.rows.specs.Scanned.{Counted, RowsKeep}
-use Rattle.rows.specs.Scans.Laws.{passed-none}
+use Rattle.header.specs.Counted.{Counted}
+use Rattle.rows.specs.Scanned.{RowsKeep}
+use Rattle.header.specs.Scans.Laws.{passed-none}
 
 -- what the table says from line i + 1 on
 abbrev from : List ℕ → ℕ → Said

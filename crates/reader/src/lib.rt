@@ -1,6 +1,6 @@
 // The reader of any words. `read` answers the number and place of the first refusal of 1 to 9 that applies, or acceptance, as the
 // ordered table of book/specs/Refusals.antt has it; no index leaves the book and no sum wraps, whatever the words. The places are found in
-// rows, twins and parties.
+// header, rows, twins and parties.
 use book::Layout;
 use book::Reading;
 use book::Refusal;
@@ -8,10 +8,10 @@ use book::parties;
 use book::pool;
 use book::rows;
 use book::steps;
+use header::counts;
+use header::offsets;
 use parties::scan_parties;
 use parties::scan_steps;
-use rows::counts;
-use rows::offsets;
 use rows::oversize;
 use rows::scan_rows;
 use twins::repeated;

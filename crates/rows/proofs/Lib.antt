@@ -1,4 +1,3 @@
-pub mod Header
 pub mod Lists
 pub mod Rows
 pub mod Sizes

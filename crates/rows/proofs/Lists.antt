@@ -10,7 +10,7 @@ use Rattle.words.specs.First.{any}
 use Rattle.book.specs.Layout.{pool, pooled}
 use Rattle.book.specs.Rules.{outside, differs, listBreaks}
 use Rattle.book.specs.Rules.Laws.{outside-in, differs-same, differs-true}
-use Rattle.rows.specs.Tests.{outside-below, outside-above, one-here, one-on, one-last}
+use Rattle.header.specs.Tests.{outside-below, outside-above, one-here, one-on, one-last}
 
 -- ---- listBreaks, test after test: too few, too many, not behind the lists before it, beyond the pool, an entry that is no row below the bound
 module _ (b : List ℕ) (lo hi n f before bound : ℕ) where

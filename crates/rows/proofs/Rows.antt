@@ -15,7 +15,7 @@ use Rattle.book.specs.Rules.{listBreaks, rowBreaks}
 use Rattle.book.specs.Rules.Laws.{row-exact}
 use Rattle.rows.specs.Scanned.{Summed}
 use Rattle.rows.specs.Scanned.Laws.{summed-begins, summed-goes}
-use Rattle.rows.specs.Tests.{one-here, one-on, one-last}
+use Rattle.header.specs.Tests.{one-here, one-on, one-last}
 
 -- ---- rowBreaks, test after test: no such kind, a tag too large, the list of parts
 module _ (b : List ℕ) (r k : ℕ) (d : k ≡ kind b r) where

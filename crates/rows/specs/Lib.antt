@@ -1,4 +1,2 @@
-pub mod Scans
 pub mod Scanned
 pub mod Parts
-pub mod Tests

@@ -1,18 +1,14 @@
--- What the reader has established on its way: bounds after refusal 2, and what a walk over the rows, the parties or the steps knows
--- as it goes and when it stops.
+-- What the reader has established on its way behind the header: what a walk over the rows, the parties or the steps knows as it goes and
+-- when it stops.
 use Prim.Native.Nat.{ℕ, _≤_, _<_}
 use mathlib.Core.Bool.{Bool}
 use mathlib.Core.List.{List}
 use mathlib.Core.Path.{_≡_}
 use Rattle.words.specs.First.{first}
-use Rattle.book.specs.Layout.{sections, most, counted, rows, pool}
+use Rattle.book.specs.Layout.{rows, pool}
 use Rattle.book.specs.Rules.{RowRule}
-use Rattle.rows.specs.Scans.{Scanning}
+use Rattle.header.specs.Scans.{Scanning}
 pub mod Laws
-
--- no section has more records than it may
-abbrev pub Counted : List ℕ → Type 0
-Counted b = (i : ℕ) → i < sections → counted b i ≤ most i
 
 -- a walk over n places has come to `place`: no place before it breaks its rule, and the counts before it are `sum`
 pub record Summed (b : List ℕ) (breaks : ℕ → Bool) (before : ℕ → ℕ) (n place sum : ℕ) : Type 0 where

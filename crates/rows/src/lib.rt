@@ -1,10 +1,8 @@
-// The header and the rows of any words. Of refusals 2 to 5 each has a function that finds the first place that breaks its rule; the rule of a
-// list in the pool is one for rows, parties and steps. No index leaves the book and no sum wraps.
+// The rows of any words behind a header that is in order: of refusals 4 and 5 each has a function that finds the first row that breaks its
+// rule. The rule of a list in the pool is one for rows, parties and steps.
 use book::ByRow;
 use book::Kind;
-use book::Layout;
 use book::Limit;
-use book::Section;
 use book::pool;
 use book::pooled;
 use book::row_count;
@@ -16,61 +14,13 @@ use words::wide;
 ghost use mathlib.Core.Path.{_≡_};
 ghost use Prim.Native.Nat.{ℕ, _+_, _^_, _≤_, _<_};
 ghost use lib.Dec.{leb};
-ghost use lib.ListN.{length, getD};
+ghost use lib.ListN.{getD};
 ghost use Rattle.words.specs.First.{first, any};
 ghost use Rattle.terms.specs.Table.{rowSize};
 ghost use Rattle.book.specs.Headed.{Headed};
-ghost use Rattle.book.specs.Layout.{rows as rowsOf, pool as poolOf, pooled as pooledAt, header, sections, rowsBefore, table};
-ghost use Rattle.book.specs.Rules.{outside as outsideOf, countBreaks, offsetBreaks, listBreaks, rowBreaks, sizeBreaks};
-ghost use Rattle.rows.specs.Scanned.{Counted, Scanned, RowsKeep};
-
-// x is below lo or above hi.
-fn outside(lo: u32, hi: u32, x: u32) -> bool
-    ensures { λ r. ⌜ r ≡ outsideOf lo hi x ⌝ }
-{
-    if x < lo {
-        return true;
-    }
-    hi < x
-}
-
-// Refusal 2: the first section whose count is outside its bounds, or their number.
-pub fn counts(book: &[u32]) -> u32
-    requires { ⌜ header ≤ length (now book) ⌝ }
-    ensures { λ r. ⌜ r ≡ first (countBreaks (now (book .entry))) sections ⌝ }
-{
-    let mut i = 0;
-    while i < Layout::SECTIONS {
-        let section = Section::of(i);
-        if outside(section.least, section.most, book[wide(2 * i)]) {
-            return i;
-        }
-        i += 1;
-    }
-    i
-}
-
-// Refusal 3: the first section that does not begin where it has to, their number if only the length is wrong, or one more. `next` is
-// where section i has to begin.
-pub fn offsets(book: &[u32]) -> u32
-    requires { ⌜ (header ≤ length (now book)) × Counted (now book) ⌝ }
-    ensures { λ r. ⌜ r ≡ first (offsetBreaks (now (book .entry))) (sections + 1) ⌝ }
-{
-    let mut next = Layout::HEADER;
-    let mut i = 0;
-    while i < Layout::SECTIONS {
-        if book[wide(2 * i + 1)] != next {
-            return i;
-        }
-        let section = Section::of(i);
-        next += section.width * book[wide(2 * i)];
-        i += 1;
-    }
-    if book.len() != wide(next) {
-        return i;
-    }
-    i + 1
-}
+ghost use Rattle.book.specs.Layout.{rows as rowsOf, pool as poolOf, pooled as pooledAt, rowsBefore, table};
+ghost use Rattle.book.specs.Rules.{listBreaks, rowBreaks, sizeBreaks};
+ghost use Rattle.rows.specs.Scanned.{Scanned, RowsKeep};
 
 // Some entry of the list is no row below the bound.
 fn entry_breaks(book: &[u32], first: usize, n: usize, bound: u32) -> bool

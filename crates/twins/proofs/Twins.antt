@@ -16,12 +16,12 @@ use Rattle.words.specs.Run.Laws.{run-length, run-getD}
 use Rattle.book.specs.Layout.{begins, rows, kind, tag, rowFirst, rowCount, pooled, parts}
 use Rattle.book.specs.Rules.{differs, Alike, alike, repeats}
 use Rattle.book.specs.Rules.Laws.{none-of, of-none, differs-same, differs-true, differs-false, alike-exact, not-alike}
-use Rattle.rows.specs.Tests.{one-here, one-on, one-last}
+use Rattle.header.specs.Tests.{one-here, one-on, one-last}
 use Rattle.twins.specs.Heads.{headsDiffer}
 use Rattle.twins.specs.Keys.{keyOf, chains, chainOf, NextIn, ChainedFrom}
 use Rattle.twins.specs.Keys.Laws.{next-within, next-passed, next-chained}
-use Rattle.rows.specs.Scans.{Scanning}
-use Rattle.rows.specs.Scans.Laws.{passed-more}
+use Rattle.header.specs.Scans.{Scanning}
+use Rattle.header.specs.Scans.Laws.{passed-more}
 
 -- ---- the parts of a row, as numbers: how many there are, and which
 parts-length : (b : List ℕ) (r : ℕ) → length (parts b r) ≡ rowCount b r

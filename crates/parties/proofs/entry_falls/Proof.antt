@@ -5,9 +5,9 @@ use lib.Dec.{leb}
 use native.Mathlib.Omega.{arith}
 use borrow.Author.Needs.{needs}
 use Rattle.book.specs.Layout.{pooled}
-use Rattle.rows.specs.Scans.{Scanning}
-use Rattle.rows.specs.Scans.Laws.{scan-begins, scan-goes, some-breaks, none-breaks}
-use Rattle.rows.specs.Tests.{leb-yes, leb-no}
+use Rattle.header.specs.Scans.{Scanning}
+use Rattle.header.specs.Scans.Laws.{scan-begins, scan-goes, some-breaks, none-breaks}
+use Rattle.header.specs.Tests.{leb-yes, leb-no}
 use Rattle.parties.proofs.entry_falls.Statement.{statement}
 use Rattle.parties.proofs.entry_falls.Tie as tie
 

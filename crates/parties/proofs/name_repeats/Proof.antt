@@ -4,9 +4,9 @@ use mathlib.Core.Path.{refl}
 use lib.Dec.{eqb}
 use borrow.Author.Needs.{needs}
 use Rattle.book.specs.Layout.{name}
-use Rattle.rows.specs.Scans.{Scanning}
-use Rattle.rows.specs.Scans.Laws.{scan-begins, scan-goes, some-breaks, none-breaks}
-use Rattle.rows.specs.Tests.{eqb-yes, eqb-no}
+use Rattle.header.specs.Scans.{Scanning}
+use Rattle.header.specs.Scans.Laws.{scan-begins, scan-goes, some-breaks, none-breaks}
+use Rattle.header.specs.Tests.{eqb-yes, eqb-no}
 use Rattle.parties.proofs.name_repeats.Statement.{statement}
 use Rattle.parties.proofs.name_repeats.Tie as tie
 

@@ -4,9 +4,9 @@ use mathlib.Core.Path.{refl}
 use lib.Dec.{leb}
 use borrow.Author.Needs.{needs}
 use Rattle.book.specs.Layout.{pooled}
-use Rattle.rows.specs.Scans.{Scanning}
-use Rattle.rows.specs.Scans.Laws.{scan-begins, scan-goes, some-breaks, none-breaks}
-use Rattle.rows.specs.Tests.{leb-yes, leb-no}
+use Rattle.header.specs.Scans.{Scanning}
+use Rattle.header.specs.Scans.Laws.{scan-begins, scan-goes, some-breaks, none-breaks}
+use Rattle.header.specs.Tests.{leb-yes, leb-no}
 use Rattle.rows.proofs.entry_breaks.Statement.{statement}
 use Rattle.rows.proofs.entry_breaks.Tie as tie
 

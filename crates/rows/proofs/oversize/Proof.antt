@@ -6,8 +6,8 @@ use native.Mathlib.Omega.{arith}
 use borrow.Author.Needs.{needs}
 use Rattle.words.specs.First.Laws.{first-at}
 use Rattle.book.specs.Rules.{sizeBreaks}
-use Rattle.rows.specs.Scans.{Scanning}
-use Rattle.rows.specs.Scans.Laws.{scan-begins, scan-goes, ends-at}
+use Rattle.header.specs.Scans.{Scanning}
+use Rattle.header.specs.Scans.Laws.{scan-begins, scan-goes, ends-at}
 use Rattle.rows.proofs.Sizes.{size-fits, size-over, size-within, Filled, filled-none, filled-more}
 use Rattle.rows.proofs.oversize.Statement.{statement}
 use Rattle.rows.proofs.oversize.Tie as tie

@@ -6,8 +6,7 @@ use mathlib.Core.Path.{_≡_}
 use native.Mathlib.Omega.{arith}
 use Rattle.book.specs.Layout.{pool}
 use Rattle.book.specs.Rules.{ListRule}
-use Rattle.rows.specs.Scans.{Scanning}
-use Rattle.rows.specs.Scans.Laws.{scan-begins, scan-goes, stops-at, ends-at}
+use Rattle.header.specs.Scans.Laws.{scan-begins, scan-goes, stops-at, ends-at}
 use Rattle.rows.specs.Scanned.{Summed, Scanned}
 
 module _ (b : List ℕ) (breaks : ℕ → Bool) (before : ℕ → ℕ) where

@@ -4,8 +4,8 @@ use native.Mathlib.Omega.{arith}
 use borrow.Author.Needs.{needs}
 use Rattle.book.specs.Rules.{repeats}
 use Rattle.twins.specs.Keys.Laws.{chained-start}
-use Rattle.rows.specs.Scans.{Scanning}
-use Rattle.rows.specs.Scans.Laws.{scan-begins, scan-goes, stops-at, ends-at}
+use Rattle.header.specs.Scans.{Scanning}
+use Rattle.header.specs.Scans.Laws.{scan-begins, scan-goes, stops-at, ends-at}
 use Rattle.twins.proofs.repeated.Statement.{statement}
 use Rattle.twins.proofs.repeated.Tie as tie
 

@@ -1,12 +1,12 @@
--- `rows::offsets` meets its contract: the sections that the loop has passed begin where they have to, and the next has
+-- `header::offsets` meets its contract: the sections that the loop has passed begin where they have to, and the next has
 -- to begin at `next`; no sum wraps, as no book with such counts is longer than the longest. Assumes nothing.
 use Prim.Native.Nat.{_+_, _-_, _*_, _≤_}
 use native.Mathlib.Omega.{arith}
 use borrow.Author.Needs.{needs}
 use Rattle.book.specs.Layout.{sections, longest, at}
-use Rattle.rows.proofs.Header.{Placed, placed-none, begins-wrong, begins-right, next-most, length-wrong, length-right}
-use Rattle.rows.proofs.offsets.Statement.{statement}
-use Rattle.rows.proofs.offsets.Tie as tie
+use Rattle.header.proofs.Header.{Placed, placed-none, begins-wrong, begins-right, next-most, length-wrong, length-right}
+use Rattle.header.proofs.offsets.Statement.{statement}
+use Rattle.header.proofs.offsets.Tie as tie
 
 abbrev Inv-loop : tie.InvT-loop
 Inv-loop book next₀ i₀ next i = Placed book i next

@@ -1,4 +1,4 @@
--- `rows::counts` meets its contract: no section that the loop has passed has a count outside its bounds.
+-- `header::counts` meets its contract: no section that the loop has passed has a count outside its bounds.
 -- Assumes nothing.
 use Prim.Native.Nat.{_-_}
 use mathlib.Core.Path.{_≡_, refl}
@@ -6,11 +6,11 @@ use native.Mathlib.Omega.{arith}
 use borrow.Author.Needs.{needs}
 use Rattle.book.specs.Layout.{sections}
 use Rattle.book.specs.Rules.{countBreaks}
-use Rattle.rows.proofs.Header.{count-at}
-use Rattle.rows.specs.Scans.{Scanning}
-use Rattle.rows.specs.Scans.Laws.{scan-begins, scan-goes, stops-at, ends-at}
-use Rattle.rows.proofs.counts.Statement.{statement}
-use Rattle.rows.proofs.counts.Tie as tie
+use Rattle.header.proofs.Header.{count-at}
+use Rattle.header.specs.Scans.{Scanning}
+use Rattle.header.specs.Scans.Laws.{scan-begins, scan-goes, stops-at, ends-at}
+use Rattle.header.proofs.counts.Statement.{statement}
+use Rattle.header.proofs.counts.Tie as tie
 
 abbrev Inv-loop : tie.InvT-loop
 Inv-loop book i₀ i = Scanning (countBreaks book) sections i

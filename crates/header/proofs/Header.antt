@@ -15,9 +15,9 @@ use Rattle.book.specs.Layout.{at, header, sections, longest, begins, offset}
 use Rattle.book.specs.Rules.{outside, countBreaks, stated, offsetBreaks}
 use Rattle.book.specs.Rules.Laws.{differs-same, differs-true}
 use Rattle.book.specs.Headed.Laws.{offset-more, offset-most}
-use Rattle.rows.specs.Scanned.{Counted}
-use Rattle.rows.specs.Scans.{Passed}
-use Rattle.rows.specs.Scans.Laws.{passed-none, passed-more}
+use Rattle.header.specs.Counted.{Counted}
+use Rattle.header.specs.Scans.{Passed}
+use Rattle.header.specs.Scans.Laws.{passed-none, passed-more}
 
 -- ---- countBreaks: v is what `outside` says of the count of section i, which stands at w
 pub count-at : (b : List ℕ) (i w : ℕ) (s : Section) (v : Bool) → OfSection i s → w ≡ 2 * i → v ≡ outside (s .least) (s .most) (at b w)

@@ -6,7 +6,7 @@ use native.Mathlib.Omega.{arith}
 use borrow.Author.Count.{below-none, below-more}
 use Rattle.words.specs.First.{first, any}
 use Rattle.words.specs.First.Laws.{any-at, any-none, first-at, first-end}
-use Rattle.rows.specs.Scans.{Passed, Scanning}
+use Rattle.header.specs.Scans.{Passed, Scanning}
 
 module _ (t : ℕ → Bool) where
   -- ---- Passed

@@ -1,0 +1,3 @@
+pub mod Scans
+pub mod Counted
+pub mod Tests

@@ -1,7 +1,7 @@
 -- An output that went through words between: what came of it on bytes. Assumes nothing.
 use Prim.Native.Nat.{ℕ, _+_, _/_, _≤_, min}
 use mathlib.Core.List.{List, [], _∷_}
-use mathlib.Core.Path.{_≡_, refl, sym, ap, ap₂, _∙_}
+use mathlib.Core.Path.{_≡_, sym, ap, ap₂, _∙_}
 use native.Mathlib.Omega.{arith}
 use native.Mathlib.Decide.{ℕ-discrete}
 use lib.ListN.{length, getD, take, drop}

@@ -1,6 +1,6 @@
-// Rehearsals and summaries into bytes, low byte first, through words between: there are as many of these as the output has room for, or can have.
-// `rehearse_words` and `summarize_words` answer as the faces on words do, and leave the same words as bytes; `ask_words` asks the words that
-// the bytes of a summary make.
+// Rehearsals and summaries into bytes, low byte first, through words between, of which there are as many as the output has room for, or as it
+// can have. `rehearse_words` and `summarize_words` answer as the faces on words do, and leave the same words as bytes; `ask_words` asks the
+// words that the bytes of a summary make.
 use octets::put_words;
 use octets::word_at;
 use summary::Found;

@@ -1,5 +1,5 @@
-// The listing written as bytes, low byte first, with no listing of words between: each step's words go through a buffer that has room for any
-// step's. `translate_words` answers as `translator::translate` does, and leaves the same words as bytes.
+// The listing written as bytes, low byte first, with no listing of words between: each step's words go through a buffer that has room for
+// any step's. `translate_words` answers as `translator::translate` does, and leaves the same words as bytes.
 use book::ByRow;
 use book::Code;
 use book::Triple;

@@ -1,7 +1,7 @@
 -- Laws of judging on bytes: it is judging on the words that they make, refusal 1 before all else; so much of a book is enough; and the
 -- verdict fits one number and is read back from it. Assumes nothing.
-use Prim.Native.Nat.{ℕ, _+_, _≤_, _<_}
-use mathlib.Core.Bool.{Bool, true, false, _||_}
+use Prim.Native.Nat.{ℕ, _<_}
+use mathlib.Core.Bool.{Bool, true, false}
 use mathlib.Core.List.{List, [], _∷_}
 use mathlib.Core.Logic.{_⊎_, inl, inr, ⊎-elim}
 use mathlib.Core.Path.{_≡_, refl, sym, ap, ap₂, _∙_}
@@ -29,7 +29,7 @@ use Rattle.packing.specs.Packed.{pack, unpackVerdict, Small, Packs}
 use Rattle.packing.specs.Packed.Laws.{small-packs, verdict-told, verdict-placed}
 use Rattle.editor.specs.Bytes.{judgedBytes}
 use Rattle.editor.specs.Bytes.Fits.{acceptance-small}
-use Rattle.editor.specs.Bytes.Laws.{Misfit, misfit}
+use Rattle.editor.specs.Bytes.Laws.{misfit}
 
 -- ---- bytes that make whole words, and others
 module _ (bs : List ℕ) (p : ℕ) (ls : List ℕ) where

@@ -12,7 +12,7 @@ use Rattle.octets.specs.Octets.{wordsIn, uneven}
 use Rattle.typing.specs.Apart.{keepsApart}
 use Rattle.typing.specs.Derivation.{Verdict, verdict, Right}
 use Rattle.typing.specs.Derivation.Laws.{verdict-right}
-use Rattle.book.specs.Said.{Said, said}
+use Rattle.book.specs.Said.{said}
 use Rattle.translation.specs.Outcome.{Outcome}
 use Rattle.examining.specs.Checked.{verdictSaid, odd, short, checkedBytes, apartIn, apartBytes}
 use Rattle.examining.specs.Checked.Laws.{checked-by, apart-odd, apart-short, apart-enough}

@@ -1,6 +1,6 @@
 //! Nghiralum's second implementation, written from the papers alone, on terms: reader, translator, rehearsal, summaries
-//! and judge, random books, the narration's text format, and what the gate asks for. It shares nothing with the proved
-//! code, so that each tests the other.
+//! and judge, random books, and what the gate asks for. It shares nothing with the proved code, so that each tests the
+//! other; with the workbench it shares the narrations' text format, the package `narration`.
 
 pub mod bench;
 pub mod book;

@@ -1,7 +1,7 @@
 //! The plain machine over terms in which the programs are played (document 01, "The rehearsal"): who has done which
 //! events, what was sent, what is bound. The rehearsal moves by it, and the tests of demand 3 look at all its states.
 
-use crate::book::Book;
+use crate::book::{Book, Terms};
 use crate::term::Term;
 use crate::translate::{Event, Image, Program};
 use std::collections::{BTreeMap, BTreeSet};

@@ -2,7 +2,7 @@
 //! nothing and its sources: how each party knows each row, one program per party (refusals 10, 13 and 12), the listing's
 //! words, and the line that the small program prints.
 
-use crate::book::{self, Book, Refusal, Step, Stop, Unmade, READ};
+use crate::book::{self, Book, Refusal, Step, Stop, Terms, Unmade, READ};
 use crate::term::{Form, Shared, SharedMap, SharedSet};
 use crate::words;
 

@@ -4,7 +4,7 @@
 mod common;
 
 use common::{book, parties, row, step};
-use host::book::{Book, Row, Step};
+use host::book::{Book, Row, Step, Terms};
 use host::machine::Machine;
 use host::random::{self, Random};
 use host::term::Term;

@@ -1,6 +1,6 @@
 //! What the random books have in them: every refusal, long listings, and all kinds of events.
 
-use host::book::{self, Book, Layout, COUNTS, HEADER, MARK, OFFSETS};
+use host::book::{self, Book, Layout, Terms, COUNTS, HEADER, MARK, OFFSETS};
 use host::compare;
 use host::random;
 use host::term::Form;

@@ -4,7 +4,7 @@
 mod common;
 
 use common::{atoms, book, making_nothing, parties, party, row, step};
-use host::book::{read, Book, Layout, Refusal, Row, Step, HEADER, MARK};
+use host::book::{read, Book, Layout, Refusal, Row, Step, Terms, HEADER, MARK};
 use host::rehearse::rehearse;
 use host::translate::translate;
 

@@ -4,7 +4,7 @@
 mod common;
 
 use common::making_nothing;
-use host::book::{Book, Refusal};
+use host::book::{Book, Refusal, Terms};
 use host::random;
 use host::term::Term;
 use host::translate::{programs, Event, Image, Program, Translation};

@@ -4,7 +4,7 @@
 mod common;
 
 use common::{atoms, book, party, printed, row, step, top, Folder, EXAMPLE_1, SMALLEST};
-use host::book::{read, Book, Refusal};
+use host::book::{read, Book, Refusal, Terms};
 use host::machine::Machine;
 use host::random;
 use host::show::show;

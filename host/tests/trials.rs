@@ -4,7 +4,7 @@
 mod common;
 
 use common::{atom, atoms, book, making_nothing, party, row, step, EXAMPLE_1, LISTING_1, SMALLEST};
-use host::book::{read, Book, Layout, Party, Refusal, Row, Step, LONGEST, MARK, READ};
+use host::book::{read, Book, Layout, Party, Refusal, Row, Step, Terms, LONGEST, MARK, READ};
 use host::translate::{print, translate};
 use host::words::{self, to_bytes};
 

@@ -1,28 +1,19 @@
 //! The rows of a book as they stand in a narration, and images with placeholders among them. Names are made up so that
 //! the text reads back as the very same book.
 
-use crate::book::{self, Book, Row};
+use crate::book::Book;
 use crate::translate::Image;
+use ::narration::Names;
 
 pub struct Texts {
     rows: Vec<String>,
 }
 
 impl Texts {
-    /// A party's name is a letter from A on, any other atom n and its row, an operation op and its tag:
-    /// whatever the book, no two of these agree, and none is a placeholder's x and number.
     pub fn of(book: &Book) -> Texts {
-        let mut rows: Vec<String> = Vec::with_capacity(book.rows.len());
-        for (number, row) in book.rows.iter().enumerate() {
-            let party = book.parties.iter().position(|party| party.name as usize == number);
-            let text = match (row.kind, party) {
-                (book::ATOM, Some(party)) => char::from(b'A' + party as u8).to_string(),
-                (book::ATOM, None) => format!("n{number}"),
-                _ => over_parts(row, &book.rows, &rows),
-            };
-            rows.push(text);
+        Texts {
+            rows: Names::made_up(book).texts(book),
         }
-        Texts { rows }
     }
 
     pub fn row(&self, row: u32) -> &str {
@@ -103,24 +94,4 @@ fn push_list<'a>(images: &'a [Image], pieces: &mut Vec<Piece<'a>>) {
 
 pub fn placeholder(number: u32) -> String {
     format!("x{number}")
-}
-
-/// The text of a row from its parts' texts. A half's sign would go to a cipher's key, so a cipher under
-/// a half stands in parentheses; nothing else needs them.
-fn over_parts(row: &Row, rows: &[Row], texts: &[String]) -> String {
-    let list = |parts: &[u32]| {
-        let texts: Vec<&str> = parts.iter().map(|part| &texts[*part as usize][..]).collect();
-        texts.join(", ")
-    };
-    let part = row.parts.first().map_or(0, |part| *part as usize);
-    let half = |sign: char| match rows[part].kind {
-        book::CIPHER => format!("({}){sign}", texts[part]),
-        _ => format!("{}{sign}", texts[part]),
-    };
-    match row.kind {
-        book::OPERATION => format!("op{}({})", row.tag, list(&row.parts)),
-        book::CIPHER => format!("{{{}}}{}", list(&row.parts[1..]), texts[part]),
-        book::PUBLIC => half('+'),
-        _ => half('-'),
-    }
 }

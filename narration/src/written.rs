@@ -72,9 +72,9 @@ pub fn term<'a>(tokens: &mut Tokens<'a>, terms: &mut Vec<Written<'a>>) -> Result
             Token::Name(name) => {
                 tokens.skip();
                 if !tokens.take(Token::Sign('(')) {
-                    ready = Some(add(terms, Form::Atom(name), spot));
+                    ready = Some(add(terms, Form::Atom(name), tokens.since(spot)));
                 } else if tokens.take(Token::Sign(')')) {
-                    ready = Some(add(terms, Form::Operation(name, Vec::new()), spot));
+                    ready = Some(add(terms, Form::Operation(name, Vec::new()), tokens.since(spot)));
                 } else {
                     around.push(Around::Operation(name, spot, Vec::new()));
                 }
@@ -98,9 +98,9 @@ pub fn term<'a>(tokens: &mut Tokens<'a>, terms: &mut Vec<Written<'a>>) -> Result
             loop {
                 let spot = terms[term].spot;
                 if tokens.take(Token::Sign('+')) {
-                    term = add(terms, Form::Public(term), spot);
+                    term = add(terms, Form::Public(term), tokens.since(spot));
                 } else if tokens.take(Token::Sign('-')) {
-                    term = add(terms, Form::Private(term), spot);
+                    term = add(terms, Form::Private(term), tokens.since(spot));
                 } else {
                     break;
                 }
@@ -113,7 +113,7 @@ pub fn term<'a>(tokens: &mut Tokens<'a>, terms: &mut Vec<Written<'a>>) -> Result
                         no_more_than(limits::LIST, "arguments", &arguments, tokens)?;
                         around.push(Around::Operation(name, spot, arguments));
                     } else if tokens.take(Token::Sign(')')) {
-                        ready = Some(add(terms, Form::Operation(name, arguments), spot));
+                        ready = Some(add(terms, Form::Operation(name, arguments), tokens.since(spot)));
                     } else {
                         return Err(unexpected(tokens, "`,` or `)`"));
                     }
@@ -130,7 +130,7 @@ pub fn term<'a>(tokens: &mut Tokens<'a>, terms: &mut Vec<Written<'a>>) -> Result
                     }
                 }
                 Some(Around::Key(spot, contents)) => {
-                    ready = Some(add(terms, Form::Cipher { key: term, contents }, spot));
+                    ready = Some(add(terms, Form::Cipher { key: term, contents }, tokens.since(spot)));
                 }
                 Some(Around::Parentheses) => {
                     if !tokens.take(Token::Sign(')')) {

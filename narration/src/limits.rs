@@ -1,7 +1,7 @@
 //! The bounds of a book as far as a text can break them, those of lists as lengths.
 //! Each is the book's own (`book.rs`); what a text can't break has none here.
 
-use crate::book;
+use super::book;
 
 pub const ROWS: usize = book::MOST_ROWS as usize;
 pub const PARTIES: usize = book::MOST_PARTIES as usize;

@@ -1,7 +1,7 @@
 //! The tags of operation names. A tag depends on the names of the whole text, so they are given out before any term
 //! gets its row.
 
-use crate::book::MOST_TAG;
+use super::book::MOST_TAG;
 use std::collections::{HashMap, HashSet};
 
 /// `opN` has the tag N. Every other name gets, in the order of first appearance, the smallest tag that
@@ -28,6 +28,12 @@ impl<'a> Tags<'a> {
             next += 1;
         }
         Tags { given }
+    }
+
+    /// The name that has the tag, as it stands in the text.
+    pub fn name(&self, tag: u32) -> String {
+        let given = self.given.iter().find(|(_, own)| **own == tag);
+        given.map_or_else(|| format!("op{tag}"), |(name, _)| name.to_string())
     }
 
     pub fn tag(&self, name: &str) -> u32 {

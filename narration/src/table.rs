@@ -1,11 +1,12 @@
 //! The table while it is filled: each term gets a row when it first appears, its parts before it, and equal terms get
 //! the same row. The limits of rows, sizes and pool are tested on the way.
 
+use super::book::{own_size, Row, ATOM, CIPHER, OPERATION, PRIVATE, PUBLIC};
 use super::limits;
 use super::mistake::{mistake, Mistake, Spot};
+use super::names::Names;
 use super::tags::Tags;
 use super::written::{Form, Written};
-use crate::book::{own_size, Row, ATOM, CIPHER, OPERATION, PRIVATE, PUBLIC};
 use std::collections::{HashMap, HashSet};
 
 pub struct Table<'a> {
@@ -18,6 +19,8 @@ pub struct Table<'a> {
     atoms: HashMap<&'a str, u32>,
     /// The rows that are no atoms, by kind, tag and parts: equal terms get equal rows.
     others: HashMap<(u32, u32, Vec<u32>), u32>,
+    /// The row of each written term, in the order in which they were entered.
+    places: Vec<(u32, Spot)>,
 }
 
 impl<'a> Table<'a> {
@@ -30,11 +33,19 @@ impl<'a> Table<'a> {
             pool: 0,
             atoms: HashMap::new(),
             others: HashMap::new(),
+            places: Vec::new(),
         }
     }
 
-    pub fn rows(self) -> Vec<Row> {
-        self.rows
+    /// The rows, what the atoms and the operations among them are called, and where each stands.
+    pub fn end(self) -> (Vec<Row>, Names, Vec<(u32, Spot)>) {
+        let mut atoms = vec![None; self.rows.len()];
+        for (name, row) in self.atoms {
+            atoms[row as usize] = Some(name.to_string());
+        }
+        let operations = self.rows.iter().filter(|row| row.kind == OPERATION);
+        let operations = operations.map(|row| (row.tag, self.tags.name(row.tag))).collect();
+        (self.rows, Names { atoms, operations }, self.places)
     }
 
     pub fn atom(&mut self, name: &'a str, spot: Spot) -> Result<u32, Mistake> {
@@ -65,6 +76,7 @@ impl<'a> Table<'a> {
             }
             let (term, parts) = begun.pop().expect("seen just above");
             let row = self.written(&terms[term], parts)?;
+            self.places.push((row, terms[term].spot));
             match begun.last_mut() {
                 Some((_, parts)) => parts.push(row),
                 None => return Ok(row),

@@ -14,6 +14,8 @@ pub struct Lines<'a> {
     pub parties: Vec<PartyLine<'a>>,
     pub steps: Vec<StepLine<'a>>,
     pub end: Spot,
+    /// Of each line that can't be read, its first.
+    pub mistakes: Vec<Mistake>,
 }
 
 pub struct PartyLine<'a> {
@@ -29,24 +31,31 @@ pub struct StepLine<'a> {
     pub messages: Vec<usize>,
 }
 
-pub fn read(text: &str) -> Result<Lines<'_>, Mistake> {
+pub fn read(text: &str) -> Lines<'_> {
     let mut lines = Lines {
         terms: Vec::new(),
         operations: Vec::new(),
         rows: Vec::new(),
         parties: Vec::new(),
         steps: Vec::new(),
-        end: Spot { line: 1, column: 1 },
+        end: Spot {
+            line: 1,
+            column: 1,
+            length: 1,
+        },
+        mistakes: Vec::new(),
     };
-    for (number, line) in text.split('\n').enumerate() {
+    for (number, line) in crate::lines(text).into_iter().enumerate() {
         lines.end = Spot {
             line: number + 1,
             column: line.chars().count() + 1,
+            length: 1,
         };
-        read_line(&mut Tokens::of(line, number + 1), &mut lines)?;
+        let read = read_line(&mut Tokens::of(line, number + 1), &mut lines);
+        lines.mistakes.extend(read.err());
     }
     lines.operations = operations(&lines.terms);
-    Ok(lines)
+    lines
 }
 
 /// No word is reserved: a line whose second token is `->` is a step, whatever its first one is.

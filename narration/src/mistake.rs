@@ -1,5 +1,4 @@
 //! A mistake in a text: where it stands, what was expected there and what was found.
-//! The first one ends the reading.
 
 use std::fmt;
 
@@ -9,6 +8,8 @@ pub struct Mistake {
     pub line: usize,
     /// Counted from 1, in characters.
     pub column: usize,
+    /// How many characters it goes over, at least one.
+    pub length: usize,
     /// "expected .., found .."
     pub message: String,
 }
@@ -19,17 +20,19 @@ impl fmt::Display for Mistake {
     }
 }
 
-/// Where something stands in a text.
-#[derive(Clone, Copy, PartialEq, Eq, Debug)]
+/// Where something stands in a text: its line and column, counted from 1, and how many characters it goes over.
+#[derive(Clone, Copy, PartialEq, Eq, PartialOrd, Ord, Debug)]
 pub struct Spot {
     pub line: usize,
     pub column: usize,
+    pub length: usize,
 }
 
 pub fn mistake(spot: Spot, expected: &str, found: &str) -> Mistake {
     Mistake {
         line: spot.line,
         column: spot.column,
+        length: spot.length.max(1),
         message: format!("expected {expected}, found {found}"),
     }
 }

@@ -35,13 +35,17 @@ impl<'a> Tokens<'a> {
     /// `line` is the line's number. A comment and the blanks before it are no tokens.
     pub fn of(text: &'a str, line: usize) -> Tokens<'a> {
         let mut list = Vec::new();
-        let mut end = Spot { line, column: 1 };
+        let mut end = Spot {
+            line,
+            column: 1,
+            length: 1,
+        };
         let mut column = 1;
         let mut rest = text;
         while let Some(first) = rest.chars().next() {
             let (token, bytes) = match first {
                 '#' => break,
-                ' ' | '\t' | '\r' => (None, 1),
+                ' ' | '\t' => (None, 1),
                 '-' if rest[1..].starts_with('>') => (Some(Token::Arrow), 2),
                 _ if of_a_name(first) => {
                     let bytes = rest.find(|c| !of_a_name(c)).unwrap_or(rest.len());
@@ -49,12 +53,17 @@ impl<'a> Tokens<'a> {
                 }
                 _ => (Some(Token::Sign(first)), first.len_utf8()),
             };
-            let spot = Spot { line, column };
-            column += rest[..bytes].chars().count();
+            let length = rest[..bytes].chars().count();
+            let spot = Spot { line, column, length };
+            column += length;
             rest = &rest[bytes..];
             if let Some(token) = token {
                 list.push((token, spot));
-                end = Spot { line, column };
+                end = Spot {
+                    line,
+                    column,
+                    length: 1,
+                };
             }
         }
         Tokens { list, end, next: 0 }
@@ -74,6 +83,16 @@ impl<'a> Tokens<'a> {
         self.list.get(self.next).map_or(self.end, |(_, spot)| *spot)
     }
 
+    /// From a spot to where the last token that was passed ends.
+    pub fn since(&self, from: Spot) -> Spot {
+        let last = self.next.checked_sub(1).and_then(|last| self.list.get(last));
+        let end = last.map_or(from.column, |(_, spot)| spot.column + spot.length);
+        Spot {
+            length: end.saturating_sub(from.column).max(1),
+            ..from
+        }
+    }
+
     pub fn skip(&mut self) {
         self.next += 1;
     }
@@ -88,6 +107,7 @@ impl<'a> Tokens<'a> {
     }
 }
 
-fn of_a_name(c: char) -> bool {
-    c.is_ascii_alphanumeric() || c == '_' || c == '\''
+/// Letters and digits of any script.
+pub fn of_a_name(c: char) -> bool {
+    c.is_alphanumeric() || c == '_' || c == '\''
 }

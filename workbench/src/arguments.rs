@@ -1,0 +1,164 @@
+//! The command line: a command, its files and its options. Paths need not be UTF-8.
+
+use crate::failure::Failure;
+use std::collections::BTreeMap;
+use std::ffi::{OsStr, OsString};
+
+/// A command as it can be written.
+pub struct Command {
+    pub name: &'static str,
+    /// What stands behind the name, as the help has it.
+    pub takes: &'static str,
+    /// What it does, in a line.
+    pub does: &'static str,
+    /// The fewest and the most things besides options.
+    pub places: (usize, usize),
+    /// The options that have a value, with what it is called, and those that have none.
+    pub options: &'static [(&'static str, Option<&'static str>)],
+}
+
+/// A command as it was written.
+#[derive(Debug)]
+pub struct Call {
+    pub places: Vec<OsString>,
+    options: BTreeMap<&'static str, Vec<OsString>>,
+}
+
+impl Call {
+    /// Reads what stands behind a command's name. `--` ends the options, and `-` alone is standard input.
+    pub fn of(command: &'static Command, arguments: &[OsString]) -> Result<Call, Failure> {
+        let wrong = |message: String| {
+            let how = format!("nghi {} {}", command.name, command.takes);
+            Failure::command_line(format!("{message}\nuse: {}", how.trim_end()))
+        };
+        let mut call = Call {
+            places: Vec::new(),
+            options: BTreeMap::new(),
+        };
+        let mut rest = arguments.iter();
+        let mut ended = false;
+        while let Some(argument) = rest.next() {
+            let text = argument.to_string_lossy();
+            if ended || text == "-" || !text.starts_with('-') {
+                call.places.push(argument.clone());
+                continue;
+            }
+            if text == "--" {
+                ended = true;
+                continue;
+            }
+            let (name, joined) = match text.split_once('=') {
+                Some((name, value)) => (name, Some(OsString::from(value))),
+                None => (&text[..], None),
+            };
+            let known = command.options.iter().find(|(own, _)| *own == name);
+            let Some((name, value)) = known else {
+                return Err(wrong(format!(
+                    "`{name}` is no option of `nghi {}`{}",
+                    command.name,
+                    near(name, command)
+                )));
+            };
+            let given = match (value, joined) {
+                (None, None) => OsString::new(),
+                (None, Some(_)) => return Err(wrong(format!("`{name}` has no value"))),
+                (Some(_), Some(value)) => value,
+                (Some(what), None) => match rest.next() {
+                    Some(value) => value.clone(),
+                    None => return Err(wrong(format!("`{name}` needs a value, {what}"))),
+                },
+            };
+            call.options.entry(name).or_default().push(given);
+        }
+        let (least, most) = command.places;
+        if call.places.len() < least || call.places.len() > most {
+            let found = call.places.len();
+            let asked = match least == most {
+                true => least.to_string(),
+                false if most == usize::MAX => format!("at least {least}"),
+                false => format!("{least} to {most}"),
+            };
+            return Err(wrong(format!(
+                "{asked} asked for besides options, and there are {found}"
+            )));
+        }
+        Ok(call)
+    }
+
+    pub fn has(&self, option: &str) -> bool {
+        self.options.contains_key(option)
+    }
+
+    /// The values of an option, in the order in which they were written.
+    pub fn all(&self, option: &str) -> &[OsString] {
+        self.options.get(option).map_or(&[], Vec::as_slice)
+    }
+
+    /// The last value of an option.
+    pub fn last(&self, option: &str) -> Option<&OsStr> {
+        self.all(option).last().map(OsString::as_os_str)
+    }
+
+    /// The last value as text.
+    pub fn text(&self, option: &str) -> Result<Option<String>, Failure> {
+        let text = |value: &OsStr| {
+            let text = value.to_str().map(str::to_string);
+            text.ok_or_else(|| Failure::command_line(format!("the value of `{option}` is no text")))
+        };
+        self.last(option).map(text).transpose()
+    }
+}
+
+/// The option that was perhaps meant.
+fn near(name: &str, command: &Command) -> String {
+    let alike = command.options.iter().find(|(own, _)| distance(own, name) <= 2);
+    alike.map_or_else(String::new, |(own, _)| format!("; is `{own}` meant?"))
+}
+
+/// How many letters have to be put in, left out or changed.
+pub fn distance(one: &str, other: &str) -> usize {
+    let other: Vec<char> = other.chars().collect();
+    let mut row: Vec<usize> = (0..=other.len()).collect();
+    for (i, own) in one.chars().enumerate() {
+        let mut left = row[0];
+        row[0] = i + 1;
+        for (j, sign) in other.iter().enumerate() {
+            let change = left + usize::from(own != *sign);
+            left = row[j + 1];
+            row[j + 1] = change.min(row[j] + 1).min(left + 1);
+        }
+    }
+    row[other.len()]
+}
+
+#[cfg(test)]
+mod tests {
+    use super::*;
+
+    static CHECK: Command = Command {
+        name: "check",
+        takes: "FILE..",
+        does: "",
+        places: (1, usize::MAX),
+        options: &[("--deny", Some("W1 to W5")), ("--json", None)],
+    };
+
+    fn call(arguments: &[&str]) -> Result<Call, String> {
+        let arguments: Vec<OsString> = arguments.iter().map(OsString::from).collect();
+        Call::of(&CHECK, &arguments).map_err(|failure| failure.message)
+    }
+
+    #[test]
+    fn calls() {
+        let read = call(&["a", "--deny", "W1", "-", "--deny=W2", "--json", "--", "--b"]).unwrap();
+        assert_eq!(read.places, ["a", "-", "--b"]);
+        assert_eq!(read.all("--deny"), ["W1", "W2"]);
+        assert!(read.has("--json") && !read.has("--other"));
+        assert!(call(&[]).unwrap_err().contains("at least 1"));
+        assert!(call(&["a", "--jsn"]).unwrap_err().contains("is `--json` meant?"));
+        assert!(call(&["a", "--json=1"]).unwrap_err().contains("has no value"));
+        assert!(call(&["a", "--deny"]).unwrap_err().contains("W1 to W5"));
+        assert_eq!(distance("check", "chekc"), 2);
+        assert_eq!(distance("", "ab"), 2);
+    }
+}

@@ -1,0 +1,74 @@
+//! The commands: each reads its files, asks the proved functions, and answers with a text and a status.
+
+pub mod programs;
+
+use crate::arguments::{distance, Call, Command};
+use crate::failure::Failure;
+use std::ffi::OsString;
+
+/// What a command answers on standard output, and its status.
+#[derive(Clone, PartialEq, Eq, Debug)]
+pub struct Output {
+    pub text: String,
+    pub status: u8,
+}
+
+type Run = fn(&Call) -> Result<Output, Failure>;
+
+/// The commands, in the order of the help.
+static COMMANDS: &[(&Command, Run)] = &[(&programs::COMMAND, programs::run)];
+
+/// Runs a command line.
+pub fn run(arguments: &[OsString]) -> Result<Output, Failure> {
+    let Some((name, rest)) = arguments.split_first() else {
+        return Ok(told(help()));
+    };
+    let name = name.to_string_lossy();
+    match &name[..] {
+        "help" | "--help" | "-h" => return Ok(told(help())),
+        "--version" | "-V" => return Ok(told(format!("nghi {}\n", env!("CARGO_PKG_VERSION")))),
+        _ => (),
+    }
+    let Some((command, run)) = COMMANDS.iter().find(|(command, _)| command.name == name) else {
+        let near = COMMANDS.iter().find(|(command, _)| distance(command.name, &name) <= 2);
+        let near = near.map_or_else(String::new, |(command, _)| format!("; is `{}` meant?", command.name));
+        return Err(Failure::command_line(format!(
+            "`{name}` is no command{near}\nuse: nghi COMMAND FILE.. (`nghi --help` lists the commands)"
+        )));
+    };
+    if rest.iter().any(|argument| argument == "--help" || argument == "-h") {
+        return Ok(told(help_of(command)));
+    }
+    run(&Call::of(command, rest)?)
+}
+
+fn told(text: String) -> Output {
+    Output { text, status: 0 }
+}
+
+fn help() -> String {
+    let mut text = String::from("nghi: what the proved translator says of a handshake, for people\n\n");
+    let line = |command: &Command| format!("nghi {} {}", command.name, command.takes);
+    let width = COMMANDS
+        .iter()
+        .map(|(command, _)| line(command).len())
+        .max()
+        .unwrap_or(0);
+    for (command, _) in COMMANDS {
+        text.push_str(&format!("  {:width$}  {}\n", line(command), command.does));
+    }
+    text.push_str(
+        "\nFILE is a narration, a book, or - for standard input. --json answers for programs.\n\
+         Status: 0 playable, 1 refused or a denied warning, 2 command line, 3 mistake in the text, 4 file, 70 guard.\n",
+    );
+    text
+}
+
+fn help_of(command: &Command) -> String {
+    let mut text = format!("nghi {} {}\n\n  {}\n", command.name, command.takes, command.does);
+    for (option, value) in command.options {
+        let value = value.map_or_else(String::new, |what| format!(" {what}"));
+        text.push_str(&format!("  {option}{value}\n"));
+    }
+    text
+}

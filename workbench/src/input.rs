@@ -1,0 +1,117 @@
+//! What is handed in: a file or standard input, and whether it is a narration or a book. The kind is told by the content.
+
+use crate::failure::Failure;
+use std::ffi::OsStr;
+use std::fs;
+use std::io::{self, Read};
+use std::path::{Path, PathBuf};
+
+/// More than any narration that gives a book, and than any book.
+const MOST: u64 = 16 << 20;
+
+/// Bytes, and what they are called.
+pub struct Input {
+    /// The path as it is shown, or "standard input".
+    pub name: String,
+    /// Nothing for standard input.
+    pub path: Option<PathBuf>,
+    pub bytes: Vec<u8>,
+}
+
+#[derive(Clone, PartialEq, Eq, Debug)]
+pub enum Content {
+    Narration(String),
+    Book,
+    /// Neither; what it seems to be.
+    Other(&'static str),
+}
+
+impl Input {
+    /// Of a path, or of `-`.
+    pub fn read(path: &OsStr) -> Result<Input, Failure> {
+        if path == "-" {
+            let mut bytes = Vec::new();
+            let read = io::stdin().lock().take(MOST).read_to_end(&mut bytes);
+            read.map_err(|error| Failure::file(format!("standard input: {error}")))?;
+            return Ok(Input {
+                name: "standard input".to_string(),
+                path: None,
+                bytes,
+            });
+        }
+        let path = Path::new(path);
+        let name = path.display().to_string();
+        let told = |error: io::Error| Failure::file(format!("{name}: {}", reason(path, &error)));
+        let mut bytes = Vec::new();
+        let file = fs::File::open(path).map_err(told)?;
+        file.take(MOST).read_to_end(&mut bytes).map_err(told)?;
+        Ok(Input {
+            name,
+            path: Some(path.to_path_buf()),
+            bytes,
+        })
+    }
+
+    pub fn content(&self) -> Content {
+        content(&self.bytes)
+    }
+}
+
+/// The reason without the number that the system gives it.
+fn reason(path: &Path, error: &io::Error) -> String {
+    match error.kind() {
+        io::ErrorKind::NotFound => "there is no such file".to_string(),
+        io::ErrorKind::PermissionDenied => "it can't be read: permission is denied".to_string(),
+        _ if path.is_dir() => "it is a folder, and a narration or a book is asked for".to_string(),
+        _ => error.to_string(),
+    }
+}
+
+/// Text is a narration, well written or not. What is no text is a book, right or wrong, unless it is plainly something else.
+fn content(bytes: &[u8]) -> Content {
+    const KINDS: [(&[u8], &str); 9] = [
+        (b"\x89PNG", "a PNG picture"),
+        (b"\xff\xd8\xff", "a JPEG picture"),
+        (b"GIF8", "a GIF picture"),
+        (b"%PDF", "a PDF document"),
+        (b"PK\x03\x04", "a ZIP archive, or a document of an office program"),
+        (b"\x1f\x8b", "a gzip archive"),
+        (b"\x7fELF", "a program"),
+        (b"\xff\xfe", "text in UTF-16; save it as UTF-8"),
+        (b"\xfe\xff", "text in UTF-16; save it as UTF-8"),
+    ];
+    if let Some((_, kind)) = KINDS.iter().find(|(front, _)| bytes.starts_with(front)) {
+        return Content::Other(kind);
+    }
+    match std::str::from_utf8(bytes) {
+        Ok(text) if !text.contains('\0') => Content::Narration(text.to_string()),
+        // A book's header has its rows at word 8.
+        _ if bytes.len() >= 8 && bytes[4..8] == [8, 0, 0, 0] => Content::Book,
+        Err(error) if latin(bytes, error.valid_up_to()) => Content::Other("text that is not UTF-8; save it as UTF-8"),
+        _ => Content::Book,
+    }
+}
+
+/// Whether bytes that are no UTF-8 are text all the same: no zero byte, and mostly what is typed.
+fn latin(bytes: &[u8], valid: usize) -> bool {
+    let typed = bytes
+        .iter()
+        .filter(|byte| matches!(byte, b' '..=b'~' | b'\n' | b'\r' | b'\t'));
+    valid > 0 && !bytes.contains(&0) && typed.count() * 10 > bytes.len() * 8
+}
+
+#[cfg(test)]
+mod tests {
+    use super::*;
+
+    #[test]
+    fn kinds() {
+        let text = |bytes: &[u8]| matches!(content(bytes), Content::Narration(_));
+        assert!(text(b"party A\n") && text(b"") && text("party Ä\n".as_bytes()) && text(b"\xef\xbb\xbfparty A"));
+        assert_eq!(content(&[1, 0, 0, 0, 8, 0, 0, 0]), Content::Book);
+        assert_eq!(content(&[0; 7]), Content::Book);
+        assert_eq!(content(b"\x89PNG\r\n"), Content::Other("a PNG picture"));
+        assert!(matches!(content(b"party M\xfcller knows K\n"), Content::Other(_)));
+        assert!(matches!(content(b"\xff\xfep\0a\0"), Content::Other(_)));
+    }
+}

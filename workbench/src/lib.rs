@@ -1,0 +1,18 @@
+//! The workbench: a narration's text, or a book, and what the proved functions of the package `nghiralum` answer about it,
+//! told so that people can read it.
+//!
+//! Verdicts, programs, counts and knowledge come from the proved functions alone ([`proved`]). What is not proved, from text
+//! to book and from words to text or picture, guards itself ([`guard`]).
+
+pub mod arguments;
+pub mod commands;
+pub mod failure;
+pub mod guard;
+pub mod input;
+pub mod json;
+pub mod listing;
+pub mod playable;
+pub mod proved;
+pub mod report;
+pub mod subject;
+pub mod told;

@@ -1,0 +1,52 @@
+//! What most commands begin with: a file that has to be playable, and the answers about it.
+
+use crate::arguments::Call;
+use crate::commands::Output;
+use crate::failure::{Failure, MISTAKE, REFUSED};
+use crate::input::Input;
+use crate::proved::Answers;
+use crate::report;
+use crate::subject::{open as open_input, Opened, Subject};
+
+pub struct Playable {
+    pub subject: Subject,
+    pub answers: Answers,
+}
+
+/// The command's first file, if it can be played; else what `nghi check` says of it.
+pub fn open(call: &Call) -> Result<Result<Playable, Output>, Failure> {
+    let input = Input::read(&call.places[0])?;
+    let (text, status) = match open_input(&input)? {
+        Opened::Mistaken { lines, mistakes } => (report::mistakes(&input.name, &lines, &mistakes), MISTAKE),
+        Opened::Refused(refusal) => (report::no_book(&input.name, refusal), REFUSED),
+        Opened::Subject(subject) => match Answers::of(&subject)? {
+            Ok(answers) => {
+                return Ok(Ok(Playable {
+                    subject: *subject,
+                    answers,
+                }))
+            }
+            Err(refusal) => (report::unplayable(&subject, refusal), REFUSED),
+        },
+    };
+    Ok(Err(Output { text, status }))
+}
+
+impl Playable {
+    /// The party that was asked for, or all.
+    pub fn parties(&self, asked: Option<String>) -> Result<Vec<u32>, Failure> {
+        let all = 0..self.subject.book.parties.len() as u32;
+        let Some(name) = asked else { return Ok(all.collect()) };
+        match self.subject.number(&name) {
+            Some(party) => Ok(vec![party]),
+            None => {
+                let names: Vec<&str> = all.map(|party| self.subject.party(party)).collect();
+                Err(Failure::command_line(format!(
+                    "{} has no party `{name}`; its parties are {}",
+                    self.subject.name,
+                    names.join(", ")
+                )))
+            }
+        }
+    }
+}

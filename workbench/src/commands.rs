@@ -6,11 +6,31 @@ use crate::arguments::{distance, Call, Command};
 use crate::failure::Failure;
 use std::ffi::OsString;
 
-/// What a command answers on standard output, and its status.
+/// What a command answers, and its status. The answer goes to standard output; where there is none, what is said instead
+/// goes to standard error.
 #[derive(Clone, PartialEq, Eq, Debug)]
 pub struct Output {
     pub text: String,
     pub status: u8,
+    pub error: bool,
+}
+
+impl Output {
+    pub fn answer(text: String, status: u8) -> Output {
+        Output {
+            text,
+            status,
+            error: false,
+        }
+    }
+
+    pub fn error(text: String, status: u8) -> Output {
+        Output {
+            text,
+            status,
+            error: true,
+        }
+    }
 }
 
 type Run = fn(&Call) -> Result<Output, Failure>;
@@ -43,7 +63,7 @@ pub fn run(arguments: &[OsString]) -> Result<Output, Failure> {
 }
 
 fn told(text: String) -> Output {
-    Output { text, status: 0 }
+    Output::answer(text, 0)
 }
 
 fn help() -> String {

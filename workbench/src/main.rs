@@ -21,7 +21,10 @@ fn main() -> ExitCode {
         Ok(Err(_)) => Err(Failure::guard("the command came to grief")),
         Err(error) => Err(Failure::file(format!("no thread for the command: {error}"))),
     };
-    let told = outcome.and_then(|Output { text, status }| say(&text).map(|()| status));
+    let told = outcome.and_then(|Output { text, status, error }| match error {
+        true => Ok(io::stderr().write_all(text.as_bytes()).map_or(status, |()| status)),
+        false => say(&text).map(|()| status),
+    });
     match told {
         Ok(status) => ExitCode::from(status),
         Err(failure) => {

@@ -29,7 +29,7 @@ pub fn open(call: &Call) -> Result<Result<Playable, Output>, Failure> {
             Err(refusal) => (report::unplayable(&subject, refusal), REFUSED),
         },
     };
-    Ok(Err(Output { text, status }))
+    Ok(Err(Output::error(text, status)))
 }
 
 impl Playable {

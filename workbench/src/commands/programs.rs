@@ -30,7 +30,7 @@ pub fn run(call: &Call) -> Result<Output, Failure> {
         true => format!("{}\n", json(&playable, &programs)),
         false => text(&playable, &programs),
     };
-    Ok(Output { text, status: PLAYABLE })
+    Ok(Output::answer(text, PLAYABLE))
 }
 
 /// A party's name, and under it a line an event: where it belongs, what it is.

@@ -14,5 +14,6 @@ pub mod listing;
 pub mod playable;
 pub mod proved;
 pub mod report;
+pub mod run;
 pub mod subject;
 pub mod told;

@@ -35,18 +35,9 @@ pub fn open(call: &Call) -> Result<Result<Playable, Output>, Failure> {
 impl Playable {
     /// The party that was asked for, or all.
     pub fn parties(&self, asked: Option<String>) -> Result<Vec<u32>, Failure> {
-        let all = 0..self.subject.book.parties.len() as u32;
-        let Some(name) = asked else { return Ok(all.collect()) };
-        match self.subject.number(&name) {
-            Some(party) => Ok(vec![party]),
-            None => {
-                let names: Vec<&str> = all.map(|party| self.subject.party(party)).collect();
-                Err(Failure::command_line(format!(
-                    "{} has no party `{name}`; its parties are {}",
-                    self.subject.name,
-                    names.join(", ")
-                )))
-            }
+        match asked {
+            Some(name) => Ok(vec![self.subject.meant(&name)?]),
+            None => Ok((0..self.subject.book.parties.len() as u32).collect()),
         }
     }
 }

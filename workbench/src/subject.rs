@@ -46,6 +46,23 @@ impl Subject {
         parties.into_iter().find(|party| self.party(*party) == name)
     }
 
+    /// The party that is meant: by its name, or by its number where it has none of its own, as in a book.
+    pub fn meant(&self, name: &str) -> Result<u32, Failure> {
+        let parties = 0..self.book.parties.len() as u32;
+        let number = match self.text {
+            None => name.parse().ok().filter(|number| parties.contains(number)),
+            Some(_) => None,
+        };
+        self.number(name).or(number).ok_or_else(|| {
+            let names: Vec<&str> = parties.map(|party| self.party(party)).collect();
+            Failure::command_line(format!(
+                "{} has no party `{name}`; its parties are {}",
+                self.name,
+                names.join(", ")
+            ))
+        })
+    }
+
     pub fn term(&self, row: u32) -> &str {
         &self.terms[row as usize]
     }

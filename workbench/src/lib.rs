@@ -12,6 +12,7 @@ pub mod input;
 pub mod json;
 pub mod listing;
 pub mod playable;
+pub mod progress;
 pub mod proved;
 pub mod report;
 pub mod run;

@@ -5,6 +5,7 @@ use crate::arguments::Call;
 use crate::failure::Failure;
 use crate::guard;
 use crate::listing::{Event, Program};
+use crate::progress::Progress;
 use crate::proved::{rehearse, Answers, MOST_MOVES};
 use crate::subject::Subject;
 
@@ -111,6 +112,7 @@ pub fn run(subject: &Subject, answers: &Answers, order: &Order) -> Result<Run, F
         subject,
         programs: &answers.programs,
         schedule: Vec::new(),
+        progress: Progress::of("moves"),
         run: Run {
             moves: Vec::new(),
             done: asked(subject, &[])?,
@@ -139,6 +141,7 @@ struct Playing<'s> {
     subject: &'s Subject,
     programs: &'s [Program],
     schedule: Vec<u32>,
+    progress: Progress,
     run: Run,
 }
 
@@ -180,6 +183,7 @@ impl Playing<'_> {
             return Ok(false);
         }
         self.schedule.push(party);
+        self.progress.tell(self.schedule.len());
         let (next, done) = (self.next(party), asked(self.subject, &self.schedule)?);
         let event = self.run.done[party as usize] as usize;
         if guard::moved(&self.run.done, &done, party)? != (next == Next::CanMove) {

@@ -1,5 +1,6 @@
 //! The commands: each reads its files, asks the proved functions, and answers with a text and a status.
 
+pub mod knows;
 pub mod play;
 pub mod programs;
 
@@ -37,7 +38,11 @@ impl Output {
 type Run = fn(&Call) -> Result<Output, Failure>;
 
 /// The commands, in the order of the help.
-static COMMANDS: &[(&Command, Run)] = &[(&programs::COMMAND, programs::run), (&play::COMMAND, play::run)];
+static COMMANDS: &[(&Command, Run)] = &[
+    (&programs::COMMAND, programs::run),
+    (&knows::COMMAND, knows::run),
+    (&play::COMMAND, play::run),
+];
 
 /// Runs a command line.
 pub fn run(arguments: &[OsString]) -> Result<Output, Failure> {

@@ -42,7 +42,7 @@ pub fn terms(subject: &Subject) -> Result<(), Failure> {
 }
 
 /// A term as it is printed: its blanks and the parentheses that it doesn't need left out.
-fn plain(written: &str) -> Option<String> {
+pub fn plain(written: &str) -> Option<String> {
     let signs: Vec<char> = written.chars().filter(|sign| !matches!(sign, ' ' | '\t')).collect();
     // A term that begins inside a parenthesis may end behind it.
     let mut at = 0;

@@ -1,0 +1,248 @@
+//! `nghi knows`: which party holds which term, how and since when.
+
+use crate::arguments::{distance, Call, Command};
+use crate::commands::Output;
+use crate::failure::{Failure, PLAYABLE};
+use crate::guard::plain;
+use crate::json::{answer, object, Json};
+use crate::playable::{self, Playable};
+use crate::proved::Source;
+use crate::subject::Subject;
+use crate::told::Names;
+use narration::book::ATOM;
+
+pub static COMMAND: Command = Command {
+    name: "knows",
+    takes: "FILE [--party P] [--at LINE] [--term T] [--json]",
+    does: "who holds what, how and since when; holding is proved, what can be built follows from it",
+    places: (1, 1),
+    options: &[
+        ("--party", Some("a party's name")),
+        ("--at", Some("a line: what is held after its step; of a book, a step")),
+        ("--term", Some("a term, as the narration has it")),
+        ("--json", None),
+    ],
+};
+
+pub fn run(call: &Call) -> Result<Output, Failure> {
+    let playable = match playable::open(call)? {
+        Ok(playable) => playable,
+        Err(output) => return Ok(output),
+    };
+    let subject = &playable.subject;
+    let at = call.text("--at")?.map(|at| after(subject, &at)).transpose()?;
+    let rows = match call.text("--term")? {
+        Some(term) => vec![meant(subject, &term)?],
+        None => (0..subject.terms.len() as u32).collect(),
+    };
+    let after = at.unwrap_or_else(|| (subject.book.steps.len() as u32).checked_sub(1));
+    let parties = playable.parties(call.text("--party")?)?;
+    let columns = parties.iter().map(|party| column(&playable, *party, after)).collect();
+    let table = Table {
+        playable: &playable,
+        parties,
+        columns,
+        rows,
+    };
+    let text = match call.has("--json") {
+        true => format!("{}\n", table.json(after)),
+        false => {
+            let head = at.map_or_else(String::new, |after| table.head(after));
+            format!("{head}{}", table.text())
+        }
+    };
+    Ok(Output::answer(text, PLAYABLE))
+}
+
+/// The step behind which it is asked: that of the line, or the last one before it; nothing is the start.
+fn after(subject: &Subject, at: &str) -> Result<Option<u32>, Failure> {
+    let steps = subject.book.steps.len();
+    let wrong = |message: String| Failure::command_line(format!("`--at {at}`: {message}"));
+    let number: Result<usize, _> = at.parse();
+    match (&subject.text, number) {
+        (Some(text), Ok(line)) if (1..=text.lines.len()).contains(&line) => {
+            let before = (text.narration.steps.iter()).take_while(|step| step.sender.line <= line);
+            Ok((before.count() as u32).checked_sub(1))
+        }
+        (Some(text), _) => Err(wrong(format!(
+            "a line of {} is asked for, 1 to {}",
+            subject.name,
+            text.lines.len()
+        ))),
+        (None, Ok(step)) if step < steps => Ok(Some(step as u32)),
+        (None, _) if steps == 0 => Err(wrong(format!("{} has no steps", subject.name))),
+        (None, _) => Err(wrong(format!(
+            "a step of {} is asked for, 0 to {}",
+            subject.name,
+            steps - 1
+        ))),
+    }
+}
+
+/// The row of a term, however its blanks and parentheses are set.
+fn meant(subject: &Subject, written: &str) -> Result<u32, Failure> {
+    let Some(term) = plain(written) else {
+        let help = "a term is written as in a narration, such as K, f(N), {N, M}K or K+";
+        return Err(Failure::command_line(format!("`{written}` is no term; {help}")));
+    };
+    if let Some(row) = subject.terms.iter().position(|own| *own == term) {
+        return Ok(row as u32);
+    }
+    let near = nearest(&subject.terms, &term);
+    let near = near.map_or_else(String::new, |own| format!("; the nearest is `{own}`"));
+    Err(Failure::command_line(format!(
+        "{} has no term `{term}`{near}",
+        subject.name
+    )))
+}
+
+/// The first of the terms from which the fewest letters differ.
+fn nearest<'t>(terms: &'t [String], term: &str) -> Option<&'t str> {
+    let length = term.chars().count();
+    let mut best: Option<(usize, &str)> = None;
+    for own in terms {
+        // So many letters differ at least. A term of quite another length is not meant, and is not compared.
+        let own_length = own.chars().count();
+        let least = own_length.abs_diff(length);
+        if 2 * least <= own_length.max(length) && best.is_none_or(|(fewest, _)| least < fewest) {
+            let differ = distance(own, term);
+            if best.is_none_or(|(fewest, _)| differ < fewest) {
+                best = Some((differ, own));
+            }
+        }
+    }
+    best.map(|(_, own)| own)
+}
+
+/// How a party has a row.
+#[derive(Clone, Copy, PartialEq, Eq)]
+enum Has {
+    Held(Source),
+    /// It is not held, and all its parts are, or can be built in turn.
+    Buildable,
+    Not,
+}
+
+/// How a party has each row after a step, or at the start.
+fn column(playable: &Playable, party: u32, after: Option<u32>) -> Vec<Has> {
+    let mut column: Vec<Has> = Vec::new();
+    for (number, row) in (0..).zip(&playable.subject.book.rows) {
+        let held = playable.answers.holds(party, number, after);
+        // Parts stand before what they are parts of.
+        let parts = || row.parts.iter().all(|part| column[*part as usize] != Has::Not);
+        let has = match held {
+            true => Has::Held(playable.answers.source(party, number)),
+            false if row.kind != ATOM && parts() => Has::Buildable,
+            false => Has::Not,
+        };
+        column.push(has);
+    }
+    column
+}
+
+/// What is told: rows of the book, and how each party has them.
+struct Table<'p> {
+    playable: &'p Playable,
+    parties: Vec<u32>,
+    columns: Vec<Vec<Has>>,
+    rows: Vec<u32>,
+}
+
+impl Table<'_> {
+    /// When it is that is told of, where that was asked.
+    fn head(&self, after: Option<u32>) -> String {
+        match after {
+            Some(step) => format!("after {}:\n", self.playable.subject.step(step)),
+            None => String::from("at the start:\n"),
+        }
+    }
+
+    /// A column a party, and the term last, as it may be long.
+    fn text(&self) -> String {
+        let subject = &self.playable.subject;
+        let names = Names::of(subject);
+        let column = |(party, column): (&u32, &Vec<Has>)| -> Vec<String> {
+            let cells = self.rows.iter().map(|row| match column[*row as usize] {
+                Has::Held(Source::Given) => String::from("given"),
+                Has::Held(Source::Made { step }) => format!("made at {}", subject.step(step)),
+                Has::Held(Source::Stored { step, placeholder }) => {
+                    let own = names.placeholder(placeholder);
+                    format!("stored at {} as {own}", subject.step(step))
+                }
+                Has::Buildable => String::from("can build"),
+                Has::Held(Source::Not) | Has::Not => String::from("not held"),
+            });
+            let head = subject.party(*party).to_string();
+            std::iter::once(head).chain(cells).collect()
+        };
+        let columns: Vec<Vec<String>> = self.parties.iter().zip(&self.columns).map(column).collect();
+        let widths: Vec<usize> = (columns.iter())
+            .map(|cells| cells.iter().map(|cell| cell.chars().count()).max().unwrap_or(0))
+            .collect();
+        let terms = self.rows.iter().map(|row| subject.term(*row));
+        let mut text = String::new();
+        for (line, term) in std::iter::once("term").chain(terms).enumerate() {
+            for (cells, width) in columns.iter().zip(&widths) {
+                text.push_str(&format!("{:width$}  ", cells[line]));
+            }
+            text.push_str(&format!("{term}\n"));
+        }
+        text
+    }
+
+    fn json(&self, after: Option<u32>) -> Json {
+        let subject = &self.playable.subject;
+        let names = Names::of(subject);
+        let cell = |row: u32, party: u32, has: Has| {
+            let (how, step, placeholder) = match has {
+                Has::Held(Source::Given) => ("given", None, None),
+                Has::Held(Source::Made { step }) => ("made", Some(step), None),
+                Has::Held(Source::Stored { step, placeholder }) => ("stored", Some(step), Some(placeholder)),
+                Has::Buildable => ("can build", None, None),
+                Has::Held(Source::Not) | Has::Not => ("not held", None, None),
+            };
+            object([
+                ("party", subject.party(party).into()),
+                ("held", self.playable.answers.holds(party, row, after).into()),
+                ("how", how.into()),
+                ("step", step.into()),
+                ("line", step.and_then(|step| subject.line(step)).into()),
+                ("as", placeholder.map(|number| names.placeholder(number)).into()),
+            ])
+        };
+        let row = |row: &u32| {
+            let cells = (self.parties.iter().zip(&self.columns))
+                .map(|(party, column)| cell(*row, *party, column[*row as usize]))
+                .collect::<Vec<_>>();
+            object([
+                ("row", (*row).into()),
+                ("term", subject.term(*row).into()),
+                ("parties", cells.into()),
+            ])
+        };
+        answer(
+            "knows",
+            [
+                ("file", subject.name.as_str().into()),
+                ("step", after.into()),
+                ("line", after.and_then(|step| subject.line(step)).into()),
+                ("terms", self.rows.iter().map(row).collect::<Vec<_>>().into()),
+            ],
+        )
+    }
+}
+
+#[cfg(test)]
+mod tests {
+    use super::*;
+
+    #[test]
+    fn nearest_terms() {
+        let terms = ["K", "{N, M}K", "{N}K", "KAB"].map(String::from);
+        assert_eq!(nearest(&terms, "{N, M}L"), Some("{N, M}K"));
+        assert_eq!(nearest(&terms, "KA"), Some("K"));
+        assert_eq!(nearest(&terms, "KBB"), Some("KAB"));
+        assert_eq!(nearest(&terms, "{N, M, KAB, {N, M}K}K"), None);
+        assert_eq!(nearest(&[], "K"), None);
+    }
+}

@@ -1,5 +1,6 @@
 //! The commands: each reads its files, asks the proved functions, and answers with a text and a status.
 
+pub mod judge;
 pub mod knows;
 pub mod play;
 pub mod programs;
@@ -42,6 +43,7 @@ static COMMANDS: &[(&Command, Run)] = &[
     (&programs::COMMAND, programs::run),
     (&knows::COMMAND, knows::run),
     (&play::COMMAND, play::run),
+    (&judge::COMMAND, judge::run),
 ];
 
 /// Runs a command line.

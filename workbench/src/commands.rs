@@ -1,5 +1,6 @@
 //! The commands: each reads its files, asks the proved functions, and answers with a text and a status.
 
+pub mod build;
 pub mod judge;
 pub mod knows;
 pub mod play;
@@ -44,6 +45,7 @@ static COMMANDS: &[(&Command, Run)] = &[
     (&knows::COMMAND, knows::run),
     (&play::COMMAND, play::run),
     (&judge::COMMAND, judge::run),
+    (&build::COMMAND, build::run),
 ];
 
 /// Runs a command line.

@@ -16,5 +16,6 @@ pub mod progress;
 pub mod proved;
 pub mod report;
 pub mod run;
+pub mod store;
 pub mod subject;
 pub mod told;

@@ -1,10 +1,13 @@
 //! The commands: each reads its files, asks the proved functions, and answers with a text and a status.
 
 pub mod build;
+pub mod completions;
 pub mod judge;
 pub mod knows;
+pub mod new;
 pub mod play;
 pub mod programs;
+pub mod watch;
 
 use crate::arguments::{distance, Call, Command};
 use crate::failure::Failure;
@@ -46,6 +49,9 @@ static COMMANDS: &[(&Command, Run)] = &[
     (&play::COMMAND, play::run),
     (&judge::COMMAND, judge::run),
     (&build::COMMAND, build::run),
+    (&watch::COMMAND, watch::run),
+    (&new::COMMAND, new::run),
+    (&completions::COMMAND, completions::run),
 ];
 
 /// Runs a command line.

@@ -16,7 +16,8 @@ pub const REFUSED: u8 = 1;
 const COMMAND_LINE: u8 = 2;
 /// There is a mistake in the text.
 pub const MISTAKE: u8 = 3;
-const FILE: u8 = 4;
+/// A file can't be read or written, or is something else.
+pub const FILE: u8 = 4;
 const GUARD: u8 = 70;
 
 impl Failure {

@@ -1,0 +1,200 @@
+//! `nghi watch`: a file, or the narrations of a folder, checked again on every change.
+
+use crate::arguments::{Call, Command};
+use crate::commands::Output;
+use crate::failure::{Failure, FILE, PLAYABLE};
+use crate::json::{answer, Json};
+use crate::playable;
+use std::collections::BTreeMap;
+use std::ffi::{OsStr, OsString};
+use std::fs;
+use std::io::{self, ErrorKind, Write};
+use std::path::{Path, PathBuf};
+use std::thread::sleep;
+use std::time::{Duration, SystemTime};
+
+pub static COMMAND: Command = Command {
+    name: "watch",
+    takes: "PATH [--once] [--json]",
+    does: "checks a file, or a folder's narrations, again on every change",
+    places: (1, 1),
+    options: &[("--once", None), ("--json", None)],
+};
+
+const EVERY: Duration = Duration::from_millis(200);
+
+/// What tells that a file has changed: when it was written, and how long it is.
+type Stamp = (Option<SystemTime>, u64);
+
+pub fn run(call: &Call) -> Result<Output, Failure> {
+    let path = Path::new(&call.places[0]);
+    if let Err(error) = fs::metadata(path) {
+        let why = match error.kind() {
+            ErrorKind::NotFound => String::from("there is no such file or folder"),
+            _ => error.to_string(),
+        };
+        return Err(Failure::file(format!("{}: {why}", path.display())));
+    }
+    let mut known = BTreeMap::new();
+    let mut worst = PLAYABLE;
+    loop {
+        for told in changes(path, &mut known) {
+            let name = told.path().display().to_string();
+            let (text, status) = match &told {
+                Change::Written(path) => verdict(path),
+                Change::Gone(_) => (format!("{name}: it is gone\n"), FILE),
+            };
+            worst = worst.max(status);
+            let text = match call.has("--json") {
+                true => format!("{}\n", json(&name, &text, status)),
+                false => text,
+            };
+            if !say(&text)? {
+                return Ok(Output::answer(String::new(), worst));
+            }
+        }
+        if call.has("--once") {
+            return Ok(Output::answer(String::new(), worst));
+        }
+        sleep(EVERY);
+    }
+}
+
+/// What is said of a file, and its status.
+fn verdict(path: &Path) -> (String, u8) {
+    let places = [OsString::from("--"), path.as_os_str().to_os_string()];
+    match Call::of(&COMMAND, &places).and_then(|call| playable::open(&call)) {
+        Ok(Ok(playable)) => (format!("{}: playable\n", playable.subject.name), PLAYABLE),
+        Ok(Err(output)) => (output.text, output.status),
+        Err(failure) => (format!("{failure}\n"), failure.status),
+    }
+}
+
+fn json(name: &str, text: &str, status: u8) -> Json {
+    let fields = [
+        ("file", name.into()),
+        ("status", u32::from(status).into()),
+        ("text", text.into()),
+    ];
+    answer("watch", fields)
+}
+
+/// Writes to standard output at once; false where nobody reads on.
+fn say(text: &str) -> Result<bool, Failure> {
+    let mut out = io::stdout().lock();
+    match out.write_all(text.as_bytes()).and_then(|()| out.flush()) {
+        Ok(()) => Ok(true),
+        Err(error) if error.kind() == ErrorKind::BrokenPipe => Ok(false),
+        Err(error) => Err(Failure::file(format!("standard output: {error}"))),
+    }
+}
+
+#[derive(PartialEq, Eq, Debug)]
+enum Change {
+    Written(PathBuf),
+    Gone(PathBuf),
+}
+
+impl Change {
+    fn path(&self) -> &Path {
+        match self {
+            Change::Written(path) | Change::Gone(path) => path,
+        }
+    }
+}
+
+/// What has changed since the last look, in the order of the names.
+fn changes(path: &Path, known: &mut BTreeMap<PathBuf, Seen>) -> Vec<Change> {
+    let found: BTreeMap<PathBuf, Stamp> = (files(path).into_iter())
+        .filter_map(|path| stamp(&path).map(|stamp| (path, stamp)))
+        .collect();
+    let mut changes = Vec::new();
+    for (path, stamp) in &found {
+        let before = known.insert(path.clone(), Seen::Here(*stamp));
+        if before.and_then(Seen::stamp) != Some(*stamp) {
+            changes.push(Change::Written(path.clone()));
+        }
+    }
+    known.retain(|path, seen| {
+        let here = found.contains_key(path);
+        match *seen {
+            _ if here => true,
+            // An editor may take a file away to write it anew, so it is missed twice before it is gone.
+            Seen::Here(stamp) => {
+                *seen = Seen::Missed(stamp);
+                true
+            }
+            Seen::Missed(_) => {
+                changes.push(Change::Gone(path.clone()));
+                false
+            }
+        }
+    });
+    changes
+}
+
+/// A file as it was when it was looked at last.
+#[derive(Clone, Copy)]
+enum Seen {
+    Here(Stamp),
+    Missed(Stamp),
+}
+
+impl Seen {
+    fn stamp(self) -> Option<Stamp> {
+        match self {
+            Seen::Here(stamp) | Seen::Missed(stamp) => Some(stamp),
+        }
+    }
+}
+
+fn stamp(path: &Path) -> Option<Stamp> {
+    let metadata = fs::metadata(path).ok().filter(|metadata| !metadata.is_dir())?;
+    Some((metadata.modified().ok(), metadata.len()))
+}
+
+/// The file, or the narrations of the folder.
+fn files(path: &Path) -> Vec<PathBuf> {
+    match fs::read_dir(path) {
+        Ok(entries) => {
+            let paths = entries.filter_map(|entry| entry.ok().map(|entry| entry.path()));
+            paths
+                .filter(|path| path.extension() == Some(OsStr::new("narration")))
+                .collect()
+        }
+        Err(_) => vec![path.to_path_buf()],
+    }
+}
+
+#[cfg(test)]
+mod tests {
+    use super::*;
+
+    #[test]
+    fn what_has_changed() {
+        let folder = std::env::temp_dir().join(format!("nghi-watch-{}", std::process::id()));
+        fs::create_dir_all(&folder).unwrap();
+        let file = |name: &str| folder.join(name);
+        let mut known = BTreeMap::new();
+        let mut changes = || changes(&folder, &mut known);
+        for name in ["b.narration", "a.narration", "c.txt"] {
+            fs::write(file(name), "party A\n").unwrap();
+        }
+        let (a, b) = (file("a.narration"), file("b.narration"));
+        assert_eq!(changes(), [Change::Written(a.clone()), Change::Written(b.clone())]);
+        assert_eq!(changes(), []);
+        fs::write(&b, "party AB\n").unwrap();
+        assert_eq!(changes(), [Change::Written(b.clone())]);
+        // Away for one look, and the same again: nothing has changed.
+        fs::rename(&a, file("aside")).unwrap();
+        assert_eq!(changes(), []);
+        fs::rename(file("aside"), &a).unwrap();
+        assert_eq!(changes(), []);
+        fs::remove_file(&a).unwrap();
+        assert_eq!(
+            (changes(), changes(), changes()),
+            (vec![], vec![Change::Gone(a)], vec![])
+        );
+        fs::remove_dir_all(&folder).unwrap();
+    }
+}

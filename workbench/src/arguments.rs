@@ -62,6 +62,12 @@ impl Call {
             let given = match (value, joined) {
                 (None, None) => OsString::new(),
                 (None, Some(_)) => return Err(wrong(format!("`{name}` has no value"))),
+                // Behind `=` a path that is no text would lose its bytes.
+                (Some(_), Some(_)) if argument.to_str().is_none() => {
+                    return Err(wrong(format!(
+                        "the value of `{name}` is no text; put a blank before it, not `=`"
+                    )))
+                }
                 (Some(_), Some(value)) => value,
                 (Some(what), None) => match rest.next() {
                     Some(value) => value.clone(),

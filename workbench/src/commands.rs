@@ -2,6 +2,7 @@
 
 pub mod build;
 pub mod completions;
+pub mod draw;
 pub mod judge;
 pub mod knows;
 pub mod new;
@@ -48,6 +49,7 @@ static COMMANDS: &[(&Command, Run)] = &[
     (&knows::COMMAND, knows::run),
     (&play::COMMAND, play::run),
     (&judge::COMMAND, judge::run),
+    (&draw::COMMAND, draw::run),
     (&build::COMMAND, build::run),
     (&watch::COMMAND, watch::run),
     (&new::COMMAND, new::run),

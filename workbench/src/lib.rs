@@ -6,6 +6,7 @@
 
 pub mod arguments;
 pub mod commands;
+pub mod draw;
 pub mod failure;
 pub mod guard;
 pub mod input;

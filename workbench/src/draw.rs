@@ -1,6 +1,5 @@
 //! Pictures of a run: the scene that is drawn, and the three forms that it is drawn in.
 
-pub mod file;
 pub mod html;
 pub mod mmd;
 pub mod scene;

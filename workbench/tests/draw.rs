@@ -671,14 +671,14 @@ fn files_are_written_whole_and_nothing_is_lost() {
     assert!(status == 0 && json == draw(&["--json"]).1 && Path::new(&at("two.html")).exists());
 
     fs::write(at("mine.svg"), "<svg>drawn by hand</svg>").unwrap();
-    fs::write(at("empty.svg"), "").unwrap();
-    for name in ["mine.svg", "empty.svg"] {
+    fs::write(at("mine.html"), "<!DOCTYPE html>\n<html lang=\"en\">\n").unwrap();
+    for name in ["mine.svg", "mine.html"] {
         let before = fs::read(at(name)).unwrap();
         let (status, told) = draw(&["-o", &at(name)]);
         assert!(status == 4 && told.contains("no picture of nghi's"), "{told}");
         assert_eq!(fs::read(at(name)).unwrap(), before);
         assert_eq!(draw(&["-o", &at(name), "--force"]).0, 0);
-        assert!(fs::read_to_string(at(name)).unwrap().ends_with("</svg>\n"));
+        assert!(fs::read_to_string(at(name)).unwrap().contains("nghi draw"));
     }
 
     // Never over the source, by whatever name, not even by force.
@@ -686,18 +686,18 @@ fn files_are_written_whole_and_nothing_is_lost() {
     let names = [path.clone(), at("inner/../one.narration")];
     for name in &names {
         let (status, told) = draw(&["-o", name, "--as", "svg", "--force"]);
-        assert!(status == 2 && told.contains("is the source"), "{told}");
+        assert!(status == 4 && told.contains("the file that is read"), "{told}");
     }
     #[cfg(unix)]
     {
         std::os::unix::fs::symlink(&path, at("link.svg")).unwrap();
-        assert_eq!(draw(&["-o", &at("link.svg"), "--force"]).0, 2);
+        assert_eq!(draw(&["-o", &at("link.svg"), "--force"]).0, 4);
         std::os::unix::fs::symlink(at("one.svg"), at("other.svg")).unwrap();
         assert_eq!(draw(&["-o", &at("other.svg")]).0, 0);
         assert!(fs::symlink_metadata(at("other.svg")).unwrap().file_type().is_symlink());
         assert!(fs::read_to_string(at("one.svg")).unwrap().starts_with("<svg"));
         let (status, told) = draw(&["-o", "/dev/null", "--as", "svg", "--force"]);
-        assert!(status == 4 && told.contains("no file"), "{told}");
+        assert!(status == 4 && told.contains("no ordinary file"), "{told}");
     }
     assert_eq!(fs::read_to_string(&path).unwrap(), text);
 

@@ -3,12 +3,13 @@
 use crate::arguments::{Call, Command};
 use crate::commands::Output;
 use crate::draw::scene::{too_many, Scene};
-use crate::draw::{file, picture, Form, MOST_EVENTS};
+use crate::draw::{is_ours, picture, Form, MOST_EVENTS};
 use crate::failure::{Failure, MISTAKE, PLAYABLE, REFUSED};
 use crate::input::Input;
 use crate::proved::Answers;
 use crate::report;
 use crate::run::Order;
+use crate::store::{self, Target};
 use crate::subject::{open, Opened, Subject};
 use std::ffi::{OsStr, OsString};
 use std::path::Path;
@@ -57,8 +58,10 @@ pub fn run(call: &Call) -> Result<Output, Failure> {
         None => (),
         Some((form, Place::Out)) => answer = Some(picture(&scene, form)?),
         Some((form, Place::File(path))) => {
-            let drawn = picture(&scene, form)?;
-            file::write(&path, &drawn, input.path.as_deref(), call.has("--force"))?;
+            let source = input.path.clone().or_else(store::standard_input);
+            let force = call.has("--force");
+            let target = Target::of(Path::new(&path), source.as_deref(), is_ours, "picture of nghi's", force)?;
+            store::write(&[(target, picture(&scene, form)?.as_bytes())])?;
             told = told_of(&path, &scene);
         }
     }
@@ -72,7 +75,7 @@ pub fn run(call: &Call) -> Result<Output, Failure> {
 }
 
 /// The scene, and, where the subject is refused, what `nghi check` says of it.
-fn scene(subject: Subject, order: &Order) -> Result<(Scene, Option<String>), Failure> {
+pub fn scene(subject: Subject, order: &Order) -> Result<(Scene, Option<String>), Failure> {
     let name = subject.name.clone();
     let large = |events: usize| {
         Failure::command_line(format!(

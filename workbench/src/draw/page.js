@@ -63,18 +63,25 @@
     try { history.replaceState(null, "", address); } catch (error) { location.hash = address; }
   }
 
+  // Who walks through the run wants to see where it is; who points at something sees that already.
+  function walk(number) {
+    go(number);
+    var chip = document.querySelector(".chip.now");
+    if (chip) { chip.scrollIntoView({ block: "nearest", inline: "nearest" }); }
+  }
+
   function asked() {
     var found = /^#move=(\d{1,6})$/.exec(location.hash);
     return found ? Number(found[1]) : last;
   }
 
   slider.max = last;
-  slider.addEventListener("input", function () { go(Number(slider.value)); });
+  slider.addEventListener("input", function () { walk(Number(slider.value)); });
   stepper.addEventListener("submit", function (event) { event.preventDefault(); });
   every("#stepper button", function (button) {
     button.addEventListener("click", function () {
       var by = button.getAttribute("data-by");
-      go(by === "first" ? 0 : by === "last" ? last : at + Number(by));
+      walk(by === "first" ? 0 : by === "last" ? last : at + Number(by));
     });
   });
   document.addEventListener("keydown", function (event) {
@@ -82,7 +89,7 @@
     var other = event.altKey || event.ctrlKey || event.metaKey || event.shiftKey || event.target === slider;
     if (!by || other) { return; }
     event.preventDefault();
-    go(at + by);
+    walk(at + by);
   });
   window.addEventListener("hashchange", function () { show(asked()); });
 
@@ -100,7 +107,9 @@
   ["mouseover", "mouseout", "focusin", "focusout"].forEach(function (name) { document.addEventListener(name, tie); });
   every(".chip, .program li, .source [data-step]", function (element) { element.setAttribute("tabindex", "0"); });
   every(".chip, .program li", function (element) {
-    element.addEventListener("click", function () { go(Number(element.getAttribute("data-move"))); });
+    var here = function () { go(Number(element.getAttribute("data-move"))); };
+    element.addEventListener("click", here);
+    element.addEventListener("keydown", function (event) { if (event.key === "Enter") { here(); } });
   });
 
   stepper.hidden = false;

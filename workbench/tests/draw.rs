@@ -252,6 +252,29 @@ fn begins(path: &Element) -> (i64, i64) {
     (numbers[0], numbers[1])
 }
 
+/// The straight pieces of an arrow's line, `M x y H x V y H x`, from corner to corner.
+fn pieces(path: &Element) -> Vec<Rect> {
+    let (mut x, mut y) = begins(path);
+    let d = path.get("d").unwrap();
+    let behind = &d[d.find('H').unwrap()..];
+    let mut pieces = Vec::new();
+    for piece in behind.split_inclusive(['H', 'V']).collect::<Vec<_>>().windows(2) {
+        let to: i64 = piece[1].trim_end_matches(['H', 'V']).parse().unwrap();
+        let (from_x, from_y) = (x, y);
+        match piece[0].ends_with('H') {
+            true => x = to,
+            false => y = to,
+        }
+        pieces.push(Rect {
+            x: from_x.min(x),
+            y: from_y.min(y),
+            right: from_x.max(x),
+            bottom: from_y.max(y),
+        });
+    }
+    pieces
+}
+
 /// The SVG among these elements: whole, its boxes apart, its texts inside them, its arrows on lifelines or chips.
 fn good_picture(elements: &[Element], events: usize, name: &str) {
     let svg = elements.iter().position(|element| element.name == "svg").unwrap();
@@ -321,6 +344,7 @@ fn good_picture(elements: &[Element], events: usize, name: &str) {
 
     let lifelines = elements.iter().position(|part| part.is("lifelines")).unwrap();
     let lines: BTreeSet<i64> = of(lifelines, "path").iter().map(|path| begins(path).0).collect();
+    let mut waits: Vec<Rect> = Vec::new();
     for at in (0..elements.len()).filter(|at| elements[*at].is("arrow")) {
         let paths = of(at, "path");
         let (from, tip) = (begins(paths[0]), begins(paths[1]));
@@ -330,6 +354,23 @@ fn good_picture(elements: &[Element], events: usize, name: &str) {
             lines.contains(&tip.0) || lefts.contains(&tip.0),
             "{name}: an arrow reaches nothing"
         );
+        for piece in pieces(paths[0]) {
+            let through = |rect: &&Rect| {
+                piece.x < rect.right
+                    && rect.x < piece.right.max(piece.x + 1)
+                    && piece.y < rect.bottom
+                    && rect.y < piece.bottom + 1
+            };
+            assert!(
+                !rects.iter().any(|rect| through(&rect)),
+                "{name}: {piece:?} goes through a box"
+            );
+            let along = |other: &Rect| other.x == piece.x && other.y < piece.bottom && piece.y < other.bottom;
+            if piece.x == piece.right {
+                assert!(!waits.iter().any(along), "{name}: two messages wait in one place");
+                waits.push(piece);
+            }
+        }
         let text = of(at, "text")[0];
         let half = 4 * text.text.chars().count() as i64;
         assert!(

@@ -1,6 +1,7 @@
 //! The commands: each reads its files, asks the proved functions, and answers with a text and a status.
 
 pub mod build;
+pub mod check;
 pub mod completions;
 pub mod draw;
 pub mod judge;
@@ -45,6 +46,7 @@ type Run = fn(&Call) -> Result<Output, Failure>;
 
 /// The commands, in the order of the help.
 static COMMANDS: &[(&Command, Run)] = &[
+    (&check::COMMAND, check::run),
     (&programs::COMMAND, programs::run),
     (&knows::COMMAND, knows::run),
     (&play::COMMAND, play::run),

@@ -20,3 +20,4 @@ pub mod run;
 pub mod store;
 pub mod subject;
 pub mod told;
+pub mod warnings;

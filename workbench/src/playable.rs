@@ -2,10 +2,10 @@
 
 use crate::arguments::Call;
 use crate::commands::Output;
-use crate::failure::{Failure, MISTAKE, REFUSED};
+use crate::failure::Failure;
 use crate::input::Input;
 use crate::proved::Answers;
-use crate::report;
+use crate::report::{self, Report};
 use crate::subject::{open as open_input, Opened, Subject};
 
 pub struct Playable {
@@ -16,9 +16,20 @@ pub struct Playable {
 /// The command's first file, if it can be played; else what `nghi check` says of it.
 pub fn open(call: &Call) -> Result<Result<Playable, Output>, Failure> {
     let input = Input::read(&call.places[0])?;
-    let (text, status) = match open_input(&input)? {
-        Opened::Mistaken { lines, mistakes } => (report::mistakes(&input.name, &lines, &mistakes), MISTAKE),
-        Opened::Refused(refusal) => (report::no_book(&input.name, refusal), REFUSED),
+    Ok(examine(&input)?.map_err(|report| {
+        let status = report.status();
+        match call.has("--json") {
+            true => Output::answer(format!("{}\n", report::answered(&[report], status)), status),
+            false => Output::error(report.text(&[]), status),
+        }
+    }))
+}
+
+/// What was handed in, if it can be played; else why it can't.
+pub fn examine(input: &Input) -> Result<Result<Playable, Report>, Failure> {
+    let report = match open_input(input)? {
+        Opened::Mistaken { lines, mistakes } => report::mistaken(&input.name, lines, &mistakes),
+        Opened::Refused(refusal) => report::no_book(&input.name, refusal),
         Opened::Subject(subject) => match Answers::of(&subject)? {
             Ok(answers) => {
                 return Ok(Ok(Playable {
@@ -26,10 +37,10 @@ pub fn open(call: &Call) -> Result<Result<Playable, Output>, Failure> {
                     answers,
                 }))
             }
-            Err(refusal) => (report::unplayable(&subject, refusal), REFUSED),
+            Err(refusal) => report::unplayable(&subject, refusal)?,
         },
     };
-    Ok(Err(Output::error(text, status)))
+    Ok(Err(report))
 }
 
 impl Playable {

@@ -67,6 +67,22 @@ impl Subject {
         &self.terms[row as usize]
     }
 
+    /// Whether a term is the other or has it as a part, however deep.
+    pub fn has_part(&self, row: u32, part: u32) -> bool {
+        // Parts stand before what they are parts of, so only rows from the part on matter.
+        let mut seen = vec![false; row as usize + 1];
+        let mut open = vec![row];
+        while let Some(own) = open.pop() {
+            if own == part {
+                return true;
+            }
+            if own > part && !std::mem::replace(&mut seen[own as usize], true) {
+                open.extend(&self.book.rows[own as usize].parts);
+            }
+        }
+        false
+    }
+
     /// The line of the text in which a step stands.
     pub fn line(&self, step: u32) -> Option<usize> {
         let text = self.text.as_ref()?;

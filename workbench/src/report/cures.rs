@@ -1,0 +1,306 @@
+//! Changes that may help where a step is refused: each is a guess, which is tried before it is shown.
+
+use super::edits::{self, Edit, Outcome};
+use super::refused::{around_of, makes_nothing, openings, Case};
+use super::short;
+use crate::arguments::distance;
+use crate::subject::Text;
+use crate::warnings;
+use narration::book::{ATOM, CIPHER, PRIVATE, PUBLIC};
+use narration::Spot;
+
+impl Case<'_> {
+    /// Changes that may help, by kind, the likeliest first.
+    pub fn edits(&self, text: &Text) -> Vec<Vec<Edit>> {
+        let names = self.other_names(text);
+        let given = self.needed(text, self.row).map(|term| self.given(&text.lines, term));
+        let given: Vec<Edit> = given.into_iter().collect();
+        match self.number {
+            10 => vec![
+                names,
+                self.later_arrivals(text),
+                self.opening_keys(text),
+                self.without_keys(text),
+                given,
+                self.sent_before(text),
+            ],
+            // To know a nonce from the start is of little use; a key is another matter.
+            _ if self.is_key() => vec![names, self.made(text), self.sent_before(text), given],
+            _ => vec![names, self.made(text), self.sent_before(text)],
+        }
+    }
+
+    /// A name that is close to the atom's in its place, wherever it stands in the line.
+    fn other_names(&self, text: &Text) -> Vec<Edit> {
+        let rows = 0..self.subject.book.rows.len() as u32;
+        let atoms = rows.filter(|row| self.subject.book.rows[*row as usize].kind == ATOM && *row != self.row);
+        let held = |row: &u32| {
+            let halves = (0..).zip(&self.subject.book.rows);
+            let halves = halves.filter(|(_, half)| matches!(half.kind, PUBLIC | PRIVATE) && half.parts[0] == *row);
+            self.holds(self.sender, *row) || halves.into_iter().any(|(half, _)| self.holds(self.sender, half))
+        };
+        let near = |row: &u32| {
+            warnings::alike(self.atom(), self.subject.term(*row)) || close(self.atom(), self.subject.term(*row))
+        };
+        let mut names: Vec<&str> = (atoms.filter(near).filter(held))
+            .map(|row| self.subject.term(row))
+            .collect();
+        names.sort_by_key(|name| distance(self.atom(), name));
+        let edit = |name: &str| {
+            let mut spots: Vec<Spot> = (self.written(text).filter(|(row, _)| *row == self.row))
+                .map(|(_, spot)| *spot)
+                .collect();
+            spots.sort_unstable();
+            let number = spots.first()?.line;
+            // From the right, so that the columns to the left stay what they are.
+            let line = spots.iter().rev().fold(text.lines[number - 1].clone(), |line, spot| {
+                edits::replaced(&line, spot.column, spot.length, name)
+            });
+            let message = format!("is `{name}` meant?");
+            Some(edits::with_line(&text.lines, number, line, message))
+        };
+        names.into_iter().filter_map(edit).collect()
+    }
+
+    /// A cipher that was stored too early arrives later: its step moves down, behind each of the next ones.
+    fn later_arrivals(&self, text: &Text) -> Vec<Edit> {
+        let mut edits = Vec::new();
+        for (row, step) in self.stored_around() {
+            for behind in step + 1..self.step {
+                let (Some(from), Some(to)) = (self.subject.line(step), self.subject.line(behind)) else {
+                    continue;
+                };
+                let mut lines = text.lines.clone();
+                lines[from - 1..to].rotate_left(1);
+                edits.push(Edit {
+                    message: format!(
+                        "move line {from} behind line {to}, so that {} can open {} when it arrives",
+                        self.subject.party(self.sender),
+                        short(self.subject.term(row))
+                    ),
+                    lines,
+                    changed: vec![to],
+                });
+            }
+        }
+        edits
+    }
+
+    /// The sender knows the key that opens what it stored: the cipher's own, or the public half for a private one.
+    fn opening_keys(&self, text: &Text) -> Vec<Edit> {
+        let rows = &self.subject.book.rows;
+        let opens = |key: u32| match rows[key as usize].kind {
+            PUBLIC => None,
+            PRIVATE => rows
+                .iter()
+                .position(|row| row.kind == PUBLIC && row.parts == rows[key as usize].parts),
+            _ => Some(key as usize),
+        };
+        let stored = self.stored_around().into_iter();
+        let keys = stored.filter_map(|(row, _)| Some((row, opens(rows[row as usize].parts[0])?)));
+        keys.filter(|(_, key)| !self.holds(self.sender, *key as u32))
+            .map(|(row, key)| {
+                let edit = self.given(&text.lines, self.subject.term(key as u32));
+                let message = format!(
+                    "{}, so that it can open {}",
+                    edit.message,
+                    short(self.subject.term(row))
+                );
+                Edit { message, ..edit }
+            })
+            .collect()
+    }
+
+    /// A cipher that was opened and is to be sent on is stored, if its receiver doesn't know the key. Where it lacks something
+    /// else then, it knows that in the key's place.
+    fn without_keys(&self, text: &Text) -> Vec<Edit> {
+        let place = &text.narration.parties[self.sender as usize];
+        let mut edits = Vec::new();
+        for (row, _, key) in self.opened_around() {
+            let Some(known) = place.known.iter().position(|(own, _)| Some(*own) == key) else {
+                continue;
+            };
+            let spots: Vec<Spot> = place.known.iter().map(|(_, spot)| *spot).collect();
+            let end = |spot: Spot| spot.column + spot.length;
+            let (from, to) = match (known.checked_sub(1), spots.get(known + 1)) {
+                (Some(before), _) => (end(spots[before]), end(spots[known])),
+                (None, Some(next)) => (spots[known].column, next.column),
+                (None, None) => continue,
+            };
+            let number = place.name.line;
+            let line = edits::replaced(&text.lines[number - 1], from, to - from, "");
+            let (sender, key) = (self.subject.party(self.sender), self.subject.term(place.known[known].0));
+            let kept = short(self.subject.term(row));
+            let message = format!("let {sender} not know {key}, so that it keeps {kept} and can send it on");
+            let edit = edits::with_line(&text.lines, number, line, message);
+            if let Some(term) = self.lacking(text, &edit) {
+                let message =
+                    format!("let {sender} know {term} and not {key}, so that it keeps {kept} and can send it on");
+                let both = self.given(&edit.lines, term);
+                edits.push(Edit { message, ..both });
+            }
+            edits.push(edit);
+        }
+        edits
+    }
+
+    /// What the sender lacks at the same step after a change.
+    fn lacking(&self, text: &Text, edit: &Edit) -> Option<&str> {
+        match edits::attempt(&edit.lines) {
+            Outcome::Refused { step, atom, .. } if step == self.step => {
+                let row = self.subject.terms.iter().position(|term| *term == atom)?;
+                self.needed(text, row as u32)
+            }
+            _ => None,
+        }
+    }
+
+    /// What the sender would have to know in place of an atom: the half of it that it needs, or the atom itself. A private
+    /// half that another party has is none of its business.
+    fn needed(&self, text: &Text, atom: u32) -> Option<&str> {
+        let here = self.here(text, atom);
+        let half = |(row, spot): &&(u32, Spot)| {
+            let own = &self.subject.book.rows[*row as usize];
+            matches!(own.kind, PUBLIC | PRIVATE)
+                && own.parts[0] == atom
+                && here.is_some_and(|here| around_of(*spot, here))
+        };
+        let needed = self.written(text).find(half).map_or(atom, |(row, _)| *row);
+        let mut parties = 0..self.subject.book.parties.len() as u32;
+        let another = parties.any(|party| party != self.sender && self.holds(party, needed));
+        let private = self.subject.book.rows[needed as usize].kind == PRIVATE;
+        (!private || !another).then(|| self.subject.term(needed))
+    }
+
+    /// The sender knows a term from the start.
+    fn given(&self, lines: &[String], term: &str) -> Edit {
+        let (sender, party) = (
+            self.subject.party(self.sender),
+            &self.subject.book.parties[self.sender as usize],
+        );
+        let place = self
+            .subject
+            .text
+            .as_ref()
+            .map(|text| &text.narration.parties[self.sender as usize]);
+        let number = place.map_or(1, |place| place.name.line);
+        let what = match party.known.is_empty() {
+            true => format!(" knows {term}"),
+            false => format!(", {term}"),
+        };
+        let line = edits::behind(&lines[number - 1], &what);
+        edits::with_line(lines, number, line, format!("let {sender} know {term} from the start"))
+    }
+
+    /// The sender makes atoms after all.
+    fn made(&self, text: &Text) -> Vec<Edit> {
+        let place = &text.narration.parties[self.sender as usize];
+        let spot = makes_nothing(text, place.name);
+        let line = &text.lines[spot.line - 1];
+        let sender = self.subject.party(self.sender);
+        let front = place.name.column + place.name.length;
+        let changed = edits::replaced(line, front, spot.column + spot.length - front, "");
+        let message = format!("if {sender} has a random source, leave out `makes nothing`");
+        vec![edits::with_line(&text.lines, spot.line, changed, message)]
+    }
+
+    /// Another party sends the atom to the sender before: in a message that the sender opens, or in the clear, if nothing is
+    /// given away by that.
+    fn sent_before(&self, text: &Text) -> Vec<Edit> {
+        let (subject, atom) = (self.subject, self.atom());
+        let (book, sender) = (&subject.book, subject.party(self.sender));
+        let open = self.is_open();
+        let openings = openings(subject, &self.before, self.sender);
+        let mut edits = Vec::new();
+        for step in (0..self.step).rev() {
+            let (from, to) = (book.steps[step as usize].sender, book.steps[step as usize].receiver);
+            let has = self.number == 13 || self.before.holds(from, self.row, Some(step));
+            let Some(number) = subject.line(step).filter(|_| to == self.sender && has) else {
+                continue;
+            };
+            let line = &text.lines[number - 1];
+            let message = format!("let {} send {atom} to {sender} in line {number}", subject.party(from));
+            if open {
+                let what = if book.steps[step as usize].messages.is_empty() {
+                    format!(" {atom}")
+                } else {
+                    format!(", {atom}")
+                };
+                edits.push(edits::with_line(
+                    &text.lines,
+                    number,
+                    edits::behind(line, &what),
+                    message.clone(),
+                ));
+            }
+            for (row, _, _) in openings.iter().filter(|(_, own, _)| *own == step) {
+                let written = text
+                    .narration
+                    .terms
+                    .iter()
+                    .find(|(own, spot)| own == row && spot.line == number);
+                let changed = written.and_then(|(_, spot)| with_content(line, *spot, atom));
+                edits.extend(changed.map(|line| edits::with_line(&text.lines, number, line, message.clone())));
+            }
+        }
+        let holders = (0..book.parties.len() as u32).filter(|party| self.holds(*party, self.row));
+        for party in holders.filter(|party| open && *party != self.sender) {
+            let Some(number) = subject.line(self.step) else {
+                continue;
+            };
+            let mut lines = text.lines.clone();
+            let holder = subject.party(party);
+            lines.insert(number - 1, format!("{holder} -> {sender}: {atom}"));
+            edits.push(Edit {
+                message: format!("let {holder} send {atom} to {sender} before"),
+                lines,
+                changed: vec![number],
+            });
+        }
+        edits
+    }
+
+    /// Whether the atom stands in the key of a cipher.
+    fn is_key(&self) -> bool {
+        let mut ciphers = self.subject.book.rows.iter().filter(|row| row.kind == CIPHER);
+        ciphers.any(|cipher| self.subject.has_part(cipher.parts[0], self.row))
+    }
+
+    /// Whether the atom can be sent in the clear and nothing is given away: it is a name, was sent so before, or is nobody's
+    /// and no key.
+    fn is_open(&self) -> bool {
+        let book = &self.subject.book;
+        let sent = book.steps[..self.step as usize].iter().flat_map(|step| &step.messages);
+        let name = book.parties.iter().any(|party| party.name == self.row);
+        name || sent.into_iter().any(|message| *message == self.row) || (self.number == 13 && !self.is_key())
+    }
+}
+
+/// A cipher's line with one more content in it.
+fn with_content(line: &str, cipher: Spot, content: &str) -> Option<String> {
+    let mut depth = 0;
+    for (at, sign) in line.chars().enumerate().skip(cipher.column - 1) {
+        match sign {
+            '{' => depth += 1,
+            '}' if depth == 1 => {
+                let empty = at == cipher.column;
+                let what = if empty {
+                    content.to_string()
+                } else {
+                    format!(", {content}")
+                };
+                return Some(edits::replaced(line, at + 1, 0, &what));
+            }
+            '}' => depth -= 1,
+            _ => (),
+        }
+    }
+    None
+}
+
+/// Whether two names are close enough for a slip of the pen.
+fn close(one: &str, other: &str) -> bool {
+    let longest = one.chars().count().max(other.chars().count());
+    let distance = distance(one, other);
+    distance <= 2 && 2 * distance < longest
+}

@@ -1,0 +1,207 @@
+//! Changes of a text that may help. Each is tried before it is shown: the changed text is read, and the proved translator is
+//! asked about its book.
+
+use super::words::count;
+use crate::json::{object, Json};
+use crate::subject::to_bytes;
+
+/// A changed text, and what was changed.
+#[derive(Clone, PartialEq, Eq, Debug)]
+pub struct Edit {
+    pub message: String,
+    pub lines: Vec<String>,
+    /// The numbers of the lines that are new or other than before, counted from 1.
+    pub changed: Vec<usize>,
+}
+
+/// What is said of a changed text.
+#[derive(Clone, PartialEq, Eq, Debug)]
+pub enum Outcome {
+    Playable,
+    Refused {
+        number: u8,
+        step: u32,
+        line: usize,
+        /// The name of the atom that would have to be made.
+        atom: String,
+    },
+    /// So many mistakes are left in it.
+    Mistaken(usize),
+}
+
+/// A change that was tried.
+#[derive(Clone, PartialEq, Eq, Debug)]
+pub struct Help {
+    pub message: String,
+    /// Nothing if there was nothing to try.
+    pub outcome: Option<Outcome>,
+    /// The changed lines with their numbers.
+    pub changed: Vec<(usize, String)>,
+}
+
+impl Help {
+    /// A help that changes nothing.
+    pub fn plain(message: impl Into<String>) -> Help {
+        Help {
+            message: message.into(),
+            outcome: None,
+            changed: Vec::new(),
+        }
+    }
+
+    pub fn of(edit: Edit, outcome: Outcome) -> Help {
+        let line = |number: usize| edit.lines.get(number - 1).map(|line| (number, line.clone()));
+        Help {
+            changed: edit.changed.iter().filter_map(|number| line(*number)).collect(),
+            message: edit.message,
+            outcome: Some(outcome),
+        }
+    }
+
+    pub fn sentence(&self) -> String {
+        match &self.outcome {
+            None => self.message.clone(),
+            Some(outcome) => format!("{} (tried: then {})", self.message, outcome.sentence()),
+        }
+    }
+
+    pub fn json(&self) -> Json {
+        let line =
+            |(number, text): &(usize, String)| object([("line", (*number).into()), ("text", text.as_str().into())]);
+        object([
+            ("message", self.message.as_str().into()),
+            ("tried", self.outcome.as_ref().map(Outcome::sentence).into()),
+            ("changed", self.changed.iter().map(line).collect::<Vec<_>>().into()),
+        ])
+    }
+}
+
+impl Outcome {
+    fn sentence(&self) -> String {
+        match self {
+            Outcome::Playable => String::from("it can be played"),
+            Outcome::Refused { number, line, atom, .. } => {
+                format!("it is refused in line {line}, for {atom} (R{number})")
+            }
+            Outcome::Mistaken(mistakes) => {
+                let verb = if *mistakes == 1 { "is" } else { "are" };
+                format!("{} {verb} left", count(*mistakes, "mistake", "mistakes"))
+            }
+        }
+    }
+}
+
+/// Reads a text and asks the proved translator about its book. With no room lent it refuses every book; one that can be
+/// played by 12.
+pub fn attempt(lines: &[String]) -> Outcome {
+    let narration = match narration::narrate(&lines.join("\n")) {
+        Ok(narration) => narration,
+        Err(mistakes) => return Outcome::Mistaken(mistakes.len()),
+    };
+    let bytes = to_bytes(&narration.book.words());
+    match nghiralum::translate(&bytes, &mut []) {
+        Err(refusal) if matches!(refusal.number(), 10 | 13) => Outcome::Refused {
+            number: refusal.number(),
+            step: refusal.place(),
+            line: (narration.steps.get(refusal.place() as usize)).map_or(0, |place| place.sender.line),
+            atom: (refusal
+                .row()
+                .and_then(|row| narration.names.atoms.get(row as usize)?.clone()))
+            .unwrap_or_default(),
+        },
+        _ => Outcome::Playable,
+    }
+}
+
+/// Of each kind of change the first with which a refused text can be played; if there is none, one that it comes further
+/// with, or as far and there lacks another atom.
+pub fn helpful(kinds: Vec<Vec<Edit>>, step: u32, atom: &str, most: usize) -> Vec<Help> {
+    let mut helps: Vec<Help> = Vec::new();
+    let mut later: Option<(u32, Help)> = None;
+    for edits in kinds {
+        for edit in edits {
+            match attempt(&edit.lines) {
+                Outcome::Playable => {
+                    helps.push(Help::of(edit, Outcome::Playable));
+                    break;
+                }
+                Outcome::Mistaken(_) => (),
+                Outcome::Refused {
+                    step: stop, atom: next, ..
+                } if stop < step || (stop == step && next == atom) => (),
+                outcome @ Outcome::Refused { step: stop, .. } => {
+                    if later.as_ref().is_none_or(|(best, _)| *best < stop) {
+                        later = Some((stop, Help::of(edit, outcome)));
+                    }
+                }
+            }
+        }
+    }
+    helps.truncate(most);
+    match helps.is_empty() {
+        true => later.into_iter().map(|(_, help)| help).collect(),
+        false => helps,
+    }
+}
+
+/// A line with characters put in the place of others; columns count from 1.
+pub fn replaced(line: &str, column: usize, length: usize, with: &str) -> String {
+    let signs: Vec<char> = line.chars().collect();
+    let from = (column - 1).min(signs.len());
+    let to = (from + length).min(signs.len());
+    let front: String = signs[..from].iter().collect();
+    let back: String = signs[to..].iter().collect();
+    format!("{front}{with}{back}")
+}
+
+/// A line with something behind what it says: in front of a comment, and of the blanks before that.
+pub fn behind(line: &str, what: &str) -> String {
+    let said = line
+        .find('#')
+        .map_or(line, |at| &line[..at])
+        .trim_end_matches([' ', '\t']);
+    format!("{said}{what}{}", &line[said.len()..])
+}
+
+/// These lines with one changed.
+pub fn with_line(lines: &[String], number: usize, line: String, message: String) -> Edit {
+    let mut lines = lines.to_vec();
+    if let Some(own) = lines.get_mut(number - 1) {
+        *own = line;
+    }
+    Edit {
+        message,
+        lines,
+        changed: vec![number],
+    }
+}
+
+#[cfg(test)]
+mod tests {
+    use super::*;
+
+    fn lines(text: &str) -> Vec<String> {
+        narration::lines(text).into_iter().map(str::to_string).collect()
+    }
+
+    #[test]
+    fn tried() {
+        assert_eq!(attempt(&lines("party A\nparty B\nA -> B: N")), Outcome::Playable);
+        let refused = Outcome::Refused {
+            number: 13,
+            step: 0,
+            line: 3,
+            atom: String::from("N"),
+        };
+        assert_eq!(attempt(&lines("party A makes nothing\nparty B\nA -> B: N")), refused);
+        assert_eq!(attempt(&lines("party A\nA -> C: N\nB -> A: N")), Outcome::Mistaken(2));
+    }
+
+    #[test]
+    fn changed_lines() {
+        assert_eq!(replaced("A -> Ö: N", 6, 1, "Bob"), "A -> Bob: N");
+        assert_eq!(replaced("A", 2, 5, "B"), "AB");
+        assert_eq!(behind("A -> B: N  # why", ", M"), "A -> B: N, M  # why");
+        assert_eq!(behind("A -> B:", " M"), "A -> B: M");
+    }
+}

@@ -1,0 +1,126 @@
+//! Lines of a text as they are shown: numbered, with marks under the terms. A tab stays a tab above and below, so that the
+//! mark stands under its term; of a long line only the part around the mark is shown.
+
+use super::edits::Help;
+use super::Mark;
+use narration::Spot;
+
+/// A line of more characters than this is cut.
+const WIDEST: usize = 140;
+/// What is left in front of a mark in a line that is cut.
+const FRONT: usize = 40;
+
+/// As many columns as the largest line number needs.
+pub fn margin(marks: &[Mark], helps: &[Help]) -> usize {
+    let marked = marks.iter().map(|mark| mark.spot.line);
+    let changed = helps
+        .iter()
+        .flat_map(|help| help.changed.iter().map(|(number, _)| *number));
+    let largest = marked.chain(changed).max().unwrap_or(1);
+    largest.to_string().len()
+}
+
+/// Where it is, and each marked line with its marks: `^` under what it is about, `-` under the rest.
+pub fn marks(name: &str, lines: &[String], marks: &[Mark], margin: usize) -> String {
+    let Some(first) = marks.first() else {
+        return format!("{:margin$}--> {name}\n", "");
+    };
+    let Spot { line, column, .. } = first.spot;
+    let mut text = format!("{:margin$}--> {name}:{line}:{column}\n{:margin$} |\n", "", "");
+    let mut above = None;
+    for (n, mark) in marks.iter().enumerate() {
+        let Spot { line, column, length } = mark.spot;
+        let whole = lines.get(line - 1).map_or("", String::as_str);
+        let (shown, skipped) = part(whole, column);
+        if above.is_some_and(|above| above != (line, skipped)) {
+            text.push_str(&format!("{:margin$} |\n", ""));
+        }
+        if above != Some((line, skipped)) {
+            text.push_str(format!("{line:margin$} | {shown}").trim_end_matches(' '));
+            text.push('\n');
+        }
+        above = Some((line, skipped));
+        let before: String = (shown.chars().take(column - 1 - skipped))
+            .map(|sign| if sign == '\t' { '\t' } else { ' ' })
+            .collect();
+        // The place just behind a line's end, and behind blanks that nobody sees, is marked too.
+        let before = format!("{before:width$}", width = column - 1 - skipped);
+        let under = if n == 0 { "^" } else { "-" };
+        let width = shown.chars().count().saturating_sub(column - 1 - skipped).max(1);
+        let under = under.repeat(length.clamp(1, width));
+        let label = format!("{under} {}", mark.label);
+        text.push_str(&format!("{:margin$} | {before}{}\n", "", label.trim_end()));
+    }
+    text
+}
+
+/// Lines as a help would have them.
+pub fn changed(lines: &[(usize, String)], margin: usize) -> String {
+    let line = |(number, line): &(usize, String)| {
+        let (shown, _) = part(line, line.chars().count().saturating_sub(FRONT).max(1));
+        format!("{number:margin$} | {shown}\n")
+    };
+    lines.iter().map(line).collect()
+}
+
+/// The part of a line that is shown, and how many characters are left out in front of it less those that say so.
+fn part(line: &str, column: usize) -> (String, usize) {
+    let signs: Vec<char> = plain(line).chars().collect();
+    if signs.len() <= WIDEST {
+        return (signs.into_iter().collect(), 0);
+    }
+    let from = (column - 1).min(signs.len()).saturating_sub(FRONT);
+    let to = signs.len().min(from + WIDEST);
+    let front = if from > 2 { ".." } else { "" };
+    let from = if from > 2 { from } else { 0 };
+    let back = if to < signs.len() { ".." } else { "" };
+    let shown: String = signs[from..to].iter().collect();
+    (format!("{front}{shown}{back}"), from - front.len())
+}
+
+/// What a terminal would take for a command, or would print from right to left, is shown as one unknown character.
+pub fn plain(text: &str) -> String {
+    let hidden = |sign: char| {
+        (sign.is_control() && sign != '\t') || matches!(sign, '\u{202a}'..='\u{202e}' | '\u{2066}'..='\u{2069}')
+    };
+    text.chars()
+        .map(|sign| if hidden(sign) { '\u{fffd}' } else { sign })
+        .collect()
+}
+
+#[cfg(test)]
+mod tests {
+    use super::*;
+
+    fn mark(line: usize, column: usize, length: usize) -> Mark {
+        Mark {
+            spot: Spot { line, column, length },
+            label: String::from("here"),
+        }
+    }
+
+    #[test]
+    fn marked() {
+        let lines = [String::from("\tä -> b: N"), String::from("party \u{1b}[31m")];
+        assert_eq!(
+            marks("f", &lines, &[mark(1, 10, 1), mark(1, 2, 1), mark(2, 1, 5)], 1),
+            " --> f:1:10\n  |\n1 | \tä -> b: N\n  | \t        ^ here\n  | \t- here\n  |\n2 | party \u{fffd}[31m\n  | ----- here\n"
+        );
+        assert_eq!(marks("f", &lines, &[], 2), "  --> f\n");
+    }
+
+    /// The mark of a line that is cut stands under its term, wherever that is.
+    #[test]
+    fn long_lines() {
+        let line: String = ('a'..='z').cycle().take(1_000).collect();
+        let lines = [line.clone()];
+        for column in [1, 2, 3, 42, 43, 44, 500, 990, 1_000, 1_001] {
+            let text = marks("f", &lines, &[mark(1, column, 3)], 1);
+            let rows: Vec<&str> = text.lines().collect();
+            let at = rows[3].find('^').expect("a mark");
+            let sign = rows[2].as_bytes().get(at).copied();
+            assert_eq!(sign, line.as_bytes().get(column - 1).copied(), "column {column}");
+            assert!(rows[2].len() < 160);
+        }
+    }
+}

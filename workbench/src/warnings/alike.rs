@@ -1,0 +1,191 @@
+//! W4: names that look alike and are two things. A slip in a name makes another atom, and the translator is right to make it.
+
+use super::atoms;
+use crate::arguments::distance;
+use crate::report::edits::{attempt, replaced, Edit, Help, Outcome};
+use crate::report::Diagnostic;
+use crate::subject::{Subject, Text};
+use narration::Spot;
+
+/// Names of atoms that look alike, in the order of the text.
+pub fn of(subject: &Subject) -> Vec<Diagnostic> {
+    let Some(text) = &subject.text else { return Vec::new() };
+    let atoms: Vec<(u32, Vec<Spot>)> = atoms(subject).into_iter().collect();
+    let mut warnings = Vec::new();
+    for (n, (one, spots)) in atoms.iter().enumerate() {
+        for (other, places) in &atoms[n + 1..] {
+            let (a, b) = (subject.term(*one), subject.term(*other));
+            let once = spots.len() == 1 || places.len() == 1;
+            if alike(a, b) || (once && slip(a, b)) {
+                // The one that is seldom written is likelier the slip; of two the later one.
+                let (spots, places) = (&spots[..], &places[..]);
+                let swap = spots.len() < places.len();
+                let (rare, usual) = if swap {
+                    ((a, spots), (b, places))
+                } else {
+                    ((b, places), (a, spots))
+                };
+                warnings.push(warning(text, rare, usual));
+            }
+        }
+    }
+    warnings
+}
+
+fn warning(text: &Text, (rare, spots): (&str, &[Spot]), (usual, places): (&str, &[Spot])) -> Diagnostic {
+    let message = format!("`{rare}` and `{usual}` look alike, and are two things");
+    let mut warning = Diagnostic::warning("W4", message)
+        .mark(spots.first().copied(), written(spots.len()))
+        .mark(places.first().copied(), written(places.len()));
+    let mut lines = text.lines.clone();
+    // From the right, so that the columns to the left stay what they are.
+    for spot in spots.iter().rev() {
+        lines[spot.line - 1] = replaced(&lines[spot.line - 1], spot.column, spot.length, usual);
+    }
+    let mut changed: Vec<usize> = spots.iter().map(|spot| spot.line).collect();
+    changed.dedup();
+    let edit = Edit {
+        message: format!("if they are one, write `{usual}`"),
+        lines,
+        changed,
+    };
+    if attempt(&edit.lines) == Outcome::Playable {
+        warning.helps.push(Help::of(edit, Outcome::Playable));
+    }
+    warning
+}
+
+fn written(times: usize) -> String {
+    match times {
+        1 => String::from("written only here"),
+        n => format!("first of {n} times"),
+    }
+}
+
+/// Whether two names look the same to a hasty reader: but for case, for signs that look like each other, for `_` and for a
+/// prime inside. A prime at the end is the usual way to a new name, and so is a last digit or capital letter.
+pub fn alike(one: &str, other: &str) -> bool {
+    one != other && seen(one) == seen(other) && !primed(one, other)
+}
+
+/// Whether they differ by primes at the end alone.
+fn primed(one: &str, other: &str) -> bool {
+    one.trim_end_matches('\'') == other.trim_end_matches('\'')
+}
+
+/// What is seen of a name.
+fn seen(name: &str) -> String {
+    let signs = name.chars().filter(|sign| !matches!(sign, '_' | '\''));
+    signs.map(looks).flat_map(char::to_lowercase).map(low).collect()
+}
+
+/// Letters of other scripts that look like ours.
+fn looks(sign: char) -> char {
+    const PAIRS: &str =
+        "АAВBЕEКKМMНHОOРPСCТTУYХXЅSІIЈJаaеeоoрpсcуyхxѕsіiјjԁdһhԛqԝwΑAΒBΕEΖZΗHΙIΚKΜMΝNΟOΡPΤTΥYΧXοoνvαaρpκkιiχx";
+    let mut pairs = PAIRS.chars();
+    while let (Some(foreign), Some(own)) = (pairs.next(), pairs.next()) {
+        if foreign == sign {
+            return own;
+        }
+    }
+    // Letters of double width.
+    match sign {
+        '\u{ff10}'..='\u{ff5a}' => char::from_u32(sign as u32 - 0xfee0).unwrap_or(sign),
+        _ => sign,
+    }
+}
+
+/// Signs that are hard to tell apart, in small letters.
+fn low(sign: char) -> char {
+    match sign {
+        'l' | 'i' => '1',
+        'o' => '0',
+        _ => sign,
+    }
+}
+
+/// Whether one is the other with a letter put in, left out or changed, or with two neighbours exchanged, and no member of
+/// the same family of names.
+fn slip(one: &str, other: &str) -> bool {
+    let shortest = one.chars().count().min(other.chars().count());
+    shortest >= 3 && (distance(one, other) == 1 || exchanged(one, other)) && !family(one, other)
+}
+
+fn exchanged(one: &str, other: &str) -> bool {
+    let (one, other): (Vec<char>, Vec<char>) = (one.chars().collect(), other.chars().collect());
+    let differ: Vec<usize> = (0..one.len().min(other.len()))
+        .filter(|at| one[*at] != other[*at])
+        .collect();
+    match differ[..] {
+        [a, b] => one.len() == other.len() && b == a + 1 && one[a] == other[b] && one[b] == other[a],
+        _ => false,
+    }
+}
+
+/// Whether names differ as those of a family do: KAB and KAS, KAS and KBS, N1 and N2, N and N1, K and K'.
+fn family(one: &str, other: &str) -> bool {
+    let (one, other): (Vec<char>, Vec<char>) = (one.chars().collect(), other.chars().collect());
+    let index = |sign: char| sign.is_uppercase() || sign.is_numeric() || sign == '\'';
+    if one.len() == other.len() {
+        let mut changed = one.iter().zip(&other).filter(|(a, b)| a != b);
+        return changed.all(|(a, b)| (a.is_uppercase() && b.is_uppercase()) || (a.is_numeric() && b.is_numeric()));
+    }
+    let (short, long) = if one.len() < other.len() {
+        (one, other)
+    } else {
+        (other, one)
+    };
+    long.starts_with(&short) && long[short.len()..].iter().all(|sign| index(*sign))
+}
+
+#[cfg(test)]
+mod tests {
+    use super::*;
+
+    #[test]
+    fn looks_alike() {
+        for (one, other) in [
+            ("KAS", "K_AS"),
+            ("Kas", "KAS"),
+            ("N1", "Nl"),
+            ("N1", "NI"),
+            ("O", "0"),
+            ("K'A", "KA"),
+            ("КAB", "KAB"),
+            ("K\u{ff21}", "KA"),
+        ] {
+            assert!(alike(one, other), "{one} {other}");
+        }
+        for (one, other) in [
+            ("K", "K'"),
+            ("K'", "K''"),
+            ("N1", "N2"),
+            ("KAB", "KAS"),
+            ("NA", "NB"),
+            ("K", "K"),
+            ("N", "N1"),
+        ] {
+            assert!(!alike(one, other), "{one} {other}");
+        }
+    }
+
+    #[test]
+    fn slips() {
+        for (one, other) in [("begin", "begn"), ("secret", "secrat"), ("KAS", "KAXS"), ("key", "kez")] {
+            assert!(slip(one, other), "{one} {other}");
+        }
+        for (one, other) in [
+            ("KAB", "KAS"),
+            ("KAS", "KBS"),
+            ("NA1", "NA2"),
+            ("KA", "KB"),
+            ("msg", "msg1"),
+            ("KA", "KAB"),
+            ("end", "end'"),
+        ] {
+            assert!(!slip(one, other), "{one} {other}");
+        }
+        assert!(exchanged("KAS", "KSA") && !exchanged("KAS", "SAK"));
+    }
+}

@@ -4,6 +4,7 @@ pub mod build;
 pub mod check;
 pub mod completions;
 pub mod draw;
+pub mod explain;
 pub mod judge;
 pub mod knows;
 pub mod new;
@@ -54,6 +55,7 @@ static COMMANDS: &[(&Command, Run)] = &[
     (&draw::COMMAND, draw::run),
     (&build::COMMAND, build::run),
     (&watch::COMMAND, watch::run),
+    (&explain::COMMAND, explain::run),
     (&new::COMMAND, new::run),
     (&completions::COMMAND, completions::run),
 ];

@@ -9,7 +9,7 @@ mod refused;
 mod words;
 
 pub use mistaken::mistaken;
-pub use refused::{no_book, unplayable};
+pub use refused::{no_book, openings, unplayable};
 pub use words::{count, listed, short};
 
 use crate::failure::{Failure, FILE, MISTAKE, PLAYABLE, REFUSED};
@@ -110,14 +110,15 @@ impl Diagnostic {
             "text" | "file" => String::new(),
             code => format!("[{code}]"),
         };
-        let mut text = format!("{kind}{code}: {}\n", self.message);
+        let plain = excerpt::plain;
+        let mut text = format!("{kind}{code}: {}\n", plain(&self.message));
         let margin = excerpt::margin(&self.marks, &self.helps);
         text.push_str(&excerpt::marks(name, lines, &self.marks, margin));
         for note in &self.notes {
-            text.push_str(&format!("{:margin$} = note: {note}\n", ""));
+            text.push_str(&format!("{:margin$} = note: {}\n", "", plain(note)));
         }
         for help in &self.helps {
-            text.push_str(&format!("{:margin$} = help: {}\n", "", help.sentence()));
+            text.push_str(&format!("{:margin$} = help: {}\n", "", plain(&help.sentence())));
             text.push_str(&excerpt::changed(&help.changed, margin));
         }
         text.push('\n');

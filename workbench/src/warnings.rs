@@ -8,7 +8,7 @@
 mod alike;
 mod unused;
 
-pub use alike::alike;
+pub use alike::{alike, family};
 
 use crate::failure::Failure;
 use crate::playable::Playable;

@@ -55,13 +55,16 @@ fn denied(call: &Call) -> Result<Vec<String>, Failure> {
 }
 
 /// All that is said of one file. One that can't be read is told among the others.
-pub fn report(path: &OsStr) -> Result<Report, Failure> {
-    let name = path.to_string_lossy();
-    let input = match Input::read(path) {
-        Ok(input) => input,
-        Err(failure) => return Ok(Report::unread(&name, &failure)),
-    };
-    match playable::examine(&input) {
+fn report(path: &OsStr) -> Result<Report, Failure> {
+    match Input::read(path) {
+        Ok(input) => of(&input),
+        Err(failure) => Ok(Report::unread(&path.to_string_lossy(), &failure)),
+    }
+}
+
+/// All that is said of what was handed in.
+pub fn of(input: &Input) -> Result<Report, Failure> {
+    match playable::examine(input) {
         Ok(Ok(playable)) => {
             let subject = &playable.subject;
             let verdict = Verdict::Playable {

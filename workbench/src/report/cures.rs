@@ -4,6 +4,7 @@ use super::edits::{self, Edit, Outcome};
 use super::refused::{around_of, makes_nothing, openings, Case};
 use super::short;
 use crate::arguments::distance;
+use crate::proved::Source;
 use crate::subject::Text;
 use crate::warnings;
 use narration::book::{ATOM, CIPHER, PRIVATE, PUBLIC};
@@ -13,7 +14,8 @@ impl Case<'_> {
     /// Changes that may help, by kind, the likeliest first.
     pub fn edits(&self, text: &Text) -> Vec<Vec<Edit>> {
         let names = self.other_names(text);
-        let given = self.needed(text, self.row).map(|term| self.given(&text.lines, term));
+        let given = self.needed(text, self.row);
+        let given = given.and_then(|term| edits::knowing(self.subject, &text.lines, self.sender, term));
         let given: Vec<Edit> = given.into_iter().collect();
         match self.number {
             10 => vec![
@@ -40,7 +42,8 @@ impl Case<'_> {
             self.holds(self.sender, *row) || halves.into_iter().any(|(half, _)| self.holds(self.sender, half))
         };
         let near = |row: &u32| {
-            warnings::alike(self.atom(), self.subject.term(*row)) || close(self.atom(), self.subject.term(*row))
+            let (own, name) = (self.atom(), self.subject.term(*row));
+            warnings::alike(own, name) || (close(own, name) && !warnings::family(own, name))
         };
         let mut names: Vec<&str> = (atoms.filter(near).filter(held))
             .map(|row| self.subject.term(row))
@@ -70,15 +73,13 @@ impl Case<'_> {
                 let (Some(from), Some(to)) = (self.subject.line(step), self.subject.line(behind)) else {
                     continue;
                 };
-                let mut lines = text.lines.clone();
-                lines[from - 1..to].rotate_left(1);
                 edits.push(Edit {
                     message: format!(
                         "move line {from} behind line {to}, so that {} can open {} when it arrives",
                         self.subject.party(self.sender),
                         short(self.subject.term(row))
                     ),
-                    lines,
+                    lines: edits::moved(&text.lines, from, to),
                     changed: vec![to],
                 });
             }
@@ -86,29 +87,20 @@ impl Case<'_> {
         edits
     }
 
-    /// The sender knows the key that opens what it stored: the cipher's own, or the public half for a private one.
+    /// The sender knows the key that opens what it stored. A key that another party made is known to that one too.
     fn opening_keys(&self, text: &Text) -> Vec<Edit> {
-        let rows = &self.subject.book.rows;
-        let opens = |key: u32| match rows[key as usize].kind {
-            PUBLIC => None,
-            PRIVATE => rows
-                .iter()
-                .position(|row| row.kind == PUBLIC && row.parts == rows[key as usize].parts),
-            _ => Some(key as usize),
+        let subject = self.subject;
+        let edit = |(row, _): (u32, u32)| {
+            let key = subject.book.rows[row as usize].parts[0];
+            let parties = 0..subject.book.parties.len() as u32;
+            let maker = |party: &u32| matches!(self.before.source(*party, key), Source::Made { .. });
+            let parties: Vec<u32> = parties.filter(|party| *party == self.sender || maker(party)).collect();
+            let edit = edits::all_knowing(subject, &text.lines, &parties, &edits::opening(subject, key)?)?;
+            let (sender, cipher) = (subject.party(self.sender), short(subject.term(row)));
+            let message = format!("{}, so that {sender} can open {cipher}", edit.message);
+            Some(Edit { message, ..edit })
         };
-        let stored = self.stored_around().into_iter();
-        let keys = stored.filter_map(|(row, _)| Some((row, opens(rows[row as usize].parts[0])?)));
-        keys.filter(|(_, key)| !self.holds(self.sender, *key as u32))
-            .map(|(row, key)| {
-                let edit = self.given(&text.lines, self.subject.term(key as u32));
-                let message = format!(
-                    "{}, so that it can open {}",
-                    edit.message,
-                    short(self.subject.term(row))
-                );
-                Edit { message, ..edit }
-            })
-            .collect()
+        self.stored_around().into_iter().filter_map(edit).collect()
     }
 
     /// A cipher that was opened and is to be sent on is stored, if its receiver doesn't know the key. Where it lacks something
@@ -136,8 +128,8 @@ impl Case<'_> {
             if let Some(term) = self.lacking(text, &edit) {
                 let message =
                     format!("let {sender} know {term} and not {key}, so that it keeps {kept} and can send it on");
-                let both = self.given(&edit.lines, term);
-                edits.push(Edit { message, ..both });
+                let both = edits::knowing(self.subject, &edit.lines, self.sender, term);
+                edits.extend(both.map(|both| Edit { message, ..both }));
             }
             edits.push(edit);
         }
@@ -172,26 +164,6 @@ impl Case<'_> {
         (!private || !another).then(|| self.subject.term(needed))
     }
 
-    /// The sender knows a term from the start.
-    fn given(&self, lines: &[String], term: &str) -> Edit {
-        let (sender, party) = (
-            self.subject.party(self.sender),
-            &self.subject.book.parties[self.sender as usize],
-        );
-        let place = self
-            .subject
-            .text
-            .as_ref()
-            .map(|text| &text.narration.parties[self.sender as usize]);
-        let number = place.map_or(1, |place| place.name.line);
-        let what = match party.known.is_empty() {
-            true => format!(" knows {term}"),
-            false => format!(", {term}"),
-        };
-        let line = edits::behind(&lines[number - 1], &what);
-        edits::with_line(lines, number, line, format!("let {sender} know {term} from the start"))
-    }
-
     /// The sender makes atoms after all.
     fn made(&self, text: &Text) -> Vec<Edit> {
         let place = &text.narration.parties[self.sender as usize];
@@ -204,60 +176,74 @@ impl Case<'_> {
         vec![edits::with_line(&text.lines, spot.line, changed, message)]
     }
 
-    /// Another party sends the atom to the sender before: in a message that the sender opens, or in the clear, if nothing is
-    /// given away by that.
+    /// Another party sends the atom to the sender before: in the clear, if nothing is given away by that; in a message that the
+    /// sender opens; or in a cipher that has it and that the sender can perhaps open.
     fn sent_before(&self, text: &Text) -> Vec<Edit> {
         let (subject, atom) = (self.subject, self.atom());
         let (book, sender) = (&subject.book, subject.party(self.sender));
-        let open = self.is_open();
         let openings = openings(subject, &self.before, self.sender);
         let mut edits = Vec::new();
         for step in (0..self.step).rev() {
-            let (from, to) = (book.steps[step as usize].sender, book.steps[step as usize].receiver);
-            let has = self.number == 13 || self.before.holds(from, self.row, Some(step));
-            let Some(number) = subject.line(step).filter(|_| to == self.sender && has) else {
+            let own = &book.steps[step as usize];
+            let Some(number) = subject.line(step).filter(|_| own.receiver == self.sender) else {
                 continue;
             };
             let line = &text.lines[number - 1];
-            let message = format!("let {} send {atom} to {sender} in line {number}", subject.party(from));
-            if open {
-                let what = if book.steps[step as usize].messages.is_empty() {
-                    format!(" {atom}")
-                } else {
-                    format!(", {atom}")
+            let from = subject.party(own.sender);
+            let edit = |term: &str, line: String| {
+                let message = format!("let {from} send {term} to {sender} in line {number}");
+                edits::with_line(&text.lines, number, line, message)
+            };
+            for term in self.sendable(own.sender, Some(step)) {
+                let what = match own.messages.is_empty() {
+                    true => format!(" {term}"),
+                    false => format!(", {term}"),
                 };
-                edits.push(edits::with_line(
-                    &text.lines,
-                    number,
-                    edits::behind(line, &what),
-                    message.clone(),
-                ));
+                edits.push(edit(term, edits::behind(line, &what)));
             }
-            for (row, _, _) in openings.iter().filter(|(_, own, _)| *own == step) {
-                let written = text
-                    .narration
-                    .terms
-                    .iter()
-                    .find(|(own, spot)| own == row && spot.line == number);
+            let has = self.number == 13 || self.before.holds(own.sender, self.row, Some(step));
+            for (row, _, _) in openings.iter().filter(|(_, own, _)| *own == step && has) {
+                let mut written = text.narration.terms.iter();
+                let written = written.find(|(own, spot)| own == row && spot.line == number);
                 let changed = written.and_then(|(_, spot)| with_content(line, *spot, atom));
-                edits.extend(changed.map(|line| edits::with_line(&text.lines, number, line, message.clone())));
+                edits.extend(changed.map(|line| edit(atom, line)));
             }
         }
-        let holders = (0..book.parties.len() as u32).filter(|party| self.holds(*party, self.row));
-        for party in holders.filter(|party| open && *party != self.sender) {
-            let Some(number) = subject.line(self.step) else {
-                continue;
-            };
-            let mut lines = text.lines.clone();
-            let holder = subject.party(party);
-            lines.insert(number - 1, format!("{holder} -> {sender}: {atom}"));
-            edits.push(Edit {
-                message: format!("let {holder} send {atom} to {sender} before"),
-                lines,
-                changed: vec![number],
-            });
+        let others = (0..book.parties.len() as u32).filter(|party| *party != self.sender && self.number == 10);
+        for (party, number) in others.zip(std::iter::repeat(subject.line(self.step))) {
+            let Some(number) = number else { continue };
+            for term in self.sendable(party, self.step.checked_sub(1)) {
+                let mut lines = text.lines.clone();
+                let from = subject.party(party);
+                lines.insert(number - 1, format!("{from} -> {sender}: {term}"));
+                edits.push(Edit {
+                    message: format!("let {from} send {term} to {sender} before"),
+                    lines,
+                    changed: vec![number],
+                });
+            }
         }
         edits
+    }
+
+    /// What a party could send after a step to teach the atom: the atom itself, if it has it and nothing is given away, and
+    /// ciphers with it that it stored or has sent.
+    fn sendable(&self, party: u32, step: Option<u32>) -> Vec<&str> {
+        const MOST: usize = 8;
+        let book = &self.subject.book;
+        let has = self.number == 13 || self.before.holds(party, self.row, step);
+        let atom = (has && self.is_open()).then_some(self.row);
+        let sent: Vec<u32> = (book.steps.iter().take(step.map_or(0, |step| step as usize + 1)))
+            .filter(|step| step.sender == party)
+            .flat_map(|step| step.messages.iter().copied())
+            .collect();
+        let ciphers = (0..book.rows.len() as u32).filter(|row| {
+            book.rows[*row as usize].kind == CIPHER
+                && self.subject.has_part(*row, self.row)
+                && (sent.contains(row) || self.before.holds(party, *row, step))
+        });
+        let rows = atom.into_iter().chain(ciphers.take(MOST));
+        rows.map(|row| self.subject.term(row)).collect()
     }
 
     /// Whether the atom stands in the key of a cipher.

@@ -1,9 +1,10 @@
 //! Changes of a text that may help. Each is tried before it is shown: the changed text is read, and the proved translator is
 //! asked about its book.
 
-use super::words::count;
+use super::words::{count, listed, short};
 use crate::json::{object, Json};
-use crate::subject::to_bytes;
+use crate::subject::{to_bytes, Subject};
+use narration::book::{ATOM, PRIVATE, PUBLIC};
 
 /// A changed text, and what was changed.
 #[derive(Clone, PartialEq, Eq, Debug)]
@@ -18,6 +19,8 @@ pub struct Edit {
 #[derive(Clone, PartialEq, Eq, Debug)]
 pub enum Outcome {
     Playable,
+    /// It can be played, and what was stored unchecked is checked.
+    Checked,
     Refused {
         number: u8,
         step: u32,
@@ -37,6 +40,8 @@ pub struct Help {
     pub outcome: Option<Outcome>,
     /// The changed lines with their numbers.
     pub changed: Vec<(usize, String)>,
+    /// The whole changed text, lines ended by line feeds; nothing if there was nothing to try.
+    pub text: Option<String>,
 }
 
 impl Help {
@@ -46,6 +51,7 @@ impl Help {
             message: message.into(),
             outcome: None,
             changed: Vec::new(),
+            text: None,
         }
     }
 
@@ -53,6 +59,7 @@ impl Help {
         let line = |number: usize| edit.lines.get(number - 1).map(|line| (number, line.clone()));
         Help {
             changed: edit.changed.iter().filter_map(|number| line(*number)).collect(),
+            text: Some(edit.lines.join("\n")),
             message: edit.message,
             outcome: Some(outcome),
         }
@@ -72,6 +79,7 @@ impl Help {
             ("message", self.message.as_str().into()),
             ("tried", self.outcome.as_ref().map(Outcome::sentence).into()),
             ("changed", self.changed.iter().map(line).collect::<Vec<_>>().into()),
+            ("text", self.text.clone().into()),
         ])
     }
 }
@@ -80,6 +88,7 @@ impl Outcome {
     fn sentence(&self) -> String {
         match self {
             Outcome::Playable => String::from("it can be played"),
+            Outcome::Checked => String::from("it can be played, and this is checked"),
             Outcome::Refused { number, line, atom, .. } => {
                 format!("it is refused in line {line}, for {atom} (R{number})")
             }
@@ -125,7 +134,7 @@ pub fn helpful(kinds: Vec<Vec<Edit>>, step: u32, atom: &str, most: usize) -> Vec
                     helps.push(Help::of(edit, Outcome::Playable));
                     break;
                 }
-                Outcome::Mistaken(_) => (),
+                Outcome::Checked | Outcome::Mistaken(_) => (),
                 Outcome::Refused {
                     step: stop, atom: next, ..
                 } if stop < step || (stop == step && next == atom) => (),
@@ -161,6 +170,59 @@ pub fn behind(line: &str, what: &str) -> String {
         .map_or(line, |at| &line[..at])
         .trim_end_matches([' ', '\t']);
     format!("{said}{what}{}", &line[said.len()..])
+}
+
+/// These lines with one moved down, behind another.
+pub fn moved(lines: &[String], from: usize, to: usize) -> Vec<String> {
+    let mut lines = lines.to_vec();
+    if let Some(part) = lines.get_mut(from - 1..to) {
+        part.rotate_left(1);
+    }
+    lines
+}
+
+/// These lines with a party that knows one more term from the start. The lines of the parties are where the text has them.
+pub fn knowing(subject: &Subject, lines: &[String], party: u32, term: &str) -> Option<Edit> {
+    let place = subject.text.as_ref()?.narration.parties.get(party as usize)?;
+    let number = place.name.line;
+    let what = match place.known.is_empty() {
+        true => format!(" knows {term}"),
+        false => format!(", {term}"),
+    };
+    let line = behind(lines.get(number - 1)?, &what);
+    let message = format!("let {} know {} from the start", subject.party(party), short(term));
+    Some(with_line(lines, number, line, message))
+}
+
+/// The same for several parties.
+pub fn all_knowing(subject: &Subject, lines: &[String], parties: &[u32], term: &str) -> Option<Edit> {
+    let names: Vec<String> = parties.iter().map(|party| subject.party(*party).to_string()).collect();
+    let start = Edit {
+        message: format!("let {} know {} from the start", listed(&names), short(term)),
+        lines: lines.to_vec(),
+        changed: Vec::new(),
+    };
+    parties.iter().try_fold(start, |mut all, party| {
+        let edit = knowing(subject, &all.lines, *party, term)?;
+        all.lines = edit.lines;
+        all.changed.extend(edit.changed);
+        all.changed.sort_unstable();
+        Some(all)
+    })
+}
+
+/// What opens a cipher under this key: the key itself, or the public half for a private one. A private half for a public one
+/// is nothing to be handed round.
+pub fn opening(subject: &Subject, key: u32) -> Option<String> {
+    let row = &subject.book.rows[key as usize];
+    match (row.kind, row.parts.first()) {
+        (PUBLIC, _) => None,
+        (PRIVATE, Some(part)) if subject.book.rows[*part as usize].kind == ATOM => {
+            Some(format!("{}+", subject.term(*part)))
+        }
+        (PRIVATE, _) => None,
+        _ => Some(subject.term(key).to_string()),
+    }
 }
 
 /// These lines with one changed.

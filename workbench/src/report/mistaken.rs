@@ -72,7 +72,13 @@ fn declared(lines: &[String]) -> Vec<String> {
         let name: String = rest.chars().take_while(|sign| of_a_name(*sign)).collect();
         (rest.len() < line.len() && !name.is_empty()).then_some(name)
     };
-    lines.iter().filter_map(party).collect()
+    let mut names: Vec<String> = Vec::new();
+    for name in lines.iter().filter_map(party) {
+        if !names.contains(&name) {
+            names.push(name);
+        }
+    }
+    names
 }
 
 /// The declared names that are close to the one that isn't, the closest first.

@@ -124,7 +124,7 @@ fn exchanged(one: &str, other: &str) -> bool {
 }
 
 /// Whether names differ as those of a family do: KAB and KAS, KAS and KBS, N1 and N2, N and N1, K and K'.
-fn family(one: &str, other: &str) -> bool {
+pub fn family(one: &str, other: &str) -> bool {
     let (one, other): (Vec<char>, Vec<char>) = (one.chars().collect(), other.chars().collect());
     let index = |sign: char| sign.is_uppercase() || sign.is_numeric() || sign == '\'';
     if one.len() == other.len() {

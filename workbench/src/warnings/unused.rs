@@ -2,11 +2,13 @@
 
 use crate::failure::Failure;
 use crate::guard;
+use crate::input::Input;
 use crate::listing::{Event, Image, Program, Stored};
 use crate::playable::Playable;
-use crate::proved::Source;
-use crate::report::{listed, Diagnostic};
-use crate::subject::{to_bytes, to_words, Subject};
+use crate::proved::{Answers, Source};
+use crate::report::edits::{all_knowing, attempt, moved, opening, Edit, Help, Outcome};
+use crate::report::{listed, openings, short, Diagnostic};
+use crate::subject::{open, to_bytes, to_words, Opened, Subject, Text};
 use narration::book::{Book, Party, Step, CIPHER, MOST_KNOWN, PRIVATE};
 use narration::Spot;
 use std::collections::{BTreeMap, BTreeSet};
@@ -24,24 +26,43 @@ enum Kind {
     Openable,
 }
 
+/// Where there are more warnings than this, no helps are looked for: each has to be tried.
+const MOST_HELPED: usize = 12;
+
 /// One warning for each party, step and kind.
 pub fn of(playable: &Playable) -> Result<Vec<Diagnostic>, Failure> {
-    let subject = &playable.subject;
-    let mut warnings = Vec::new();
-    for (party, program) in (0..).zip(&playable.answers.programs) {
-        let used = used(program);
-        let mut found: BTreeMap<(u32, Kind), Vec<u32>> = BTreeMap::new();
-        for own in stored(program).filter(|own| !used.contains(&own.placeholder)) {
+    let (subject, answers) = (&playable.subject, &playable.answers);
+    let mut found: BTreeMap<(u32, u32, Kind), Vec<u32>> = BTreeMap::new();
+    for (party, program) in (0..).zip(&answers.programs) {
+        for own in unused(subject, answers, party, program) {
             let kind = kind(playable, party, own.row)?;
-            found.entry((own.step, kind)).or_default().push(own.row);
+            found.entry((party, own.step, kind)).or_default().push(own.row);
         }
-        warnings.extend(
-            found
-                .into_iter()
-                .map(|((step, kind), rows)| warning(subject, party, step, kind, &rows)),
-        );
+    }
+    let helped = found.len() <= MOST_HELPED;
+    let mut warnings = Vec::new();
+    for ((party, step, kind), rows) in found {
+        let mut warning = warning(subject, party, step, kind, &rows);
+        if helped {
+            warning.helps.extend(help(subject, answers, party, step, kind, &rows)?);
+        }
+        warnings.push(warning);
     }
     Ok(warnings)
+}
+
+/// What a party stored and never used. A cipher that it opened when it came once more is no such thing.
+fn unused<'p>(
+    subject: &Subject,
+    answers: &Answers,
+    party: u32,
+    program: &'p Program,
+) -> impl Iterator<Item = Stored> + 'p {
+    let used = used(program);
+    let opened: BTreeSet<u32> = (openings(subject, answers, party).into_iter())
+        .map(|(row, ..)| row)
+        .collect();
+    stored(program).filter(move |own| !used.contains(&own.placeholder) && !opened.contains(&own.row))
 }
 
 fn stored(program: &Program) -> impl Iterator<Item = Stored> + '_ {
@@ -196,4 +217,74 @@ fn spot(subject: &Subject, step: u32, row: u32) -> Option<Spot> {
         .iter()
         .filter(|(own, spot)| *own == row && Some(spot.line) == line);
     written.map(|(_, spot)| *spot).min()
+}
+
+/// A change with which these rows are checked: the party knows the key of a cipher, or the step comes later.
+fn help(
+    subject: &Subject,
+    answers: &Answers,
+    party: u32,
+    step: u32,
+    kind: Kind,
+    rows: &[u32],
+) -> Result<Option<Help>, Failure> {
+    let Some(text) = &subject.text else { return Ok(None) };
+    let edits = match kind {
+        Kind::Plain | Kind::Signature => with_key(subject, answers, party, rows).into_iter().collect(),
+        Kind::Buildable | Kind::Openable => later(subject, text, step),
+    };
+    for edit in edits {
+        if attempt(&edit.lines) == Outcome::Playable && checked(subject, &edit.lines, party, rows)? {
+            return Ok(Some(Help::of(edit, Outcome::Checked)));
+        }
+    }
+    Ok(None)
+}
+
+/// The party knows what opens the first cipher among the rows; a key that another party made is known to that one too.
+fn with_key(subject: &Subject, answers: &Answers, party: u32, rows: &[u32]) -> Option<Edit> {
+    let kind = |row: u32| subject.book.rows[row as usize].kind;
+    let cipher = rows.iter().copied().find(|row| kind(*row) == CIPHER)?;
+    let key = subject.book.rows[cipher as usize].parts[0];
+    let parties = 0..subject.book.parties.len() as u32;
+    let maker = |other: &u32| matches!(answers.source(*other, key), Source::Made { .. });
+    let parties: Vec<u32> = parties.filter(|other| *other == party || maker(other)).collect();
+    let lines = &subject.text.as_ref()?.lines;
+    let edit = all_knowing(subject, lines, &parties, &opening(subject, key)?)?;
+    let (name, cipher) = (subject.party(party), short(subject.term(cipher)));
+    let message = format!("if {name} is to open {cipher}, {}", edit.message);
+    Some(Edit { message, ..edit })
+}
+
+/// The step's line moves down, behind each of the next ones.
+fn later(subject: &Subject, text: &Text, step: u32) -> Vec<Edit> {
+    let lines = (step + 1..subject.book.steps.len() as u32).filter_map(|next| subject.line(next));
+    let from = subject.line(step).unwrap_or(1);
+    let edit = |to: usize| Edit {
+        message: format!("move line {from} behind line {to}"),
+        lines: moved(&text.lines, from, to),
+        changed: vec![to],
+    };
+    lines.map(edit).collect()
+}
+
+/// Whether the party of a changed text leaves none of the first of these rows unused.
+fn checked(subject: &Subject, lines: &[String], party: u32, rows: &[u32]) -> Result<bool, Failure> {
+    let input = Input {
+        name: subject.name.clone(),
+        path: None,
+        bytes: lines.join("\n").into_bytes(),
+    };
+    let Opened::Subject(changed) = open(&input)? else {
+        return Ok(false);
+    };
+    let Ok(answers) = Answers::of(&changed)? else {
+        return Ok(false);
+    };
+    let program = &answers.programs[party as usize];
+    let left = unused(&changed, &answers, party, program).map(|own| changed.term(own.row));
+    let left: Vec<&str> = left.collect();
+    let cipher = |row: &&u32| subject.book.rows[**row as usize].kind == CIPHER;
+    let asked = rows.iter().find(cipher).or(rows.first());
+    Ok(asked.is_some_and(|row| !left.contains(&subject.term(*row))))
 }

@@ -90,14 +90,11 @@ fn told(text: String) -> Output {
 
 fn help() -> String {
     let mut text = String::from("nghi: what the proved translator says of a handshake, for people\n\n");
-    let line = |command: &Command| format!("nghi {} {}", command.name, command.takes);
-    let width = COMMANDS
-        .iter()
-        .map(|(command, _)| line(command).len())
-        .max()
-        .unwrap_or(0);
     for (command, _) in COMMANDS {
-        text.push_str(&format!("  {:width$}  {}\n", line(command), command.does));
+        text.push_str(&format!(
+            "  nghi {} {}\n      {}\n",
+            command.name, command.takes, command.does
+        ));
     }
     text.push_str(
         "\nFILE is a narration, a book, or - for standard input. --json answers for programs.\n\

@@ -73,14 +73,6 @@ pub fn escaped(text: &str) -> String {
     safe
 }
 
-/// A number and its noun: `1 step`, `2 steps`.
-pub fn counted(number: usize, one: &str, more: &str) -> String {
-    match number {
-        1 => format!("1 {one}"),
-        _ => format!("{number} {more}"),
-    }
-}
-
 #[cfg(test)]
 mod tests {
     use super::*;

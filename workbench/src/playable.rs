@@ -16,13 +16,16 @@ pub struct Playable {
 /// The command's first file, if it can be played; else what `nghi check` says of it.
 pub fn open(call: &Call) -> Result<Result<Playable, Output>, Failure> {
     let input = Input::read(&call.places[0])?;
-    Ok(examine(&input)?.map_err(|report| {
-        let status = report.status();
-        match call.has("--json") {
-            true => Output::answer(format!("{}\n", report::answered(&[report], status)), status),
-            false => Output::error(report.text(&[]), status),
-        }
-    }))
+    Ok(examine(&input)?.map_err(|report| told(call, report)))
+}
+
+/// What a command answers of a file that it can do nothing with.
+pub fn told(call: &Call, report: Report) -> Output {
+    let status = report.status();
+    match call.has("--json") {
+        true => Output::answer(format!("{}\n", report::answered(&[report], status)), status),
+        false => Output::error(report.text(&[]), status),
+    }
 }
 
 /// What was handed in, if it can be played; else why it can't.

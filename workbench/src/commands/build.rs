@@ -2,11 +2,12 @@
 
 use crate::arguments::{Call, Command};
 use crate::commands::Output;
-use crate::failure::{Failure, MISTAKE, PLAYABLE, REFUSED};
+use crate::failure::{Failure, PLAYABLE, REFUSED};
 use crate::input::Input;
 use crate::json::answer;
+use crate::playable;
 use crate::proved::Answers;
-use crate::report;
+use crate::report::{self, count};
 use crate::store::{self, Target};
 use crate::subject::{open, Opened, Subject};
 use std::ffi::OsStr;
@@ -23,13 +24,11 @@ pub static COMMAND: Command = Command {
 pub fn run(call: &Call) -> Result<Output, Failure> {
     let (book, names) = places(call)?;
     let input = Input::read(&call.places[0])?;
+    let unreadable = |report| Ok(playable::told(call, report));
     let subject = match open(&input)? {
         Opened::Subject(subject) => subject,
-        Opened::Mistaken { lines, mistakes } => {
-            let text = report::mistakes(&input.name, &lines, &mistakes);
-            return Ok(Output::error(text, MISTAKE));
-        }
-        Opened::Refused(refusal) => return Ok(Output::error(report::no_book(&input.name, refusal), REFUSED)),
+        Opened::Mistaken { lines, mistakes } => return unreadable(report::mistaken(&input.name, lines, &mistakes)),
+        Opened::Refused(refusal) => return unreadable(report::no_book(&input.name, refusal)),
     };
     let source = input.path.clone().or_else(store::standard_input);
     let force = call.has("--force");
@@ -114,19 +113,18 @@ fn told(call: &Call, subject: &Subject, (book, names): &(String, String)) -> Res
             format!("{answer}\n")
         }
         false => {
-            let refused = refusal.map_or_else(String::new, |refusal| report::unplayable(subject, refusal));
+            let refused = match refusal {
+                Some(refusal) => report::unplayable(subject, refusal)?.text(&[]),
+                None => String::new(),
+            };
             let counts = [
-                counted(rows, "row", "rows"),
-                counted(parties, "party", "parties"),
-                counted(steps, "step", "steps"),
-                counted(bytes, "byte", "bytes"),
+                count(rows, "row", "rows"),
+                count(parties, "party", "parties"),
+                count(steps, "step", "steps"),
+                count(bytes, "byte", "bytes"),
             ];
             format!("wrote {book}: {}\nwrote {names}\n{refused}", counts.join(", "))
         }
     };
     Ok(Output::answer(text, status))
-}
-
-fn counted(number: usize, one: &str, more: &str) -> String {
-    format!("{number} {}", if number == 1 { one } else { more })
 }

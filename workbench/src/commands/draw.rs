@@ -4,8 +4,9 @@ use crate::arguments::{Call, Command};
 use crate::commands::Output;
 use crate::draw::scene::{too_many, Scene};
 use crate::draw::{is_ours, picture, Form, MOST_EVENTS};
-use crate::failure::{Failure, MISTAKE, PLAYABLE, REFUSED};
+use crate::failure::{Failure, PLAYABLE, REFUSED};
 use crate::input::Input;
+use crate::playable;
 use crate::proved::Answers;
 use crate::report;
 use crate::run::Order;
@@ -42,12 +43,10 @@ enum Place {
 pub fn run(call: &Call) -> Result<Output, Failure> {
     let asked = asked(call)?;
     let input = Input::read(&call.places[0])?;
+    let unreadable = |report| Ok(playable::told(call, report));
     let subject = match open(&input)? {
-        Opened::Mistaken { lines, mistakes } => {
-            let text = report::mistakes(&input.name, &lines, &mistakes);
-            return Ok(Output::error(text, MISTAKE));
-        }
-        Opened::Refused(refusal) => return Ok(Output::error(report::no_book(&input.name, refusal), REFUSED)),
+        Opened::Mistaken { lines, mistakes } => return unreadable(report::mistaken(&input.name, lines, &mistakes)),
+        Opened::Refused(refusal) => return unreadable(report::no_book(&input.name, refusal)),
         Opened::Subject(subject) => *subject,
     };
     let order = Order::asked(call, &subject)?;
@@ -57,13 +56,7 @@ pub fn run(call: &Call) -> Result<Output, Failure> {
     match asked.picture {
         None => (),
         Some((form, Place::Out)) => answer = Some(picture(&scene, form)?),
-        Some((form, Place::File(path))) => {
-            let source = input.path.clone().or_else(store::standard_input);
-            let force = call.has("--force");
-            let target = Target::of(Path::new(&path), source.as_deref(), is_ours, "picture of nghi's", force)?;
-            store::write(&[(target, picture(&scene, form)?.as_bytes())])?;
-            told = told_of(&path, &scene);
-        }
+        Some((form, Place::File(path))) => told = write(&input, &scene, form, &path, call.has("--force"))?,
     }
     // What is on standard output says itself why it stops.
     Ok(match (answer, refused) {
@@ -72,6 +65,14 @@ pub fn run(call: &Call) -> Result<Output, Failure> {
         (None, None) => Output::answer(told, PLAYABLE),
         (None, Some(why)) => Output::error(format!("{why}{told}"), REFUSED),
     })
+}
+
+/// Writes the picture of a scene into a file, and tells so.
+pub fn write(input: &Input, scene: &Scene, form: Form, path: &OsStr, force: bool) -> Result<String, Failure> {
+    let source = input.path.clone().or_else(store::standard_input);
+    let target = Target::of(Path::new(path), source.as_deref(), is_ours, "picture of nghi's", force)?;
+    store::write(&[(target, picture(scene, form)?.as_bytes())])?;
+    Ok(told_of(path, scene))
 }
 
 /// The scene, and, where the subject is refused, what `nghi check` says of it.
@@ -88,7 +89,7 @@ pub fn scene(subject: Subject, order: &Order) -> Result<(Scene, Option<String>),
             None => Ok((Scene::of(&subject, &answers, order)?, None)),
         },
         Err(refusal) => {
-            let why = report::unplayable(&subject, refusal);
+            let why = report::unplayable(&subject, refusal)?.text(&[]);
             let scene = Scene::of_refused(subject, refusal, order)?.map_err(large)?;
             Ok((scene, Some(why)))
         }

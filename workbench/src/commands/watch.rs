@@ -1,12 +1,15 @@
 //! `nghi watch`: a file, or the narrations of a folder, checked again on every change.
 
 use crate::arguments::{Call, Command};
-use crate::commands::Output;
-use crate::failure::{Failure, FILE, PLAYABLE};
-use crate::json::{answer, Json};
-use crate::playable;
+use crate::commands::{check, draw, Output};
+use crate::draw::Form;
+use crate::failure::{Failure, PLAYABLE};
+use crate::input::Input;
+use crate::report::{self, Report};
+use crate::run::Order;
+use crate::subject::{open, Opened};
 use std::collections::BTreeMap;
-use std::ffi::{OsStr, OsString};
+use std::ffi::OsStr;
 use std::fs;
 use std::io::{self, ErrorKind, Write};
 use std::path::{Path, PathBuf};
@@ -15,10 +18,14 @@ use std::time::{Duration, SystemTime};
 
 pub static COMMAND: Command = Command {
     name: "watch",
-    takes: "PATH [--once] [--json]",
+    takes: "PATH [--html X.html] [--once] [--json]",
     does: "checks a file, or a folder's narrations, again on every change",
     places: (1, 1),
-    options: &[("--once", None), ("--json", None)],
+    options: &[
+        ("--html", Some("a page of the file's run, drawn again on every change")),
+        ("--once", None),
+        ("--json", None),
+    ],
 };
 
 const EVERY: Duration = Duration::from_millis(200);
@@ -35,20 +42,17 @@ pub fn run(call: &Call) -> Result<Output, Failure> {
         };
         return Err(Failure::file(format!("{}: {why}", path.display())));
     }
+    if call.has("--html") && path.is_dir() {
+        return Err(Failure::command_line(
+            "`--html` draws one file's page, and a folder is watched",
+        ));
+    }
     let mut known = BTreeMap::new();
     let mut worst = PLAYABLE;
     loop {
-        for told in changes(path, &mut known) {
-            let name = told.path().display().to_string();
-            let (text, status) = match &told {
-                Change::Written(path) => verdict(path),
-                Change::Gone(_) => (format!("{name}: it is gone\n"), FILE),
-            };
+        for change in changes(path, &mut known) {
+            let (text, status) = told(call, &change)?;
             worst = worst.max(status);
-            let text = match call.has("--json") {
-                true => format!("{}\n", json(&name, &text, status)),
-                false => text,
-            };
             if !say(&text)? {
                 // Nobody reads on: that is how a watch ends.
                 return Ok(Output::answer(String::new(), PLAYABLE));
@@ -61,23 +65,42 @@ pub fn run(call: &Call) -> Result<Output, Failure> {
     }
 }
 
-/// What is said of a file, and its status.
-fn verdict(path: &Path) -> (String, u8) {
-    let places = [OsString::from("--"), path.as_os_str().to_os_string()];
-    match Call::of(&COMMAND, &places).and_then(|call| playable::open(&call)) {
-        Ok(Ok(playable)) => (format!("{}: playable\n", playable.subject.name), PLAYABLE),
-        Ok(Err(output)) => (output.text, output.status),
-        Err(failure) => (format!("{failure}\n"), failure.status),
+/// What `nghi check` says of a file, or that it is gone; and where a page is asked for, it is drawn anew.
+fn told(call: &Call, change: &Change) -> Result<(String, u8), Failure> {
+    let name = change.path().display().to_string();
+    let gone = || Failure::file(format!("{name}: it is gone"));
+    let input = match change {
+        Change::Written(path) => Input::read(path.as_os_str()),
+        Change::Gone(_) => Err(gone()),
+    };
+    let report = match &input {
+        Ok(input) => check::of(input)?,
+        Err(failure) => Report::unread(&name, failure),
+    };
+    let status = report.status();
+    let mut text = match call.has("--json") {
+        true => format!("{}\n", report::answered(&[report], status)),
+        false => report.text(&[]),
+    };
+    if let (Ok(input), Some(page)) = (&input, call.last("--html")) {
+        let drawn = drawn(input, page);
+        // Standard output is for the answers alone where programs read it.
+        if !call.has("--json") {
+            text.push_str(&drawn.unwrap_or_else(|failure| format!("{failure}\n")));
+        }
     }
+    Ok((text, status))
 }
 
-fn json(name: &str, text: &str, status: u8) -> Json {
-    let fields = [
-        ("file", name.into()),
-        ("status", u32::from(status).into()),
-        ("text", text.into()),
-    ];
-    answer("watch", fields)
+/// Draws the page of a file, if it has a run; a refused one up to its step.
+fn drawn(input: &Input, page: &OsStr) -> Result<String, Failure> {
+    match open(input)? {
+        Opened::Subject(subject) => {
+            let (scene, _) = draw::scene(*subject, &Order::Narration)?;
+            draw::write(input, &scene, Form::Html, page, false)
+        }
+        _ => Ok(String::new()),
+    }
 }
 
 /// Writes to standard output at once; false where nobody reads on.

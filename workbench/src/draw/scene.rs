@@ -1,11 +1,11 @@
 //! A scene: everything that a picture of a run shows, before it has any shape. What is in it comes from the proved answers,
 //! told; here it is only put together, and compared once more where it could come apart.
 
-use crate::draw::counted;
 use crate::failure::Failure;
 use crate::json::{answer, object, Json};
 use crate::listing::Event as Done;
 use crate::proved::{Answers, Source};
+use crate::report::count;
 use crate::run::{run, Order};
 use crate::subject::{to_bytes, Subject};
 use crate::told::{Names, Told};
@@ -154,9 +154,9 @@ impl Scene {
     pub fn size(&self) -> String {
         format!(
             "{}, {}, {}; order: {}",
-            counted(self.parties.len(), "party", "parties"),
-            counted(self.steps.len(), "step", "steps"),
-            counted(self.events(), "event", "events"),
+            count(self.parties.len(), "party", "parties"),
+            count(self.steps.len(), "step", "steps"),
+            count(self.events(), "event", "events"),
             self.order
         )
     }

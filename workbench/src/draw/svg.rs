@@ -5,9 +5,10 @@
 //! column. An arrow has a row of its own between SEND and what comes next. Where the message waits, as the receiver does
 //! something else first, the arrow goes down beside the receiver's chips until RECEIVE.
 
+use super::escaped;
 use super::scene::{Event, Scene, Step, Stop};
-use super::{counted, escaped};
 use crate::failure::Failure;
+use crate::report::count;
 use std::fmt::Write;
 
 /// What every picture of ours begins with.
@@ -536,7 +537,7 @@ fn stop_lines(stop: &Stop) -> Vec<String> {
         0 => String::new(),
         later => format!(
             "; {} after it {} not drawn",
-            counted(later, "step", "steps"),
+            count(later, "step", "steps"),
             if later == 1 { "is" } else { "are" }
         ),
     };

@@ -130,3 +130,34 @@ pub fn rehearse(subject: &Subject, moves: &[u32]) -> Result<Vec<u32>, Refusal> {
     let length = nghiralum::rehearse(&subject.bytes, &to_bytes(moves), &mut done)?;
     Ok(to_words(&done[..length]))
 }
+
+#[cfg(test)]
+mod tests {
+    use super::*;
+    use crate::input::Input;
+    use crate::subject::{open, Opened};
+
+    /// One altered word of a summary, and one row that is held in another way, break the guard.
+    #[test]
+    fn what_is_held_is_told_twice() {
+        let input = Input {
+            name: "text".to_string(),
+            path: None,
+            bytes: b"party A knows K\nparty B knows K\nB -> A: N\nA -> B: {N}K\n".to_vec(),
+        };
+        let Ok(Opened::Subject(subject)) = open(&input) else {
+            panic!("a narration");
+        };
+        let whole = || Answers::of(&subject).expect("no guard").expect("it can be played");
+        let status = |answers: &Answers| answers.agree(&subject.book).map_err(|failure| failure.status);
+        assert_eq!(status(&whole()), Ok(()));
+        for at in 3..whole().summary.0.len() {
+            let mut altered = whole();
+            altered.summary.0[at] += 1;
+            assert_eq!(status(&altered), Err(70), "word {at}");
+        }
+        let mut altered = whole();
+        altered.sources[0][0] = Source::Made { step: 1 };
+        assert_eq!(status(&altered), Err(70));
+    }
+}

@@ -1,0 +1,95 @@
+//! Each guard breaks where one thing is altered, and says so with status 70.
+
+use std::path::Path;
+use workbench::guard;
+use workbench::input::Input;
+use workbench::listing::{Event, Program};
+use workbench::proved::Answers;
+use workbench::subject::{open, to_words, Opened, Subject};
+use workbench::told::Names;
+
+fn subject(name: &str) -> Subject {
+    let path = Path::new(env!("CARGO_MANIFEST_DIR")).join("../books").join(name);
+    match open(&Input::read(path.as_os_str()).expect("a file")) {
+        Ok(Opened::Subject(subject)) => *subject,
+        _ => panic!("{name} is a narration"),
+    }
+}
+
+fn answers(subject: &Subject) -> Answers {
+    match Answers::of(subject) {
+        Ok(Ok(answers)) => answers,
+        _ => panic!("{} can be played", subject.name),
+    }
+}
+
+#[test]
+fn terms() {
+    let whole = subject("wide-mouthed-frog.narration");
+    assert!(guard::terms(&whole).is_ok());
+    for row in 0..whole.terms.len() {
+        let mut altered = subject("wide-mouthed-frog.narration");
+        altered.terms[row].push('\'');
+        let told = guard::terms(&altered).map_err(|failure| failure.status);
+        // Every row of this text is a party's name, is known or is sent as it is, or stands in one that is.
+        let seen = told == Err(70);
+        let inside = altered
+            .book
+            .rows
+            .iter()
+            .any(|other| other.parts.contains(&(row as u32)));
+        assert!(seen || inside, "row {row}");
+    }
+    // A line that says something else than what was read.
+    let mut altered = subject("wide-mouthed-frog.narration");
+    if let Some(text) = &mut altered.text {
+        let line = text.narration.steps[0].sender.line - 1;
+        text.lines[line] = text.lines[line].replace("KAB", "KAC");
+    }
+    let failure = guard::terms(&altered).expect_err("it is altered");
+    assert_eq!(failure.status, 70);
+    assert!(failure.message.contains("KAC"), "{failure}");
+}
+
+#[test]
+fn listing() {
+    let subject = subject("example-1.narration");
+    let words = to_words(&nghiralum::listing(&subject.bytes).expect("a listing"));
+    assert!(guard::listing(&words).is_ok());
+    let heads = 1 + 2 * subject.book.parties.len();
+    for at in 0..heads {
+        let mut altered = words.clone();
+        altered[at] += 1;
+        let told = guard::listing(&altered).map_err(|failure| failure.status);
+        assert_eq!(told, Err(70), "word {at}");
+    }
+}
+
+#[test]
+fn placeholders() {
+    let subject = subject("wide-mouthed-frog.narration");
+    let names = Names::of(&subject);
+    for program in &answers(&subject).programs {
+        assert!(names.program(program).is_ok());
+        let told = |altered: &Program| names.program(altered).map_err(|failure| failure.status);
+        for at in 0..program.len() {
+            let mut altered = program.clone();
+            match &mut altered[at] {
+                Event::End { stored } if !stored.is_empty() => stored[0].placeholder += 1,
+                Event::Receive { n, .. } | Event::Open { n, .. } => *n += 1,
+                Event::Check { placeholder, .. } => *placeholder += 100,
+                _ => continue,
+            }
+            assert_eq!(told(&altered), Err(70), "event {at}");
+        }
+    }
+}
+
+#[test]
+fn moves() {
+    for after in [[3, 2], [0, 2], [2, 3], [1, 3]] {
+        let told = guard::moved(&[1, 2], &after, 0).map_err(|failure| failure.status);
+        assert_eq!(told, Err(70));
+    }
+    assert_eq!(guard::moved(&[1, 2], &[2, 2], 0), Ok(true));
+}

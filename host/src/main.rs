@@ -94,6 +94,7 @@ fn run(arguments: &[String]) -> Result<bool, String> {
         ["narrate", file, out @ ..] if out.len() < 2 => {
             let book = narration::narrate(&files::text(Path::new(file))?);
             let book = book.map_err(|mistake| format!("{file}: {mistake}"))?;
+            another(file, out.first())?;
             give(&words::to_bytes(&book.words()), out.first())?;
         }
         ["show", file] => tell(words_of(file, book::READ)?.map(|words| show::show(&words)))?,
@@ -116,6 +117,7 @@ fn run(arguments: &[String]) -> Result<bool, String> {
         ["words", file, out @ ..] if out.len() < 2 => {
             let words = words::of_text(&files::text(Path::new(file))?);
             let words = words.map_err(|mistake| format!("{file}: {mistake}"))?;
+            another(file, out.first())?;
             give(&words::to_bytes(&words), out.first())?;
         }
         ["books", "--check", folder] => {
@@ -270,6 +272,17 @@ fn tell(answer: Result<String, Refusal>) -> Result<(), String> {
 
 fn say(text: &str) -> Result<(), String> {
     give(text.as_bytes(), None)
+}
+
+/// Refuses to write over the source.
+fn another(source: &str, out: Option<&&str>) -> Result<(), String> {
+    let full = |path: &str| std::fs::canonicalize(path).ok();
+    match out {
+        Some(out) if full(source).is_some() && full(source) == full(out) => {
+            Err(format!("{out}: this is the source, and it is not written over"))
+        }
+        _ => Ok(()),
+    }
 }
 
 /// Writes bytes to a file, or to standard output; a closed pipe is an error like any other.

@@ -65,6 +65,12 @@ fn narrate_and_show() {
     let again = folder.path("2.book");
     printed(&["narrate", &narration, &again]);
     assert_eq!(printed(&["translate", &again]), line_1());
+    // Neither is written over its source.
+    for (command, source) in [("narrate", &narration), ("words", &text)] {
+        let before = fs::read(source).expect("the source");
+        assert!(complains(&[command, source, source]).contains("not written over"));
+        assert_eq!(fs::read(source).expect("the source"), before);
+    }
     let uneven = folder.file("uneven.book", [0]);
     assert_eq!(printed(&["show", &uneven]), "refused 1 0\n");
 }

@@ -480,6 +480,10 @@ fn build_over_nothing_else() {
         std::os::unix::fs::symlink("nowhere", folder.path("lost.book")).unwrap();
         build("soft.book", true, 4, "the file that is read");
         build("lost.book", true, 4, "leads nowhere");
+        let socket = std::os::unix::net::UnixListener::bind(folder.path("socket.book")).unwrap();
+        build("socket.book", true, 4, "no ordinary file");
+        drop(socket);
+        fs::remove_file(folder.path("socket.book")).unwrap();
         // The names' file is the source.
         fs::hard_link(&source, folder.path("z.names")).unwrap();
         build("z.book", true, 4, "the file that is read");
@@ -612,7 +616,7 @@ fn watch_changes_until_nobody_reads() {
     drop(lines);
     fs::write(&file, "party ABC\n").unwrap();
     let mut ended = None;
-    for _ in 0..200 {
+    for _ in 0..1_200 {
         ended = child.try_wait().expect("its state");
         if ended.is_some() {
             break;

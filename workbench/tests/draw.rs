@@ -334,7 +334,7 @@ fn good_picture(elements: &[Element], events: usize, name: &str) {
             "{name}"
         );
         assert!(
-            text.number("x") + 8 * text.text.chars().count() as i64 <= own.right,
+            text.number("x") + 8 * text.text.chars().count() as i64 + 4 <= own.right,
             "{name}: {}",
             text.text
         );
@@ -345,14 +345,24 @@ fn good_picture(elements: &[Element], events: usize, name: &str) {
     let lifelines = elements.iter().position(|part| part.is("lifelines")).unwrap();
     let lines: BTreeSet<i64> = of(lifelines, "path").iter().map(|path| begins(path).0).collect();
     let mut waits: Vec<Rect> = Vec::new();
-    for at in (0..elements.len()).filter(|at| elements[*at].is("arrow")) {
-        let paths = of(at, "path");
+    for arrow in (0..elements.len()).filter(|at| elements[*at].is("arrow")) {
+        let paths = of(arrow, "path");
         let (from, tip) = (begins(paths[0]), begins(paths[1]));
-        assert!(paths[0].is("line") && paths[1].is("tip") && of(at, "title").len() == 1);
+        assert!(paths[0].is("line") && paths[1].is("tip") && of(arrow, "title").len() == 1);
         assert!(lines.contains(&from.0), "{name}: an arrow leaves no lifeline");
         assert!(
             lines.contains(&tip.0) || lefts.contains(&tip.0),
             "{name}: an arrow reaches nothing"
+        );
+        // It ends where the message is received: right above that chip, or at its left edge.
+        let received = |at: &usize| {
+            elements[*at].is("receive") && elements[*at].get("data-step") == elements[arrow].get("data-step")
+        };
+        let received = rect(of((0..elements.len()).find(received).unwrap(), "rect")[0]);
+        let above = tip == (received.x + 36, received.y - 12);
+        assert!(
+            above || tip == (received.x, received.y + 12),
+            "{name}: {tip:?}, {received:?}"
         );
         for piece in pieces(paths[0]) {
             let through = |rect: &&Rect| {
@@ -371,7 +381,7 @@ fn good_picture(elements: &[Element], events: usize, name: &str) {
                 waits.push(piece);
             }
         }
-        let text = of(at, "text")[0];
+        let text = of(arrow, "text")[0];
         let half = 4 * text.text.chars().count() as i64;
         assert!(
             text.number("x") - half >= 0 && text.number("x") + half <= width,
@@ -519,7 +529,7 @@ fn other_orders_are_drawn() {
     let mut waits = 0;
     for path in books() {
         let source = fs::read_to_string(&path).unwrap();
-        if source.len() > 1_500 {
+        if source.len() > 800 {
             continue;
         }
         let path = path.to_str().unwrap();

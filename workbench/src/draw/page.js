@@ -7,7 +7,7 @@
   var told = stepper.querySelector("output");
   var last = data.moves.length;
   var every = function (query, act) { Array.prototype.forEach.call(document.querySelectorAll(query), act); };
-  var numbers = {};
+  var numbers = Object.create(null);
   data.parties.forEach(function (party, number) { numbers[party.name] = number; });
 
   // A chip has its sign to the right of it.

@@ -214,8 +214,12 @@ impl Playing<'_> {
 
     fn narration(&mut self) -> Result<(), Failure> {
         for (number, step) in (0..).zip(&self.subject.book.steps) {
-            let sent = self.ask_while(step.sender, |event| sends(event, number))?;
-            if !sent || !self.ask_while(step.receiver, |event| receives(event, number))? {
+            while !self.sent(number) && self.can_move(step.sender) {
+                if !self.ask(step.sender)? {
+                    return Ok(());
+                }
+            }
+            if !self.ask_while(step.receiver, |event| receives(event, number))? {
                 return Ok(());
             }
         }
@@ -279,15 +283,6 @@ impl Playing<'_> {
             self.run.ends.push(next);
         }
         Ok(self.run)
-    }
-}
-
-/// Whether an event is done up to and with the SEND of this step, by its sender.
-fn sends(event: &Event, number: u32) -> bool {
-    match event {
-        Event::Send { step, .. } | Event::Receive { step, .. } => *step <= number,
-        Event::End { .. } => false,
-        Event::New { .. } | Event::Check { .. } | Event::Open { .. } => true,
     }
 }
 
@@ -389,10 +384,10 @@ mod tests {
         }
     }
 
-    /// A receiver makes nothing before it is its turn to send.
+    /// Nobody makes anything before it is its turn to send it.
     #[test]
     fn a_narrations_order_makes_late() {
-        let text = "party A\nparty B\nparty C\nA -> B: M\nC -> A: K\nB -> A: N\n";
+        let text = "party A\nparty B\nparty C\nA -> B: M\nC -> A: K\nB -> A: N\nA -> B: O\n";
         let (subject, answers) = subject(Input {
             name: "text".to_string(),
             path: None,
@@ -404,6 +399,7 @@ mod tests {
             [(0, 0), (0, 1), (1, 0)],
             [(2, 0), (2, 1), (0, 2)],
             [(1, 1), (1, 2), (0, 3)],
+            [(0, 4), (0, 5), (1, 3)],
         ];
         assert_eq!(schedule(&told), expected.concat());
     }

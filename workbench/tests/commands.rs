@@ -577,12 +577,13 @@ fn watch_once() {
     let folder = Folder::new("watch-once");
     fs::copy(EXAMPLE, folder.path("b.narration")).unwrap();
     let file = folder.text("b.narration");
-    answers(&["watch", &file, "--once"], 0, &format!("{file}: playable\n"));
+    let playable = format!("{file}: playable, 2 parties, 2 steps\n");
+    answers(&["watch", &file, "--once"], 0, &playable);
     fs::copy(UNPLAYABLE, folder.path("a.narration")).unwrap();
     fs::write(folder.path("c.txt"), "no narration").unwrap();
     let output = ran(&["watch", folder.0.to_str().unwrap(), "--once"]);
     assert_eq!(status(&output), 1);
-    assert!(out(&output).contains("a.narration") && out(&output).ends_with(&format!("{file}: playable\n")));
+    assert!(out(&output).contains("a.narration") && out(&output).ends_with(&playable));
     fs::write(folder.path("d.narration"), "party\n").unwrap();
     let output = ran(&["watch", folder.0.to_str().unwrap(), "--once"]);
     assert!(
@@ -608,11 +609,11 @@ fn watch_changes_until_nobody_reads() {
         .expect("it runs");
     let mut lines = BufReader::new(child.stdout.take().expect("piped")).lines();
     let mut line = || lines.next().expect("a line").expect("text");
-    assert!(line().ends_with("w.narration: playable"));
+    assert!(line().ends_with("w.narration: playable, 1 party, 0 steps"));
     fs::write(&file, "party A knows\n").unwrap();
     while !line().contains("expected a term") {}
     fs::write(&file, "party AB\n").unwrap();
-    while !line().ends_with("w.narration: playable") {}
+    while !line().ends_with("w.narration: playable, 1 party, 0 steps") {}
     drop(lines);
     fs::write(&file, "party ABC\n").unwrap();
     let mut ended = None;
@@ -732,7 +733,9 @@ fn json_is_one_line_with_the_version() {
         }
         arguments.push("--json");
         let text = out(&ran(&arguments));
-        let front = format!("{{\"nghi\": 1, \"command\": \"{}\", ", call[0]);
+        // A watch answers each change as a check does.
+        let command = if call[0] == "watch" { "check" } else { call[0] };
+        let front = format!("{{\"nghi\": 1, \"command\": \"{command}\", ");
         assert!(text.starts_with(&front), "{arguments:?}: {text}");
         assert!(
             text.ends_with("}\n") && text.lines().count() == 1,

@@ -593,6 +593,14 @@ fn watch_once() {
     );
     assert!(!out(&output).contains("c.txt"));
     refuses(&["watch", &folder.text("none"), "--once"], 4, "no such file or folder");
+    // And the page of what is watched.
+    let page = folder.text("b.html");
+    let output = ran(&["watch", &file, "--html", &page, "--once"]);
+    assert_eq!(status(&output), 0);
+    assert!(out(&output).starts_with(&playable) && out(&output).contains("b.html"));
+    assert!(fs::read_to_string(&page).unwrap().starts_with("<!DOCTYPE html>"));
+    let both = folder.0.to_str().unwrap();
+    refuses(&["watch", both, "--html", &page, "--once"], 2, "a folder is watched");
 }
 
 #[test]

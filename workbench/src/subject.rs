@@ -7,6 +7,7 @@ use narration::book::Book;
 use narration::{Mistake, Names, Narration};
 use nghiralum::Refusal;
 
+#[derive(Clone)]
 pub struct Subject {
     /// What its source is called.
     pub name: String,
@@ -20,6 +21,7 @@ pub struct Subject {
     pub terms: Vec<String>,
 }
 
+#[derive(Clone)]
 pub struct Text {
     pub lines: Vec<String>,
     pub narration: Narration,

@@ -2,7 +2,7 @@
 
 use super::edits::{self, Edit, Outcome};
 use super::refused::{around_of, makes_nothing, openings, Case};
-use super::short;
+use super::{listed, short};
 use crate::arguments::distance;
 use crate::proved::Source;
 use crate::subject::Text;
@@ -11,12 +11,10 @@ use narration::book::{ATOM, CIPHER, PRIVATE, PUBLIC};
 use narration::Spot;
 
 impl Case<'_> {
-    /// Changes that may help, by kind, the likeliest first.
-    pub fn edits(&self, text: &Text) -> Vec<Vec<Edit>> {
+    /// Changes that may help, by kind, the likeliest first, where the sender lacks these atoms for the step.
+    pub fn edits(&self, text: &Text, lacking: &[u32]) -> Vec<Vec<Edit>> {
         let names = self.other_names(text);
-        let given = self.needed(text, self.row);
-        let given = given.and_then(|term| edits::knowing(self.subject, &text.lines, self.sender, term));
-        let given: Vec<Edit> = given.into_iter().collect();
+        let given: Vec<Edit> = self.given(text, lacking).into_iter().collect();
         match self.number {
             10 => vec![
                 names,
@@ -63,6 +61,21 @@ impl Case<'_> {
             Some(edits::with_line(&text.lines, number, line, message))
         };
         names.into_iter().filter_map(edit).collect()
+    }
+
+    /// The sender knows from the start what it needs of these atoms.
+    fn given(&self, text: &Text, lacking: &[u32]) -> Option<Edit> {
+        let needed: Option<Vec<String>> = (lacking.iter())
+            .map(|atom| self.needed(text, *atom).map(str::to_string))
+            .collect();
+        let needed = needed?;
+        let edit = edits::knowing(self.subject, &text.lines, self.sender, &needed.join(", "))?;
+        let message = format!(
+            "let {} know {} from the start",
+            self.subject.party(self.sender),
+            listed(&needed)
+        );
+        Some(Edit { message, ..edit })
     }
 
     /// A cipher that was stored too early arrives later: its step moves down, behind each of the next ones.
@@ -147,9 +160,8 @@ impl Case<'_> {
         }
     }
 
-    /// What the sender would have to know in place of an atom: the half of it that it needs, or the atom itself. A private
-    /// half that another party has is none of its business.
-    fn needed(&self, text: &Text, atom: u32) -> Option<&str> {
+    /// What the sender would have to know in place of an atom: the half of it that it needs, or the atom itself.
+    pub fn needed_row(&self, text: &Text, atom: u32) -> u32 {
         let here = self.here(text, atom);
         let half = |(row, spot): &&(u32, Spot)| {
             let own = &self.subject.book.rows[*row as usize];
@@ -157,7 +169,12 @@ impl Case<'_> {
                 && own.parts[0] == atom
                 && here.is_some_and(|here| around_of(*spot, here))
         };
-        let needed = self.written(text).find(half).map_or(atom, |(row, _)| *row);
+        self.written(text).find(half).map_or(atom, |(row, _)| *row)
+    }
+
+    /// The same, but that a private half which another party has is none of its business.
+    fn needed(&self, text: &Text, atom: u32) -> Option<&str> {
+        let needed = self.needed_row(text, atom);
         let mut parties = 0..self.subject.book.parties.len() as u32;
         let another = parties.any(|party| party != self.sender && self.holds(party, needed));
         let private = self.subject.book.rows[needed as usize].kind == PRIVATE;

@@ -123,12 +123,13 @@ pub fn attempt(lines: &[String]) -> Outcome {
 }
 
 /// Of each kind of change the first with which a refused text can be played; if there is none, one that it comes further
-/// with, or as far and there lacks another atom.
-pub fn helpful(kinds: Vec<Vec<Edit>>, step: u32, atom: &str, most: usize) -> Vec<Help> {
+/// with, or as far and there lacks another atom. A line that was put in is a step more before the refused one.
+pub fn helpful(lines: &[String], kinds: Vec<Vec<Edit>>, step: u32, atom: &str, most: usize) -> Vec<Help> {
     let mut helps: Vec<Help> = Vec::new();
     let mut later: Option<(u32, Help)> = None;
     for edits in kinds {
         for edit in edits {
+            let step = step + edit.lines.len().saturating_sub(lines.len()) as u32;
             match attempt(&edit.lines) {
                 Outcome::Playable => {
                     helps.push(Help::of(edit, Outcome::Playable));

@@ -27,31 +27,37 @@ pub fn marks(name: &str, lines: &[String], marks: &[Mark], margin: usize) -> Str
     };
     let Spot { line, column, .. } = first.spot;
     let mut text = format!("{:margin$}--> {name}:{line}:{column}\n{:margin$} |\n", "", "");
-    let mut above = None;
+    // Marks of one line stand under it together, in the order in which the lines are first marked.
+    let mut shown: Vec<(usize, usize, String, String)> = Vec::new();
     for (n, mark) in marks.iter().enumerate() {
         let Spot { line, column, length } = mark.spot;
         let whole = lines.get(line - 1).map_or("", String::as_str);
-        let (shown, skipped) = part(whole, column);
-        if above.is_some_and(|above| above != (line, skipped)) {
-            text.push_str(&format!("{:margin$} |\n", ""));
+        let (part, skipped) = part(whole, column);
+        let under = under(&part, column - 1 - skipped, length, if n == 0 { "^" } else { "-" });
+        let label = format!("{:margin$} | {under} {}", "", mark.label);
+        let label = format!("{}\n", label.trim_end());
+        match shown.iter_mut().find(|own| (own.0, own.1) == (line, skipped)) {
+            Some(own) => own.3.push_str(&label),
+            None => shown.push((line, skipped, part, label)),
         }
-        if above != Some((line, skipped)) {
-            text.push_str(format!("{line:margin$} | {shown}").trim_end_matches(' '));
-            text.push('\n');
-        }
-        above = Some((line, skipped));
-        let before: String = (shown.chars().take(column - 1 - skipped))
-            .map(|sign| if sign == '\t' { '\t' } else { ' ' })
-            .collect();
-        // The place just behind a line's end, and behind blanks that nobody sees, is marked too.
-        let before = format!("{before:width$}", width = column - 1 - skipped);
-        let under = if n == 0 { "^" } else { "-" };
-        let width = shown.chars().count().saturating_sub(column - 1 - skipped).max(1);
-        let under = under.repeat(length.clamp(1, width));
-        let label = format!("{under} {}", mark.label);
-        text.push_str(&format!("{:margin$} | {before}{}\n", "", label.trim_end()));
     }
+    let shown = shown.into_iter().map(|(line, _, part, labels)| {
+        let part = format!("{line:margin$} | {part}");
+        format!("{}\n{labels}", part.trim_end_matches(' '))
+    });
+    let between = format!("{:margin$} |\n", "");
+    text.push_str(&shown.collect::<Vec<_>>().join(&between));
     text
+}
+
+/// What stands under a line: blanks, tabs where the line has tabs, and the mark.
+fn under(line: &str, before: usize, length: usize, mark: &str) -> String {
+    let blanks: String = (line.chars().take(before))
+        .map(|sign| if sign == '\t' { '\t' } else { ' ' })
+        .collect();
+    let rest = line.chars().count().saturating_sub(before).max(1);
+    // The place just behind a line's end can be marked too.
+    format!("{blanks:before$}{}", mark.repeat(length.clamp(1, rest)))
 }
 
 /// Lines as a help would have them.

@@ -5,15 +5,20 @@ use super::{listed, Diagnostic, Report, Verdict};
 use crate::arguments::distance;
 use narration::{of_a_name, Mistake, Spot};
 
-/// Of more mistakes than this no help is looked for.
+/// Helps are looked for for so many mistakes, and in a text of so many bytes: each help is tried on the whole text.
 const MOST_HELPED: usize = 40;
+const MOST_BYTES: usize = 200_000;
 
 /// Every mistake of a text.
 pub fn mistaken(name: &str, lines: Vec<String>, mistakes: &[Mistake]) -> Report {
+    let helped = match lines.iter().map(String::len).sum::<usize>() <= MOST_BYTES {
+        true => MOST_HELPED,
+        false => 0,
+    };
     let diagnostics = (mistakes.iter().enumerate())
         .map(|(n, mistake)| {
             let mut diagnostic = Diagnostic::error("text", mistake.message.clone()).mark(Some(spot(mistake)), "");
-            if n < MOST_HELPED {
+            if n < helped {
                 help(&mut diagnostic, &lines, mistake, mistakes.len());
             }
             diagnostic

@@ -2,18 +2,21 @@
 //! then, and what helps. What is held is asked of the book cut to the steps before, so that it is proved as well.
 
 use super::edits;
-use super::{listed, short, Diagnostic, Report, Verdict};
+use super::{count, listed, short, Diagnostic, Mark, Report, Verdict};
 use crate::failure::Failure;
 use crate::listing::{Event, Image};
 use crate::proved::{Answers, Source};
 use crate::subject::{to_bytes, Subject, Text};
 use crate::warnings;
-use narration::book::CIPHER;
+use narration::book::{Book, CIPHER, MOST_KNOWN};
 use narration::Spot;
 use nghiralum::Refusal;
+use std::collections::BTreeMap;
 
 /// So many helps are shown.
 const MOST_HELPS: usize = 3;
+/// So many refusals are told of one book.
+const MOST_REFUSALS: usize = 12;
 
 /// Bytes that are no book.
 pub fn no_book(name: &str, refusal: Refusal) -> Report {
@@ -24,41 +27,66 @@ pub fn no_book(name: &str, refusal: Refusal) -> Report {
     Report::new(name, Vec::new(), Verdict::Refused(refusal.number()), vec![diagnostic])
 }
 
-/// A book that can't be played.
+/// A book that can't be played: its refusal, and those that come behind it. What was lacking is taken as known from then on,
+/// and the proved translator is asked again.
 pub fn unplayable(subject: &Subject, refusal: Refusal) -> Result<Report, Failure> {
-    let lost = || Failure::guard(format!("{}: {refusal}, and there is no such row or step", subject.name));
-    let row = refusal.row().filter(|row| subject.book.rows.len() > *row as usize);
-    let row = row.ok_or_else(lost)?;
-    let step = refusal.place();
-    let sender = subject.book.steps.get(step as usize).ok_or_else(lost)?.sender;
-    let before = Answers::of(&cut(subject, step))?;
-    let before = before.map_err(|earlier| Failure::guard(format!("{}: {earlier}, before {refusal}", subject.name)))?;
-    let case = Case {
-        subject,
-        number: refusal.number(),
-        row,
-        step,
-        sender,
-        before,
-    };
-    let mut diagnostics = vec![case.diagnostic()?];
+    let first = Case::of(subject, refusal)?;
+    let mut diagnostics = vec![first.diagnostic()?];
+    let mut lacking = vec![first.row];
+    let mut assumed: Vec<(u32, String)> = Vec::new();
+    let (mut mended, mut step) = (subject.clone(), first.step);
+    let mut known = first.as_known();
+    for _ in 0..MOST_REFUSALS {
+        let Some((book, party, term)) = known else { break };
+        assumed.push((party, term));
+        mended = with_book(&mended, book);
+        let later = unplayable_still(&mended).filter(|later| later.place() >= step);
+        let Some(later) = later else { break };
+        let case = Case::of(&mended, later)?;
+        match diagnostics.last_mut() {
+            // What a step lacks is told at once.
+            Some(last) if case.step == step => case.add_to(last),
+            _ => diagnostics.push(case.diagnostic()?.note(as_if(subject, &assumed))),
+        }
+        if case.step == first.step {
+            lacking.push(case.row);
+        }
+        step = case.step;
+        known = case.as_known();
+    }
+    if let Some(text) = &subject.text {
+        let kinds = first.edits(text, &lacking);
+        diagnostics[0].helps = edits::helpful(&text.lines, kinds, first.step, first.atom(), MOST_HELPS);
+    }
     diagnostics.extend(warnings::of_names(subject));
     let lines = subject.text.as_ref().map_or_else(Vec::new, |text| text.lines.clone());
     let report = Report::new(&subject.name, lines, Verdict::Refused(refusal.number()), diagnostics);
     Ok(warnings::wanted(report))
 }
 
-/// The book with the steps before this one alone.
-fn cut(subject: &Subject, step: u32) -> Subject {
-    let mut book = subject.book.clone();
-    book.steps.truncate(step as usize);
+/// What was assumed so far, by party.
+fn as_if(subject: &Subject, assumed: &[(u32, String)]) -> String {
+    let mut parties: BTreeMap<u32, Vec<String>> = BTreeMap::new();
+    for (party, term) in assumed {
+        parties.entry(*party).or_default().push(term.clone());
+    }
+    let knew = |(party, terms): (&u32, &Vec<String>)| format!("{} knew {}", subject.party(*party), listed(terms));
+    let told: Vec<String> = parties.iter().map(knew).collect();
+    format!("this is told as if {}", told.join(", and "))
+}
+
+/// Refusal 10 or 13 of a book that is one.
+fn unplayable_still(subject: &Subject) -> Option<Refusal> {
+    let refusal = nghiralum::translate(&subject.bytes, &mut []).err();
+    refusal.filter(|refusal| matches!(refusal.number(), 10 | 13))
+}
+
+/// The subject with another book of the same rows, and with the same names.
+fn with_book(subject: &Subject, book: Book) -> Subject {
     Subject {
-        name: subject.name.clone(),
-        text: None,
         bytes: to_bytes(&book.words()),
         book,
-        names: subject.names.clone(),
-        terms: subject.terms.clone(),
+        ..subject.clone()
     }
 }
 
@@ -73,20 +101,78 @@ pub struct Case<'s> {
     pub before: Answers,
 }
 
-impl Case<'_> {
+impl<'s> Case<'s> {
+    fn of(subject: &'s Subject, refusal: Refusal) -> Result<Case<'s>, Failure> {
+        let lost = || Failure::guard(format!("{}: {refusal}, and there is no such row or step", subject.name));
+        let row = refusal.row().filter(|row| subject.book.rows.len() > *row as usize);
+        let row = row.ok_or_else(lost)?;
+        let step = refusal.place();
+        let sender = subject.book.steps.get(step as usize).ok_or_else(lost)?.sender;
+        let mut book = subject.book.clone();
+        book.steps.truncate(step as usize);
+        let before = Answers::of(&with_book(subject, book))?;
+        let before =
+            before.map_err(|earlier| Failure::guard(format!("{}: {earlier}, before {refusal}", subject.name)))?;
+        Ok(Case {
+            subject,
+            number: refusal.number(),
+            row,
+            step,
+            sender,
+            before,
+        })
+    }
+
+    /// One more atom that the sender lacks for the same step.
+    fn add_to(&self, diagnostic: &mut Diagnostic) {
+        let sender = self.subject.party(self.sender);
+        let here = self.subject.text.as_ref().and_then(|text| self.here(text, self.row));
+        match here {
+            Some(spot) => diagnostic.marks.push(Mark {
+                spot,
+                label: format!("{sender} lacks this too"),
+            }),
+            None => diagnostic
+                .notes
+                .push(format!("{sender} lacks {} too", short(self.atom()))),
+        }
+    }
+
+    /// The book in which the sender knows what it lacks, and whoever made the atom knows it as well; the sender, and what it
+    /// knows then. Nothing if it can't know more.
+    fn as_known(&self) -> Option<(Book, u32, String)> {
+        let text = self.subject.text.as_ref();
+        let needed = text.map_or(self.row, |text| self.needed_row(text, self.row));
+        let mut book = self.subject.book.clone();
+        let makers = (0..book.parties.len() as u32)
+            .filter(|party| matches!(self.before.source(*party, self.row), Source::Made { .. }))
+            .map(|party| (party, self.row));
+        for (party, row) in makers.chain([(self.sender, needed)]) {
+            let known = &mut book.parties[party as usize].known;
+            if known.len() == MOST_KNOWN as usize {
+                return None;
+            }
+            let at = known.binary_search(&row).err()?;
+            known.insert(at, row);
+        }
+        Some((book, self.sender, short(self.subject.term(needed))))
+    }
+
     fn diagnostic(&self) -> Result<Diagnostic, Failure> {
-        let (sender, atom) = (self.subject.party(self.sender), self.atom());
+        let (sender, atom) = (self.subject.party(self.sender), short(self.atom()));
         let message = match self.number {
             10 => format!("{sender} would have to make {atom}, which is taken"),
             _ => format!("{sender} would have to make {atom}, and makes nothing"),
         };
         let diagnostic = Diagnostic::error(format!("R{}", self.number), message);
         let mut diagnostic = match &self.subject.text {
-            None => diagnostic.note(format!(
-                "step {} is `{}`; steps count from 0",
-                self.step,
-                self.step_text()
-            )),
+            None => diagnostic
+                .note(format!(
+                    "step {} is `{}`; steps count from 0",
+                    self.step,
+                    self.step_text()
+                ))
+                .note(self.origin_told()),
             Some(text) => {
                 let here = self.here(text, self.row).ok_or_else(|| {
                     Failure::guard(format!(
@@ -102,10 +188,34 @@ impl Case<'_> {
         };
         diagnostic.notes.push(self.holdings());
         diagnostic.notes.extend(self.reasons());
-        if let Some(text) = &self.subject.text {
-            diagnostic.helps = edits::helpful(self.edits(text), self.step, self.atom(), MOST_HELPS);
-        }
         Ok(diagnostic)
+    }
+
+    /// Where the atom of a book without a text comes from.
+    fn origin_told(&self) -> String {
+        let (subject, atom) = (self.subject, short(self.atom()));
+        let has = |rows: &[u32]| rows.iter().copied().find(|row| subject.has_part(*row, self.row));
+        if self.number != 10 {
+            return format!("{} is marked as one that makes nothing", subject.party(self.sender));
+        }
+        if subject.book.parties.iter().any(|party| party.name == self.row) {
+            return format!("{atom} is a party's name, which nobody makes");
+        }
+        for (number, party) in (0..).zip(&subject.book.parties) {
+            if let Some(row) = has(&party.known) {
+                return format!(
+                    "{} knows {} from the start",
+                    subject.party(number),
+                    short(subject.term(row))
+                );
+            }
+        }
+        let made = (0..)
+            .zip(&subject.book.steps)
+            .find(|(_, step)| has(&step.messages).is_some());
+        made.map_or_else(String::new, |(number, step)| {
+            format!("{} made {atom} in {}", subject.party(step.sender), subject.step(number))
+        })
     }
 
     pub fn atom(&self) -> &str {
@@ -207,6 +317,18 @@ impl Case<'_> {
             if !stored.is_empty() {
                 parts.push(format!("{} since {place}", listed(&stored)));
             }
+        }
+        // Of a long run the start and the last steps are told.
+        const MOST: usize = 5;
+        let more = parts.len().saturating_sub(MOST);
+        if more > 0 {
+            parts.splice(
+                1..=more,
+                [format!(
+                    "what came to it in {}",
+                    count(more, "other step", "other steps")
+                )],
+            );
         }
         let sender = self.subject.party(self.sender);
         match parts.is_empty() {

@@ -105,11 +105,11 @@ fn low(sign: char) -> char {
     }
 }
 
-/// Whether one is the other with a letter put in, left out or changed, or with two neighbours exchanged, and no member of
-/// the same family of names.
+/// Whether one is the other with a letter put in, left out or changed, and no member of the same family of names; or with two
+/// neighbours exchanged.
 fn slip(one: &str, other: &str) -> bool {
     let shortest = one.chars().count().min(other.chars().count());
-    shortest >= 3 && (distance(one, other) == 1 || exchanged(one, other)) && !family(one, other)
+    shortest >= 3 && ((distance(one, other) == 1 && !family(one, other)) || exchanged(one, other))
 }
 
 fn exchanged(one: &str, other: &str) -> bool {
@@ -118,15 +118,23 @@ fn exchanged(one: &str, other: &str) -> bool {
         .filter(|at| one[*at] != other[*at])
         .collect();
     match differ[..] {
+        // N12 and N21 are numbers.
+        [a, b] if one[a].is_numeric() && one[b].is_numeric() => false,
         [a, b] => one.len() == other.len() && b == a + 1 && one[a] == other[b] && one[b] == other[a],
         _ => false,
     }
 }
 
-/// Whether names differ as those of a family do: KAB and KAS, KAS and KBS, N1 and N2, N and N1, K and K'.
+/// Whether names differ as those of a family do: KAB and KAS, KAS and KBS, N1 and N20, N and N1, K and K'.
 pub fn family(one: &str, other: &str) -> bool {
+    let stem = |name: &str| -> String {
+        name.trim_end_matches(|sign: char| sign.is_numeric() || sign == '\'')
+            .to_string()
+    };
+    if stem(one) == stem(other) {
+        return true;
+    }
     let (one, other): (Vec<char>, Vec<char>) = (one.chars().collect(), other.chars().collect());
-    let index = |sign: char| sign.is_uppercase() || sign.is_numeric() || sign == '\'';
     if one.len() == other.len() {
         let mut changed = one.iter().zip(&other).filter(|(a, b)| a != b);
         return changed.all(|(a, b)| (a.is_uppercase() && b.is_uppercase()) || (a.is_numeric() && b.is_numeric()));
@@ -136,7 +144,7 @@ pub fn family(one: &str, other: &str) -> bool {
     } else {
         (other, one)
     };
-    long.starts_with(&short) && long[short.len()..].iter().all(|sign| index(*sign))
+    long.starts_with(&short) && long[short.len()..].iter().all(|sign| sign.is_uppercase())
 }
 
 #[cfg(test)]
@@ -172,7 +180,13 @@ mod tests {
 
     #[test]
     fn slips() {
-        for (one, other) in [("begin", "begn"), ("secret", "secrat"), ("KAS", "KAXS"), ("key", "kez")] {
+        for (one, other) in [
+            ("begin", "begn"),
+            ("secret", "secrat"),
+            ("KAS", "KAXS"),
+            ("key", "kez"),
+            ("KAB", "KBA"),
+        ] {
             assert!(slip(one, other), "{one} {other}");
         }
         for (one, other) in [
@@ -183,6 +197,8 @@ mod tests {
             ("msg", "msg1"),
             ("KA", "KAB"),
             ("end", "end'"),
+            ("N12", "N21"),
+            ("NA1", "NA10"),
         ] {
             assert!(!slip(one, other), "{one} {other}");
         }

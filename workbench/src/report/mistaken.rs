@@ -35,37 +35,155 @@ fn spot(mistake: &Mistake) -> Spot {
     }
 }
 
-/// What was perhaps meant: the first change that leaves fewer mistakes in the text.
+/// What is said beside the mistake, and what was perhaps meant: the first change that leaves fewer mistakes in the text.
 fn help(diagnostic: &mut Diagnostic, lines: &[String], mistake: &Mistake, mistakes: usize) {
-    let undeclared = mistake.message.ends_with("which no party line declares");
-    if undeclared {
-        let parties = declared(lines);
-        let verb = if parties.len() == 1 { "party is" } else { "parties are" };
-        diagnostic.notes.push(format!("the {verb} {}", listed(&parties)));
-    }
+    let wrong = Wrong::of(lines, mistake);
+    diagnostic.notes.extend(wrong.note());
     if mistake.message.ends_with("found the end of the text") {
         let help = "a narration begins with its parties, a line each: `party A knows K`";
         diagnostic.helps.push(Help::plain(help));
     }
-    let line = lines.get(mistake.line - 1).map_or("", String::as_str);
-    let front: String = line.chars().take(mistake.column - 1).collect();
-    if mistake.message.starts_with("expected a term,") && front.trim_end().ends_with('}') {
-        diagnostic.notes.push(String::from(
-            "a cipher's key stands right behind its brace, as in `{N}K`",
-        ));
-    }
-    let edits = match undeclared {
-        true => [near_parties(lines, mistake), declaring(lines, mistake)].concat(),
-        false => signs(lines, mistake),
+    let edits = match wrong.undeclared() {
+        true => [wrong.near_parties(), wrong.declared()].concat(),
+        false => [wrong.arrows(), wrong.first_word(), wrong.expected()].concat(),
     };
-    let tried = edits.into_iter().map(|edit| {
-        let outcome = edits::attempt(&edit.lines);
-        (edit, outcome)
-    });
     let fewer = |outcome: &Outcome| !matches!(outcome, Outcome::Mistaken(left) if *left >= mistakes);
-    let best = tried.into_iter().find(|(_, outcome)| fewer(outcome));
-    if let Some((edit, outcome)) = best {
-        diagnostic.helps.push(Help::of(edit, outcome));
+    let tried = edits.into_iter().map(|edit| (edits::attempt(&edit.lines), edit));
+    let best = tried.into_iter().find(|(outcome, _)| fewer(outcome));
+    diagnostic
+        .helps
+        .extend(best.map(|(outcome, edit)| Help::of(edit, outcome)));
+}
+
+/// A mistake, its line, and what was found in it.
+struct Wrong<'t> {
+    lines: &'t [String],
+    mistake: &'t Mistake,
+    line: &'t str,
+    found: String,
+}
+
+impl<'t> Wrong<'t> {
+    fn of(lines: &'t [String], mistake: &'t Mistake) -> Wrong<'t> {
+        let line = lines.get(mistake.line - 1).map_or("", String::as_str);
+        Wrong {
+            lines,
+            mistake,
+            line,
+            found: line.chars().skip(mistake.column - 1).take(mistake.length).collect(),
+        }
+    }
+
+    fn undeclared(&self) -> bool {
+        self.mistake.message.ends_with("which no party line declares")
+    }
+
+    fn note(&self) -> Option<String> {
+        let front: String = self.line.chars().take(self.mistake.column - 1).collect();
+        let keyless = self.mistake.message.starts_with("expected a term,") && front.trim_end().ends_with('}');
+        if self.undeclared() {
+            let parties = declared(self.lines);
+            let verb = if parties.len() == 1 { "party is" } else { "parties are" };
+            return Some(format!("the {verb} {}", listed(&parties)));
+        }
+        keyless.then(|| String::from("a cipher's key stands right behind its brace, as in `{N}K`"))
+    }
+
+    /// The text with this line changed.
+    fn edit(&self, line: String, message: String) -> Edit {
+        edits::with_line(self.lines, self.mistake.line, line, message)
+    }
+
+    /// The line with something in the place of what was found.
+    fn instead(&self, what: &str) -> String {
+        edits::replaced(self.line, self.mistake.column, self.mistake.length, what)
+    }
+
+    /// The declared names that are close to the one that isn't, the closest first.
+    fn near_parties(&self) -> Vec<Edit> {
+        let name = &self.found;
+        let far = |own: &String| match own.to_lowercase() == name.to_lowercase() {
+            true => 0,
+            false => distance(own, name),
+        };
+        let longest = |own: &String| own.chars().count().max(name.chars().count());
+        let mut near: Vec<String> = declared(self.lines);
+        near.retain(|own| far(own) == 0 || (far(own) <= 2 && far(own) < longest(own)));
+        near.sort_by_key(far);
+        let edit = |own: &String| self.edit(self.instead(own), format!("is `{own}` meant?"));
+        near.iter().map(edit).collect()
+    }
+
+    /// A line that declares the party, behind the other party lines.
+    fn declared(&self) -> Vec<Edit> {
+        let declares = |line: &String| !declared(std::slice::from_ref(line)).is_empty();
+        let Some(last) = self.lines.iter().rposition(declares) else {
+            return Vec::new();
+        };
+        let mut lines = self.lines.to_vec();
+        lines.insert(last + 1, format!("party {}", self.found));
+        vec![Edit {
+            message: format!("declare {}, and what it knows", self.found),
+            lines,
+            changed: vec![last + 2],
+        }]
+    }
+
+    /// Arrows as they are drawn elsewhere.
+    fn arrows(&self) -> Vec<Edit> {
+        let arrows = ["\u{2192}", "\u{27f6}", "-->", "=>", "\u{2014}>", "\u{2013}>"];
+        let edit = |arrow: &str| {
+            let message = format!("an arrow is written `->`, and not `{arrow}`");
+            self.edit(self.line.replace(arrow, "->"), message)
+        };
+        let found = arrows.into_iter().filter(|arrow| self.line.contains(arrow));
+        found.map(edit).collect()
+    }
+
+    /// The word at the front of the line may be the one that is wrong.
+    fn first_word(&self) -> Vec<Edit> {
+        let rest = self.line.trim_start();
+        let first: String = rest.chars().take_while(|sign| of_a_name(*sign)).collect();
+        let column = self.line.chars().count() - rest.chars().count() + 1;
+        let near = |word: &&str| !first.is_empty() && first != *word && distance(word, &first.to_lowercase()) <= 1;
+        let edit = |word: &str| {
+            let line = edits::replaced(self.line, column, first.chars().count(), word);
+            self.edit(line, format!("is `{word}` meant?"))
+        };
+        ["party", "rows"].into_iter().filter(near).map(edit).collect()
+    }
+
+    /// What was expected, put in or in the place of what was found: all that stands in backquotes before "found". What stands
+    /// in parentheses is an explanation.
+    fn expected(&self) -> Vec<Edit> {
+        let expected = self.mistake.message.split(", found ").next().unwrap_or("");
+        let expected = expected.split(" (").next().unwrap_or("");
+        let signs = expected.split('`').skip(1).step_by(2);
+        signs.flat_map(|sign| self.with(sign)).collect()
+    }
+
+    /// A word in the place of one that is close to it; a sign put in, or in the place of another.
+    fn with(&self, sign: &str) -> Vec<Edit> {
+        let word = |text: &str| !text.is_empty() && text.chars().all(|sign| of_a_name(sign) || sign == ' ');
+        if word(sign) {
+            let near = word(&self.found) && distance(sign, &self.found.to_lowercase()) <= 2;
+            let edit = near.then(|| self.edit(self.instead(sign), format!("is `{sign}` meant?")));
+            return edit.into_iter().collect();
+        }
+        let put = match sign {
+            "->" => " -> ",
+            "," => ", ",
+            ":" if !self.found.is_empty() => ": ",
+            _ => sign,
+        };
+        let (column, blanks) = blanks_before(self.line, self.mistake.column);
+        let line = edits::replaced(self.line, column, blanks, put);
+        let mut edits = vec![self.edit(line, format!("put in `{sign}`"))];
+        if !self.found.is_empty() && !word(&self.found) {
+            let message = format!("put `{sign}` in the place of `{}`", self.found);
+            edits.push(self.edit(self.instead(sign), message));
+        }
+        edits
     }
 }
 
@@ -84,108 +202,6 @@ fn declared(lines: &[String]) -> Vec<String> {
         }
     }
     names
-}
-
-/// The declared names that are close to the one that isn't, the closest first.
-fn near_parties(lines: &[String], mistake: &Mistake) -> Vec<Edit> {
-    let line = lines.get(mistake.line - 1).map_or("", String::as_str);
-    let name: String = line.chars().skip(mistake.column - 1).take(mistake.length).collect();
-    let far = |own: &String| match own.to_lowercase() == name.to_lowercase() {
-        true => 0,
-        false => distance(own, &name),
-    };
-    let longest = |own: &String| own.chars().count().max(name.chars().count());
-    let mut near: Vec<String> = declared(lines);
-    near.retain(|own| far(own) == 0 || (far(own) <= 2 && far(own) < longest(own)));
-    near.sort_by_key(far);
-    let edit = |own: String| {
-        let changed = edits::replaced(line, mistake.column, mistake.length, &own);
-        edits::with_line(lines, mistake.line, changed, format!("is `{own}` meant?"))
-    };
-    near.into_iter().map(edit).collect()
-}
-
-/// A line that declares the party, behind the other party lines.
-fn declaring(lines: &[String], mistake: &Mistake) -> Vec<Edit> {
-    let line = lines.get(mistake.line - 1).map_or("", String::as_str);
-    let name: String = line.chars().skip(mistake.column - 1).take(mistake.length).collect();
-    let last = lines
-        .iter()
-        .rposition(|line| !declared(std::slice::from_ref(line)).is_empty());
-    let edit = |last: usize| {
-        let mut lines = lines.to_vec();
-        lines.insert(last + 1, format!("party {name}"));
-        Edit {
-            message: format!("declare {name}, and what it knows"),
-            lines,
-            changed: vec![last + 2],
-        }
-    };
-    last.map(edit).into_iter().collect()
-}
-
-/// What was expected, put in or in the place of what was found: all that stands in backquotes before "found".
-fn signs(lines: &[String], mistake: &Mistake) -> Vec<Edit> {
-    let line = lines.get(mistake.line - 1).map_or("", String::as_str);
-    let mut edits = Vec::new();
-    // Arrows as they are drawn elsewhere.
-    for arrow in ["\u{2192}", "\u{27f6}", "-->", "=>", "\u{2014}>", "\u{2013}>"] {
-        if line.contains(arrow) {
-            let changed = line.replace(arrow, "->");
-            let message = format!("an arrow is written `->`, and not `{arrow}`");
-            edits.push(edits::with_line(lines, mistake.line, changed, message));
-        }
-    }
-    let expected = mistake.message.split(", found ").next().unwrap_or("");
-    // What stands in parentheses is an explanation.
-    let expected = expected.split(" (").next().unwrap_or("");
-    let signs = expected.split('`').skip(1).step_by(2);
-    let found: String = (line.chars().skip(mistake.column - 1)).take(mistake.length).collect();
-    // A word at the front of the line may be the one that is wrong.
-    let first: String = (line.trim_start().chars())
-        .take_while(|sign| of_a_name(*sign))
-        .collect();
-    let before = line.chars().count() - line.trim_start().chars().count();
-    for word in ["party", "rows"] {
-        if !first.is_empty() && first != word && distance(word, &first.to_lowercase()) <= 1 {
-            let changed = edits::replaced(line, before + 1, first.chars().count(), word);
-            let message = format!("is `{word}` meant?");
-            edits.push(edits::with_line(lines, mistake.line, changed, message));
-        }
-    }
-    for sign in signs {
-        let is_word = sign.chars().all(|sign| of_a_name(sign) || sign == ' ');
-        if is_word && found.chars().all(of_a_name) && !found.is_empty() && distance(sign, &found.to_lowercase()) <= 2 {
-            let changed = edits::replaced(line, mistake.column, mistake.length, sign);
-            edits.push(edits::with_line(
-                lines,
-                mistake.line,
-                changed,
-                format!("is `{sign}` meant?"),
-            ));
-        } else if !is_word {
-            let put = if sign == "->" { " -> " } else { sign };
-            let put = if sign == "," { ", " } else { put };
-            let (column, over) = blanks_before(line, mistake.column);
-            let changed = edits::replaced(line, column, over, put);
-            let changed = match sign {
-                ":" if !found.is_empty() => edits::replaced(line, column, over, ": "),
-                _ => changed,
-            };
-            edits.push(edits::with_line(
-                lines,
-                mistake.line,
-                changed,
-                format!("put in `{sign}`"),
-            ));
-            let instead = edits::replaced(line, mistake.column, mistake.length, sign);
-            let message = format!("put `{sign}` in the place of `{found}`");
-            if !found.is_empty() && !found.chars().all(of_a_name) {
-                edits.push(edits::with_line(lines, mistake.line, instead, message));
-            }
-        }
-    }
-    edits
 }
 
 /// Where the blanks in front of a column begin, and how many they are.

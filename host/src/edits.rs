@@ -33,7 +33,8 @@ impl Page {
                 page.text += &format!("\n## {name}\n\n{HEAD}");
             }
             for file in edits {
-                match line(&file, &files::text(&file)?) {
+                let text = files::text(&file)?;
+                match applies(&crates.join(&name), &text).and_then(|()| line(&file, &text)) {
                     Ok(line) => page.text += &line,
                     Err(fault) => faults.push(files::told(&file, fault)),
                 }
@@ -85,6 +86,26 @@ fn edits(folder: &Path) -> Result<Vec<PathBuf>, String> {
         folder if folder.is_dir() => files::ending(&folder, "edit"),
         _ => Ok(Vec::new()),
     }
+}
+
+/// Whether each text that an edit replaces stands in its file exactly once; the gate would find out late.
+fn applies(folder: &Path, edit: &str) -> Result<(), String> {
+    let (mut file, mut text, mut old) = (String::new(), String::new(), "");
+    for line in edit.lines() {
+        if let Some(name) = line.strip_prefix("file: ") {
+            file = name.to_string();
+            text = files::text(&folder.join(name))?;
+        } else if let Some(replaced) = line.strip_prefix("old: ") {
+            old = replaced;
+        } else if let Some(new) = line.strip_prefix("new:") {
+            match text.matches(old).count() {
+                1 => text = text.replace(old, new.strip_prefix(' ').unwrap_or(new)),
+                0 => return Err(format!("`{}` is not in {file}", old.trim())),
+                _ => return Err(format!("`{}` is in {file} more than once", old.trim())),
+            }
+        }
+    }
+    Ok(())
 }
 
 /// An edit's line of its table, or which of the lines at its head is missing.

@@ -16,12 +16,18 @@ old:     if at < out.len() {
 new:     if at <= out.len() {
 ";
 
+const SOURCE: &str = "fn put() {\n    if at < out.len() {\n    }\n}\n";
+
 /// Two crates with edits, listed against the order of their names, and one without.
 fn house(name: &str) -> Folder {
     let list = b"# NAME: what it stands on\nwords:\nplain: words\nline: words\n";
     let house = Folder::with(name, &[("crates.txt", list)]);
     for folder in ["crates/words/must-fail", "crates/line/must-fail", "crates/plain/src"] {
         fs::create_dir_all(house.at().join(folder)).expect("a folder");
+    }
+    for folder in ["crates/words/src", "crates/line/src"] {
+        fs::create_dir_all(house.at().join(folder)).expect("a folder");
+        house.file(&format!("{folder}/lib.rt"), SOURCE);
     }
     house.file("crates/words/must-fail/past.edit", PAST);
     house.file(
@@ -38,6 +44,19 @@ fn the_page_is_current() {
     let page = Page::of(&top().join("crates")).unwrap();
     assert_eq!(page.check(&top().join("docs/EDITS.md")), Ok(()));
     assert!(page.edits >= 56);
+}
+
+/// An edit whose text is not in its file, or is there twice, is a fault.
+#[test]
+fn an_edit_that_does_not_apply() {
+    let house = house("edits-apply");
+    let fault = |source: &str| {
+        house.file("crates/line/src/lib.rt", source);
+        Page::of(&house.at().join("crates")).map(|page| page.edits)
+    };
+    assert_eq!(fault(SOURCE), Ok(3));
+    assert!(fault("fn put() {}\n").unwrap_err().ends_with("is not in src/lib.rt"));
+    assert!(fault(&SOURCE.repeat(2)).unwrap_err().ends_with("more than once"));
 }
 
 #[test]

@@ -77,8 +77,8 @@ fn content(bytes: &[u8]) -> Content {
         (b"PK\x03\x04", "a ZIP archive, or a document of an office program"),
         (b"\x1f\x8b", "a gzip archive"),
         (b"\x7fELF", "a program"),
-        (b"\xff\xfe", "text in UTF-16; save it as UTF-8"),
-        (b"\xfe\xff", "text in UTF-16; save it as UTF-8"),
+        (b"\xff\xfe", "text in UTF-16"),
+        (b"\xfe\xff", "text in UTF-16"),
     ];
     if let Some((_, kind)) = KINDS.iter().find(|(front, _)| bytes.starts_with(front)) {
         return Content::Other(kind);
@@ -87,7 +87,7 @@ fn content(bytes: &[u8]) -> Content {
         Ok(text) if !text.contains('\0') => Content::Narration(text.to_string()),
         // A book's header has its rows at word 8.
         _ if bytes.len() >= 8 && bytes[4..8] == [8, 0, 0, 0] => Content::Book,
-        Err(error) if latin(bytes, error.valid_up_to()) => Content::Other("text that is not UTF-8; save it as UTF-8"),
+        Err(error) if latin(bytes, error.valid_up_to()) => Content::Other("text that is not UTF-8"),
         _ => Content::Book,
     }
 }

@@ -105,10 +105,17 @@ pub fn open(input: &Input) -> Result<Opened, Failure> {
     match input.content() {
         Content::Narration(text) => of_text(&input.name, &text),
         Content::Book => of_book(&input.name, &input.bytes),
-        Content::Other(kind) => Err(Failure::file(format!(
-            "{}: it is {kind}, and a narration or a book is asked for",
-            input.name
-        ))),
+        Content::Other(kind) => {
+            let advice = if kind.starts_with("text") {
+                ": save it as UTF-8"
+            } else {
+                ""
+            };
+            Err(Failure::file(format!(
+                "{}: it is {kind}, and a narration or a book is asked for{advice}",
+                input.name
+            )))
+        }
     }
 }
 

@@ -1,13 +1,14 @@
 //! What the commands answer over `books/`, held against `golden/`: a file a command, in it each narration's name and the answer.
-//! Narrations with long programs are left out. UPDATE=1 writes the files anew.
+//! Narrations that are long, or have long programs, are left out. UPDATE=1 writes the files anew.
 
 use std::ffi::{OsStr, OsString};
 use std::fs;
 use std::path::{Path, PathBuf};
 use workbench::commands::{run, Output};
 
-/// The words of a listing beyond which a narration is left out.
-const MOST: usize = 400;
+/// The words of a listing, and the bytes of a text, beyond which a narration is left out.
+const MOST_WORDS: usize = 400;
+const MOST_BYTES: u64 = 1_100;
 
 fn top() -> PathBuf {
     Path::new(env!("CARGO_MANIFEST_DIR")).join("..")
@@ -20,7 +21,8 @@ fn narrations() -> Vec<String> {
         .filter(|path| path.extension() == Some(OsStr::new("narration")))
         .filter(|path| {
             let listing = fs::read_to_string(path.with_extension("listing")).expect("its listing");
-            listing.split(' ').count() <= MOST
+            let length = fs::metadata(path).expect("its text").len();
+            listing.split(' ').count() <= MOST_WORDS && length <= MOST_BYTES
         })
         .filter_map(|path| path.file_stem().and_then(OsStr::to_str).map(str::to_string))
         .collect();
@@ -105,6 +107,7 @@ fn draw() {
         let said = said.replace(&file.display().to_string(), "example-1.narration");
         let golden = Path::new(env!("CARGO_MANIFEST_DIR")).join(format!("golden/example-1.{form}"));
         if std::env::var_os("UPDATE").is_some() {
+            fs::create_dir_all(golden.parent().expect("the folder")).expect("the folder");
             fs::write(&golden, &said).expect("written");
         }
         let golden = fs::read_to_string(&golden).expect("the golden picture");

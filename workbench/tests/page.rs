@@ -49,10 +49,8 @@ fn attribute<'t>(tag: &'t str, name: &str) -> Option<&'t str> {
 
 /// Of the tags of this kind that belong to a move: its number, and whether it is marked as done.
 fn marks(page: &str, tag: &str) -> Vec<(usize, bool)> {
-    let tags = page
-        .split(&format!("<{tag} "))
-        .skip(1)
-        .filter_map(|rest| rest.split('>').next());
+    let begin = format!("<{tag} ");
+    let tags = page.split(&begin).skip(1).filter_map(|rest| rest.split('>').next());
     tags.filter_map(|tag| {
         let tag = format!(" {tag}");
         let number = attribute(&tag, "data-move")?.parse().ok()?;

@@ -12,11 +12,13 @@ mod names;
 mod table;
 mod tags;
 mod token;
+mod write;
 mod written;
 
 pub use mistake::{Mistake, Spot};
 pub use names::Names;
 pub use token::of_a_name;
+pub use write::write;
 
 use book::{Book, Party, Step};
 use grammar::{PartyLine, StepLine};

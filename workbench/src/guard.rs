@@ -3,7 +3,7 @@
 
 use crate::failure::Failure;
 use crate::listing::{self, Program};
-use crate::subject::Subject;
+use crate::subject::{to_bytes, Subject};
 use narration::of_a_name;
 
 /// The book printed back with names is the source's terms: each term of the text, read here by itself, is what is printed
@@ -39,6 +39,18 @@ pub fn terms(subject: &Subject) -> Result<(), Failure> {
         }
     }
     Ok(())
+}
+
+/// A book that is written as a narration is the book of that narration.
+pub fn narration(subject: &Subject, text: &str) -> Result<(), Failure> {
+    let read = narration::narrate(text).map(|narration| to_bytes(&narration.book.words()));
+    match read.is_ok_and(|bytes| bytes == subject.bytes) {
+        true => Ok(()),
+        false => Err(Failure::guard(format!(
+            "{}: the narration that is written of this book gives another one",
+            subject.name
+        ))),
+    }
 }
 
 /// A term as it is printed: its blanks and the parentheses that it doesn't need left out.

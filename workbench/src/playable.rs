@@ -32,7 +32,7 @@ pub fn told(call: &Call, report: Report) -> Output {
 pub fn examine(input: &Input) -> Result<Result<Playable, Report>, Failure> {
     let report = match open_input(input)? {
         Opened::Mistaken { lines, mistakes } => report::mistaken(&input.name, lines, &mistakes),
-        Opened::Refused(refusal) => report::no_book(&input.name, refusal),
+        Opened::Refused(refusal) => report::no_book(&input.name, &input.bytes, refusal),
         Opened::Subject(subject) => match Answers::of(&subject)? {
             Ok(answers) => {
                 return Ok(Ok(Playable {

@@ -6,6 +6,7 @@ pub mod edits;
 mod excerpt;
 mod mistaken;
 mod refused;
+mod why;
 mod words;
 
 pub use mistaken::mistaken;

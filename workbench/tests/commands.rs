@@ -434,6 +434,45 @@ fn build_a_book() {
 }
 
 #[test]
+fn build_the_narration_of_a_book() {
+    let folder = Folder::new("build-back");
+    let (text, book) = (folder.text("f.narration"), folder.text("f.book"));
+    let wrote = format!("wrote {text}: 10 rows, 3 parties, 2 steps, 130 bytes\n");
+    // A second time over its own work.
+    for _ in 0..2 {
+        answers(&["build", FROG, "-o", &text], 0, &wrote);
+        assert_eq!(
+            fs::read_to_string(&text).unwrap(),
+            "party A knows A, B, C, n3\nparty B knows A, B, C, n4\nparty C knows A, B, C, n3, n4\n\n\
+             A -> C: A, {n5, B, n6}n3\nC -> B: {n8, A, n6}n4\n"
+        );
+    }
+    assert_eq!(status(&ran(&["build", &text, "-o", &book])), 0);
+    assert_eq!(fs::read(&book).unwrap(), fs::read(FROG).unwrap());
+    // Somebody's narration, though it is of the same book, stays what it is; a narration is not written of a narration.
+    fs::write(&text, "# mine\n").unwrap();
+    refuses(&["build", FROG, "-o", &text], 4, "no copy of this narration");
+    refuses(&["build", EXAMPLE, "-o", &text], 2, "is a narration already");
+    refuses(&["build", EXAMPLE, "-o", &text, "--force"], 2, "is a narration already");
+    assert_eq!(fs::read(&text).unwrap(), b"# mine\n");
+    answers(&["build", FROG, "-o", &text, "--force"], 0, &wrote);
+    // What is no book is none; what can't be played is written all the same.
+    let other = folder.text("o.narration");
+    refuses(&["build", "../books/refusal-5.book", "-o", &other], 1, "is over 1024");
+    let unplayable = UNPLAYABLE.replace(".narration", ".book");
+    let output = ran(&["build", &unplayable, "-o", &other]);
+    assert_eq!(status(&output), 1, "{}", err(&output));
+    assert!(out(&output).contains("refused (R1"), "{}", out(&output));
+    assert_eq!(status(&ran(&["build", &other, "-o", &folder.text("o.book")])), 1);
+    assert_eq!(fs::read(folder.path("o.book")).unwrap(), fs::read(unplayable).unwrap());
+    let json = out(&ran(&["build", FROG, "-o", &text, "--json"]));
+    assert!(
+        json.contains("\"book\": null, \"names\": null, \"narration\": \""),
+        "{json}"
+    );
+}
+
+#[test]
 fn build_what_is_refused() {
     let folder = Folder::new("build-refused");
     let book = folder.text("u.book");
@@ -468,7 +507,7 @@ fn build_over_nothing_else() {
         refuses(&arguments[..4 + usize::from(force)], expected, why);
     };
     for force in [false, true] {
-        build("s.narration", force, 4, "the file that is read");
+        build("s.narration", force, 2, "is a narration already");
         build("hard.book", force, 4, "the file that is read");
         build("folder.book", force, 4, "it is a folder");
         build("none/x.book", force, 4, "no such folder");

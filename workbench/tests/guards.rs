@@ -52,6 +52,18 @@ fn terms() {
 }
 
 #[test]
+fn narration() {
+    let subject = subject("example-1.book");
+    let text = narration::write(&subject.book, &subject.names);
+    assert!(guard::narration(&subject, &text).is_ok());
+    // Another book, and a text that gives none.
+    for altered in [text.replace("n3", "n2"), text.replace("->", "")] {
+        let told = guard::narration(&subject, &altered).map_err(|failure| failure.status);
+        assert_eq!(told, Err(70), "{altered}");
+    }
+}
+
+#[test]
 fn listing() {
     let subject = subject("example-1.narration");
     let words = to_words(&nghiralum::listing(&subject.bytes).expect("a listing"));

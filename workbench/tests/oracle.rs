@@ -9,6 +9,7 @@ use std::path::{Path, PathBuf};
 use workbench::input::Input;
 use workbench::listing::{self, Event, Image};
 use workbench::proved::{rehearse, Answers, Source};
+use workbench::report;
 use workbench::subject::{open, Opened, Subject};
 use workbench::told::Names;
 
@@ -234,6 +235,83 @@ fn the_narrations() {
             assert_eq!(subject.number(subject.party(party)), Some(party), "{name}");
         }
     }
+}
+
+/// Whatever the reader refuses by 1 to 9, the report says which rule is broken.
+#[test]
+fn every_refusal_has_its_reason() {
+    let mut refused = [0; 10];
+    let mut see = |bytes: &[u8]| {
+        let Some(refusal) = nghiralum::listing(bytes).err().filter(|own| own.number() < 10) else {
+            return;
+        };
+        let report = report::no_book("random", bytes, refusal);
+        assert_eq!(report.diagnostics[0].notes.len(), 1, "{refusal}");
+        refused[usize::from(refusal.number())] += 1;
+    };
+    for bytes in random::books(5, 1_000) {
+        see(&bytes);
+    }
+    // Small books with words changed to telling values.
+    let mut random = random::Random::new(9);
+    for book in random::well_formed(11, 1_000, 1) {
+        let mut words = book.words();
+        for _ in 0..random.between(1, 3) {
+            let at = random.below(words.len());
+            let near = words[at].wrapping_add(1);
+            let far = random.below(20) as u32;
+            words[at] = *random.pick(&[0, near, near.wrapping_sub(2), far, u32::MAX, 1 << 31]);
+        }
+        see(&words::to_bytes(&words));
+        words.truncate(random.below(words.len() + 1));
+        see(&words::to_bytes(&words));
+    }
+    for (number, met) in refused.iter().enumerate().skip(1) {
+        assert!(*met > 0, "refusal {number} was not met: {refused:?}");
+    }
+}
+
+/// The reason that is noted of each book of `books/` that is none.
+#[test]
+fn reasons() {
+    let told = |name: &str| {
+        let bytes = fs::read(books().join(name).with_extension("book")).expect("a book");
+        let refusal = nghiralum::listing(&bytes).expect_err(name);
+        report::no_book(name, &bytes, refusal).diagnostics[0].notes.join("; ")
+    };
+    for (name, reason) in [
+        ("refusal-1", "7 words, fewer than 8"),
+        ("refusal-1-empty", "0 words, fewer than 8"),
+        ("refusal-2-parties", "17 parties, where 1 to 16 are allowed"),
+        ("refusal-3-length", "the length is 17, by the counts it is 16"),
+        (
+            "refusal-3-offset",
+            "the offset of the steps is 17, by the counts it is 16",
+        ),
+        ("refusal-4-first", "first 1 is not 0, the sum of the counts before it"),
+        ("refusal-4-kind", "kind 5 is none of 0 to 4"),
+        ("refusal-4-large-tag", "tag 65536 is over 65535"),
+        ("refusal-4-leaves-pool", "its list leaves the pool of 1 word"),
+        ("refusal-4-nine-arguments", "count 9, where kind 1 has 0 to 8 parts"),
+        ("refusal-4-own-part", "part 1 is no row before it"),
+        ("refusal-4-tag", "tag 7, where only an operation has one other than 0"),
+        ("refusal-5", "size 1025 is over 1024"),
+        ("refusal-6", "it agrees in kind, tag and parts with row 1"),
+        ("refusal-7-known-no-row", "known 1 is no row"),
+        ("refusal-7-mark-2", "mark 2 is neither 1, may make, nor 0, may not"),
+        ("refusal-7-no-atom", "name 0 is no atom"),
+        ("refusal-7-order", "known 0 after 1, where the order is increasing"),
+        ("refusal-7-repeated-name", "name 0 is the name of party 0 already"),
+        ("refusal-8-message-no-row", "message 2 is no row"),
+        ("refusal-8-no-party", "receiver 2 is no party"),
+        ("refusal-9", "the counts add up to 0, and the pool has 1 word"),
+        ("trial-sender-is-receiver", "sender and receiver are both party 0"),
+    ] {
+        assert_eq!(told(name), reason, "{name}");
+    }
+    let refusal = nghiralum::listing(&[0; 7]).expect_err("no book");
+    let notes = &report::no_book("odd", &[0; 7], refusal).diagnostics[0].notes;
+    assert_eq!(notes[..], ["7 bytes are no whole words of four"]);
 }
 
 /// One altered word of a listing is never read as the same: what is decoded is encoded to other words, or to none.

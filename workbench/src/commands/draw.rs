@@ -46,7 +46,7 @@ pub fn run(call: &Call) -> Result<Output, Failure> {
     let unreadable = |report| Ok(playable::told(call, report));
     let subject = match open(&input)? {
         Opened::Mistaken { lines, mistakes } => return unreadable(report::mistaken(&input.name, lines, &mistakes)),
-        Opened::Refused(refusal) => return unreadable(report::no_book(&input.name, refusal)),
+        Opened::Refused(refusal) => return unreadable(report::no_book(&input.name, &input.bytes, refusal)),
         Opened::Subject(subject) => *subject,
     };
     let order = Order::asked(call, &subject)?;

@@ -2,6 +2,7 @@
 //! then, and what helps. What is held is asked of the book cut to the steps before, so that it is proved as well.
 
 use super::edits;
+use super::why::why;
 use super::{count, listed, short, Diagnostic, Mark, Report, Verdict};
 use crate::failure::Failure;
 use crate::listing::{Event, Image};
@@ -18,12 +19,13 @@ const MOST_HELPS: usize = 3;
 /// So many refusals are told of one book.
 const MOST_REFUSALS: usize = 12;
 
-/// Bytes that are no book.
-pub fn no_book(name: &str, refusal: Refusal) -> Report {
+/// Bytes that are no book, and which rule they break.
+pub fn no_book(name: &str, bytes: &[u8], refusal: Refusal) -> Report {
     let told = refusal.to_string();
     let sentence = told.split_once(": ").map_or(&told[..], |(_, sentence)| sentence);
     let code = format!("R{}", refusal.number());
-    let diagnostic = Diagnostic::error(code, format!("this is no book: {sentence}"));
+    let mut diagnostic = Diagnostic::error(code, format!("this is no book: {sentence}"));
+    diagnostic.notes.extend(why(bytes, refusal));
     Report::new(name, Vec::new(), Verdict::Refused(refusal.number()), vec![diagnostic])
 }
 

@@ -137,16 +137,16 @@ pub fn read(words: &[u32]) -> Result<Book, Refusal> {
 }
 
 /// The four sections of words whose header is right.
-pub struct Sections<'w> {
-    pub rows: &'w [u32],
-    pub parties: &'w [u32],
-    pub steps: &'w [u32],
-    pub pool: &'w [u32],
+struct Sections<'w> {
+    rows: &'w [u32],
+    parties: &'w [u32],
+    steps: &'w [u32],
+    pool: &'w [u32],
 }
 
 impl<'w> Sections<'w> {
     /// Only for words that passed refusals 1 to 3.
-    pub fn of(words: &'w [u32]) -> Sections<'w> {
+    fn of(words: &'w [u32]) -> Sections<'w> {
         let [rows, parties, steps, pool] = OFFSETS.map(|word| words[word] as usize);
         Sections {
             rows: &words[rows..parties],
@@ -154,13 +154,6 @@ impl<'w> Sections<'w> {
             steps: &words[steps..pool],
             pool: &words[pool..],
         }
-    }
-
-    /// As much of a list as lies in the pool, and no more of it than a good list could have.
-    pub fn clipped(&self, first: u32, count: u32, most: u32) -> &'w [u32] {
-        let from = (first as usize).min(self.pool.len());
-        let to = from + (count.min(most) as usize).min(self.pool.len() - from);
-        &self.pool[from..to]
     }
 }
 

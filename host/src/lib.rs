@@ -21,7 +21,6 @@ pub mod rehearse;
 pub mod requests;
 pub mod routes;
 pub mod shelf;
-pub mod show;
 pub mod summary;
 pub mod term;
 pub mod translate;

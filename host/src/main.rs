@@ -1,12 +1,11 @@
 //! The commands of the second implementation: each reads its files, asks the library, and prints. Whatever a command
 //! is given, it ends with an answer or with one message on standard error and status 2.
 
-use host::book::Refusal;
 use host::requests::{self, Calls, Request};
 use host::shelf::Shelf;
 use host::{
-    bench, book, bytes, compare, corpus, edits, files, frames, judge, mutants, narration, random, rehearse, routes,
-    show, translate, types, words,
+    bench, book, compare, corpus, edits, files, frames, mutants, narration, random, rehearse, routes, translate, types,
+    words,
 };
 use std::io::{self, Write};
 use std::path::{Path, PathBuf};
@@ -17,11 +16,6 @@ const USE: &str = "\
 host translate [FILE]                   print a book's listing or refusal, as the small program does
 host rehearse FILE SCHEDULE             play a book under a schedule (a file of words): events done
 host narrate FILE [OUT]                 turn a narration into a book
-host show FILE                          tell what a book says
-host summary FILE                       tell since when each party has held each row of a book
-host sources FILE                       tell how each party knows each row of a book: given, made or stored, and when
-host judge FILE PARTY LISTING           judge another tool's listing for a party (a file of words) against a book
-host judge --ours FILE PARTY [OUT]      write our own listing for a party, to be judged or changed
 host words FILE [OUT]                   turn decimal words (# to the line's end is a remark) into a book
 host books [--check] DIR                write (or only check) the files derived in a folder of books
 host shelf [--check] BOOKS CRATE        write (or only check) what the program shelf reads and prints
@@ -96,23 +90,6 @@ fn run(arguments: &[String]) -> Result<bool, String> {
             let book = book.map_err(|mistake| format!("{file}: {mistake}"))?;
             another(file, out.first())?;
             give(&words::to_bytes(&book.words()), out.first())?;
-        }
-        ["show", file] => tell(words_of(file, book::READ)?.map(|words| show::show(&words)))?,
-        ["sources", file] => {
-            let table = |words: Vec<u32>| show::sources(&words).unwrap_or_else(|_| show::show(&words));
-            tell(words_of(file, book::READ)?.map(table))?;
-        }
-        ["summary", file] => tell(words_of(file, book::READ)?.and_then(|words| show::summary(&words)))?,
-        ["judge", "--ours", file, party, out @ ..] if out.len() < 2 => {
-            let (party, book) = (words::number(party)?, first_words(file, book::READ)?);
-            let part = bytes::programs(&book).and_then(|own| Ok(translate::part(judge::ours(&own, party)?)));
-            let part = part.map_err(|refusal| format!("{file}: {refusal}"))?;
-            give(&words::to_bytes(&part), out.first())?;
-        }
-        ["judge", file, party, listing] => {
-            let (party, book) = (words::number(party)?, words_of(file, book::READ)?);
-            let both = words_of(listing, judge::READ)?.and_then(|listing| Ok((book?, listing)));
-            tell(both.and_then(|(book, listing)| show::verdict(&book, party, &listing)))?;
         }
         ["words", file, out @ ..] if out.len() < 2 => {
             let words = words::of_text(&files::text(Path::new(file))?);
@@ -248,14 +225,10 @@ fn first_words(name: &str, most: usize) -> Result<Vec<u8>, String> {
     files::first_bytes(Path::new(name), 4 * most)
 }
 
-/// A file's first words, or refusal 1 where its bytes make none.
-fn words_of(name: &str, most: usize) -> Result<Result<Vec<u32>, Refusal>, String> {
-    Ok(words::of_bytes(&first_words(name, most)?))
-}
-
 /// The words of a file of what is asked or of a derivation.
 fn some_words(name: &str) -> Result<Vec<u32>, String> {
-    words_of(name, types::READ)?.map_err(|_| format!("{name}: the bytes are no words, four each"))
+    let words = words::of_bytes(&first_words(name, types::READ)?);
+    words.map_err(|_| format!("{name}: the bytes are no words, four each"))
 }
 
 fn ended(mut text: String) -> String {
@@ -263,11 +236,6 @@ fn ended(mut text: String) -> String {
         text.push('\n');
     }
     text
-}
-
-/// Says an answer: a text, or a refusal, which is an answer like another.
-fn tell(answer: Result<String, Refusal>) -> Result<(), String> {
-    say(&ended(answer.unwrap_or_else(|refusal| refusal.to_string())))
 }
 
 fn say(text: &str) -> Result<(), String> {

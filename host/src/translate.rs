@@ -342,14 +342,9 @@ impl Translation {
     }
 }
 
-/// One program per party of a book that keeps its rules, or where the walk stops.
-pub fn walk(book: &Book) -> Result<Vec<Program>, Stop> {
-    Ok(Translation::whole(book)?.end())
-}
-
-/// The same, with the refusal where the walk stops.
+/// One program per party of a book that keeps its rules, or the refusal where the walk stops.
 pub fn programs(book: &Book) -> Result<Vec<Program>, Refusal> {
-    Ok(walk(book)?)
+    Ok(Translation::whole(book)?.end())
 }
 
 /// The listing: "word 0 is Q; then for each party offset and count of its listing; then the

@@ -53,26 +53,23 @@ fn words_translate_and_rehearse() {
 }
 
 #[test]
-fn narrate_and_show() {
+fn narrate() {
     let folder = Folder::new("narrate");
-    let book = folder.file("1.book", "");
+    let narration = folder.file(
+        "1.narration",
+        "party A knows A, B, K\nparty B knows A, B, K\nB -> A: N\nA -> B: {N, B}K\n",
+    );
+    let book = folder.path("1.book");
+    assert_eq!(printed(&["narrate", &narration, &book]), "");
+    assert_eq!(folder.read("1.book"), words::to_bytes(&EXAMPLE_1));
+    assert_eq!(output(&["narrate", &narration]).stdout, words::to_bytes(&EXAMPLE_1));
+    // Nothing is written over its source.
     let text = folder.file("1.words", text_1());
-    printed(&["words", &text, &book]);
-    let shown = printed(&["show", &book]);
-    assert!(shown.contains("->") && shown.ends_with('\n'), "{shown}");
-    // What is shown is a narration again, of the same listing.
-    let narration = folder.file("1.narration", shown);
-    let again = folder.path("2.book");
-    printed(&["narrate", &narration, &again]);
-    assert_eq!(printed(&["translate", &again]), line_1());
-    // Neither is written over its source.
     for (command, source) in [("narrate", &narration), ("words", &text)] {
         let before = fs::read(source).expect("the source");
         assert!(complains(&[command, source, source]).contains("not written over"));
         assert_eq!(fs::read(source).expect("the source"), before);
     }
-    let uneven = folder.file("uneven.book", [0]);
-    assert_eq!(printed(&["show", &uneven]), "refused 1 0\n");
 }
 
 #[test]
@@ -97,9 +94,6 @@ fn help() {
         "translate",
         "rehearse",
         "narrate",
-        "show",
-        "summary",
-        "judge",
         "words",
         "books",
         "shelf",
@@ -122,7 +116,7 @@ fn bad_input() {
     let binary = folder.file("binary", [0xff, 0xfe, 0, 1]);
     let words = folder.file("words", "1 2 three");
     let directory = folder.path("");
-    for command in ["translate", "show", "summary", "narrate", "words"] {
+    for command in ["translate", "narrate", "words"] {
         assert!(complains(&[command, &missing]).contains("missing"));
         complains(&[command, &directory]);
     }
@@ -149,19 +143,10 @@ fn bad_input() {
     complains(&["compare", "program", "--random", "1"]);
     complains(&["compare", "program", &directory]);
     complains(&["translate", "one", "two"]);
-    complains(&["summary"]);
-    complains(&["summary", "one", "two"]);
-    assert!(complains(&["judge", &missing, "0", &words]).contains("missing"));
-    assert!(complains(&["judge", &words, "0", &missing]).contains("missing"));
-    assert!(complains(&["judge", "--ours", &missing, "0"]).contains("missing"));
-    for party in ["A", "", "-1", "+1", "4294967296", "0x1"] {
-        assert!(complains(&["judge", &words, party, &words]).contains("no number from 0"));
-        assert!(complains(&["judge", "--ours", &words, party]).contains("no number from 0"));
+    // What people read of a book, the workbench tells.
+    for command in ["show", "summary", "sources", "judge"] {
+        assert!(complains(&[command, &words]).contains("isn't clear"));
     }
-    complains(&["judge", &words, "0"]);
-    complains(&["judge", &words, "0", &words, &words]);
-    complains(&["judge", "--ours", &words]);
-    complains(&["judge", "--ours", &words, "0", "out", "more"]);
     assert!(complains(&["nothing", "like", "it"]).contains("nothing"));
 }
 
@@ -186,15 +171,7 @@ fn closed_pipe() {
     let text = folder.file("1.words", text_1());
     let book = folder.path("1.book");
     printed(&["words", &text, &book]);
-    for arguments in [
-        &["translate", &book][..],
-        &["show", &book],
-        &["summary", &book],
-        &["judge", "--ours", &book, "0"],
-        &["judge", &book, "0", &book],
-        &["words", &text],
-        &["help"],
-    ] {
+    for arguments in [&["translate", &book][..], &["words", &text], &["help"]] {
         let (reader, writer) = std::io::pipe().expect("a pipe");
         drop(reader);
         let child = host(arguments).stdout(writer).stderr(Stdio::piped()).spawn();

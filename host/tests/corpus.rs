@@ -3,12 +3,11 @@
 mod common;
 
 use common::{top, Folder};
-use host::book::LONGEST;
+use host::book::{read, LONGEST};
 use host::corpus::{check, write};
 use host::files;
 use host::narration::narrate;
-use host::show::show;
-use host::translate::print;
+use host::translate::{print, programs, Event, Image};
 use host::words;
 use std::fs;
 use std::path::PathBuf;
@@ -228,11 +227,17 @@ fn the_edges_are_reached() {
     let bytes = fs::read(books().join("refusal-3-longest-and-one.book")).unwrap();
     assert_eq!(bytes.len(), 4 * LONGEST + 4);
 
-    let shown = |name: &str| {
+    let program = |name: &str| {
         let bytes = fs::read(books().join(format!("{name}.book"))).unwrap();
-        show(&words::of_bytes(&bytes).unwrap())
+        let book = read(&words::of_bytes(&bytes).unwrap()).unwrap();
+        programs(&book).unwrap().swap_remove(1)
     };
-    let events = |name: &str, event: &str| shown(name).matches(&format!("# B: {event} ")).count();
+    let events = |name: &str| {
+        let own = program(name);
+        let opens = own.iter().filter(|event| matches!(event, Event::Open { .. }));
+        let checks = own.iter().filter(|event| matches!(event, Event::Check { .. }));
+        (opens.count(), checks.count())
+    };
     for (name, opens, checks) in [
         ("deep-ciphers", 255, 0),
         ("deep-ciphers-halves", 204, 0),
@@ -241,20 +246,19 @@ fn the_edges_are_reached() {
         ("deep-keys", 1, 0),
         ("deep-partner", 1, 0),
     ] {
-        assert_eq!((events(name, "open"), events(name, "check")), (opens, checks), "{name}");
+        assert_eq!(events(name), (opens, checks), "{name}");
     }
-    assert!(shown("deep-halves").contains(&format!("# B: check x0 = A{}\n", "+".repeat(1022))));
-}
-
-/// What is shown of a book that passes 1 to 9 is a narration of that very book.
-#[test]
-fn every_narration_comes_back() {
-    for (name, path) in of_kind("narration") {
-        let book = narrate(&fs::read_to_string(path).unwrap()).unwrap();
-        let text = show(&book.words());
-        assert_eq!(narrate(&text).as_ref(), Ok(&book), "{name}\n{text}");
-        assert_eq!(show(&narrate(&text).unwrap().words()), text, "{name}");
+    // What B compares is a half 1,022 times over.
+    let halves = program("deep-halves").into_iter().find_map(|event| match event {
+        Event::Check { image, .. } => Some(image),
+        _ => None,
+    });
+    let mut image = &halves.expect("a CHECK");
+    let mut depth = 0;
+    while let Image::Public(part) = image {
+        (image, depth) = (part, depth + 1);
     }
+    assert_eq!((depth, image), (1022, &Image::Itself(0)));
 }
 
 #[test]

@@ -3,15 +3,13 @@
 
 mod common;
 
-use common::{
-    atoms, book, complains, output, parties, printed, row, step, top, Folder, EXAMPLE_1, LISTING_1, SMALLEST,
-};
+use common::{atoms, book, parties, row, step, top, EXAMPLE_1, LISTING_1, SMALLEST};
 use host::book::{read, Refusal};
 use host::files;
 use host::judge::{by, judge, Verdict};
 use host::random::{self, Random};
 use host::translate::{part, programs, Program};
-use host::words::{of_bytes, to_bytes};
+use host::words::of_bytes;
 use std::collections::{BTreeMap, BTreeSet, HashMap};
 use Verdict::{Differs, Same};
 
@@ -595,158 +593,4 @@ fn the_most_placeholders() {
         .find(|at| roles[*at] == Run(n) && ours[*at] == last)
         .expect("a run");
     assert_eq!(by(&own, 0, &overlapping), Ok(Differs(at)));
-}
-
-/// What the command says of example 1's second party, with other words at some places.
-fn said(folder: &Folder, words: &[(usize, u32)], length: usize) -> String {
-    let mut theirs = with(B, words);
-    theirs.resize(length, 7);
-    let listing = folder.file("listing", to_bytes(&theirs));
-    let book = top().join("books/example-1.book");
-    printed(&["judge", &book.to_string_lossy(), "1", &listing])
-}
-
-/// Each kind of difference, in words for people.
-#[test]
-fn what_is_said() {
-    let folder = Folder::new("judge-said");
-    let said = |words: &[(usize, u32)], length: usize| said(&folder, words, length);
-    assert_eq!(
-        said(&[], B.len()),
-        "same: a one-to-one renaming of its placeholders turns the listing, 27 words, into ours\n"
-    );
-    assert_eq!(
-        said(&[(1, 4)], B.len()),
-        "differs at word 1, word 1 of event 0 of B's program, at step 0
-  event   new n3
-  ours    3
-  theirs  4
-  why     this word is no placeholder's, so no renaming changes it
-"
-    );
-    assert_eq!(
-        said(&[(B_CHECKS[0], 2)], B.len()),
-        "differs at word 18, word 1 of event 4 of B's program, at step 1
-  event   check x1 = n3
-  ours    1, placeholder x1
-  theirs  2
-  why     x1 is called 1 by them since word 13
-"
-    );
-    let opened = "differs at word 13, word 2 of event 3 of B's program, at step 1
-  event   open x0 with n2: x1, x2
-  ours    1, the first of the new placeholders x1 to x2
-";
-    let told = |rest: &str| opened.to_string() + rest;
-    assert_eq!(
-        said(&[(B_RECEIVE, 6), (B_OPENED, 6), (B_OPEN, 5)], B.len()),
-        told("  theirs  5\n  why     number 6 of the run is taken: x0 is called so by them since word 9\n")
-    );
-    assert_eq!(
-        said(&[(B_OPEN, u32::MAX)], B.len()),
-        told("  theirs  4294967295\n  why     2 numbers from 4294967295 on go past the largest word, 4294967295\n")
-    );
-    assert_eq!(
-        said(&[], B_OPEN),
-        told("  theirs  nothing\n  why     theirs ends here\n")
-    );
-    assert_eq!(
-        said(&[], B_RECEIVE),
-        "differs at word 9, word 2 of event 2 of B's program, at step 1
-  event   receive step 1: x0
-  ours    0, the new placeholder x0
-  theirs  nothing
-  why     theirs ends here
-"
-    );
-    assert_eq!(
-        said(&[], B.len() + 2),
-        "differs at word 27, behind END of B's program
-  ours    nothing
-  theirs  7
-  why     theirs goes on behind our end
-"
-    );
-    assert_eq!(
-        said(&[(25, 5)], B.len()),
-        "differs at word 25, word 0 of event 6 of B's program
-  event   end: nothing
-  ours    6
-  theirs  5
-  why     this word is no placeholder's, so no renaming changes it
-"
-    );
-}
-
-/// A run of none, and an event that is too long to be shown whole.
-#[test]
-fn what_is_said_of_runs() {
-    let folder = Folder::new("judge-runs");
-    let rows = [atoms(4), vec![row(1, 7, &[3; 8])]].concat();
-    let known = parties(&[&[3], &[]]);
-    let steps = [
-        step(0, 1, &[]),
-        step(0, 1, &[3]),
-        step(1, 0, &[4; 8]),
-        step(0, 1, &[4; 8]),
-    ];
-    let book = folder.file("book", to_bytes(&book(rows, &known, &steps).words()));
-    let said = |at: usize, word: u32| {
-        let ours = folder.path("ours");
-        assert_eq!(printed(&["judge", "--ours", &book, "1", &ours]), "");
-        let theirs = with(&of_bytes(&folder.read("ours")).expect("words"), &[(at, word)]);
-        let theirs = folder.file("theirs", to_bytes(&theirs));
-        printed(&["judge", &book, "1", &theirs])
-    };
-    assert_eq!(
-        said(2, 1),
-        "differs at word 2, word 2 of event 0 of B's program, at step 0
-  event   receive step 0: nothing
-  ours    0, the next placeholder, and none is new
-  theirs  1
-  why     where none is new, the number must be ours
-"
-    );
-    let run = said(6, 9);
-    assert!(
-        run.starts_with("differs at word 15, word 7 of event 2 of B's program, at step 2\n"),
-        "{run}"
-    );
-    assert!(
-        run.ends_with("  why     x0 is called 9 by them since word 6\n"),
-        "{run}"
-    );
-    let shown = run.lines().nth(1).expect("the event");
-    assert!(shown.starts_with("  event   send step 2: op7(x0, x0"), "{shown}");
-    assert!(shown.ends_with(" ..") && shown.len() < 260, "{shown}");
-}
-
-/// The command and its files: ours is the same, whoever asks; refusals are answers, and no part of ours is one.
-#[test]
-fn the_command() {
-    let folder = Folder::new("judge-command");
-    let book = folder.file("book", to_bytes(&EXAMPLE_1));
-    for (party, ours) in [("0", A), ("1", B)] {
-        let part = folder.path("part");
-        assert_eq!(printed(&["judge", "--ours", &book, party, &part]), "");
-        assert_eq!(folder.read("part"), to_bytes(ours));
-        assert_eq!(output(&["judge", "--ours", &book, party]).stdout, to_bytes(ours));
-        assert!(printed(&["judge", &book, party, &part]).starts_with("same: "));
-    }
-    let part = folder.file("part", to_bytes(A));
-    let odd = folder.file("odd", &to_bytes(A)[1..]);
-    let unplayable = top().join("books/unplayable-maker.book");
-    let unplayable = unplayable.to_string_lossy();
-    assert_eq!(printed(&["judge", &book, "2", &part]), "refused 22 2\n");
-    assert_eq!(
-        printed(&["judge", &book, "4294967295", &part]),
-        "refused 22 4294967295\n"
-    );
-    assert_eq!(printed(&["judge", &book, "9", &odd]), "refused 1 0\n");
-    assert_eq!(printed(&["judge", &odd, "0", &part]), "refused 1 0\n");
-    assert_eq!(printed(&["judge", &part, "0", &part]), "refused 2 2\n");
-    assert_eq!(printed(&["judge", &unplayable, "9", &part]), "refused 13 0 3\n");
-    assert!(complains(&["judge", "--ours", &book, "2"]).contains("book: refused 22 2"));
-    assert!(complains(&["judge", "--ours", &unplayable, "0"]).contains("unplayable-maker.book: refused 13 0 3"));
-    assert!(complains(&["judge", "--ours", &odd, "0"]).contains("odd: refused 1 0"));
 }

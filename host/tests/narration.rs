@@ -205,7 +205,8 @@ const MISTAKES: &[(&str, usize, usize, &str)] = &[
     ("party A\nA -> B: (N, M)", 2, 11, "expected `)`, found `,`"),
     ("party A\nA -> B: ()", 2, 10, "expected a term, found `)`"),
     ("party A\nA -> B: K)", 2, 10, "expected `,` or the end of the line, found `)`"),
-    ("party A knows K\u{00e9}", 1, 16, "expected `,` or the end of the line, found `\u{00e9}`"),
+    // A letter of any script is one of a name; the column is counted in characters.
+    ("party A knows \u{00e9}\u{20ac}", 1, 16, "expected `,` or the end of the line, found `\u{20ac}`"),
     ("party A knows \u{1f511}, K", 1, 15, "expected a term, found `\u{1f511}`"),
     ("party A knows K # \u{1f511}\n  % ", 2, 3, "expected `rows`, `party` or a step, found `%`"),
     ("party A\nA -> B: f(1,2,3,4,5,6,7,8, 9)", 2, 28, "expected at most 8 arguments, found one more"),

@@ -3,14 +3,13 @@
 
 mod common;
 
-use common::{atoms, book, party, printed, row, step, top, Folder, EXAMPLE_1, SMALLEST};
+use common::{atoms, book, party, step, top, EXAMPLE_1};
 use host::book::{read, Book, Refusal, Terms};
 use host::machine::Machine;
 use host::random;
-use host::show::show;
 use host::summary;
 use host::translate::{self, translate, Event, Program, Source, Translation};
-use host::words::{of_bytes, to_bytes};
+use host::words::of_bytes;
 use std::collections::BTreeMap;
 
 const NOT: Option<Source> = None;
@@ -368,46 +367,4 @@ fn images() {
         assert_eq!(image, translate::Image::Placeholder(4));
     }
     assert_eq!(Source::Given.image(5), translate::Image::Itself(5));
-}
-
-#[test]
-fn the_command() {
-    let folder = Folder::new("sources");
-    let file = folder.file("1.book", to_bytes(&EXAMPLE_1));
-    let table = "\
-row  A                       B                   term
-0    given at the start      given at the start  A
-1    given at the start      given at the start  B
-2    given at the start      given at the start  n2
-3    stored at step 0 as x0  made at step 0      n3
-4    not known               not known           {n3, B}n2
-";
-    assert_eq!(printed(&["sources", &file]), table);
-    let file = folder.file("smallest.book", to_bytes(&SMALLEST));
-    assert_eq!(
-        printed(&["sources", &file]),
-        "row  A          term\n0    not known  A\n"
-    );
-
-    // Of a party that isn't A and of a term that isn't an atom: C stores, as its second placeholder, what B builds.
-    let rows = [atoms(4), vec![row(1, 7, &[3])]].concat();
-    let steps = [step(0, 1, &[3]), step(1, 2, &[0, 4])];
-    let other = book(rows, &[party(0, &[]), party(1, &[0]), party(2, &[])], &steps);
-    let table = printed(&["sources", &folder.file("other.book", to_bytes(&other.words()))]);
-    let last = "4    not known       not known               stored at step 1 as x1  op7(n3)";
-    assert_eq!(table.lines().last(), Some(last));
-
-    // A refused book is shown, with the mark of its refusal.
-    for (name, mark) in [
-        ("refusal-6", "# refused 6 at row 2: "),
-        ("unplayable-late-key", "# refused 10 at step 2, row 3: "),
-        ("unplayable-maker", "# refused 13 at step 0, row 3: "),
-    ] {
-        let path = top().join(format!("books/{name}.book"));
-        let told = printed(&["sources", &path.to_string_lossy()]);
-        assert!(told.lines().any(|line| line.starts_with(mark)), "{told}");
-        assert_eq!(told, show(&words_in_files(name)), "{name}");
-    }
-    let uneven = folder.file("uneven.book", [0]);
-    assert_eq!(printed(&["sources", &uneven]), "refused 1 0\n");
 }

@@ -3,12 +3,12 @@
 
 mod common;
 
-use common::{atoms, book, making_nothing, parties, party, printed, row, step, top, Folder, EXAMPLE_1, SMALLEST};
+use common::{atoms, book, making_nothing, parties, party, row, step, top, EXAMPLE_1, SMALLEST};
 use host::book::{read, Book, Refusal};
 use host::random;
 use host::summary::{ask, held_after, of, write};
 use host::translate::{self, Event};
-use host::words::{of_bytes, to_bytes};
+use host::words::of_bytes;
 
 /// What stands in a lent buffer beforehand.
 const OLD: u32 = 0xfeed;
@@ -372,41 +372,4 @@ fn any_words() {
         assert_eq!(ask(&summary, 0, row, step), Ok(yes), "{row} {step}");
     }
     assert_eq!(ask(&summary, 0, 0, most), refused(21, most));
-}
-
-#[test]
-fn the_command() {
-    let folder = Folder::new("summary");
-    let file = folder.file("1.book", to_bytes(&EXAMPLE_1));
-    let table = "\
-row  A       B       term
-0    start   start   A
-1    start   start   B
-2    start   start   n2
-3    step 0  step 0  n3
-4    never   never   {n3, B}n2
-";
-    assert_eq!(printed(&["summary", &file]), table);
-    let file = folder.file("smallest.book", to_bytes(&SMALLEST));
-    assert_eq!(printed(&["summary", &file]), "row  A      term\n0    never  A\n");
-
-    // Steps and rows of more than one figure: A makes a row in each step and B stores it.
-    let steps: Vec<_> = (0..11).map(|number| step(0, 1, &[2 + number])).collect();
-    let long = book(atoms(13), &parties(&[&[0, 1], &[]]), &steps);
-    let table = printed(&["summary", &folder.file("long.book", to_bytes(&long.words()))]);
-    let lines: Vec<&str> = table.lines().collect();
-    assert_eq!(lines.len(), 14);
-    assert_eq!(lines[0], "row  A        B        term");
-    assert_eq!(lines[2], "1    start    never    B");
-    assert_eq!(lines[3], "2    step 0   step 0   n2");
-    assert_eq!(lines[13], "12   step 10  step 10  n12");
-
-    let refused = top().join("books/refusal-6.book");
-    assert_eq!(printed(&["summary", &refused.to_string_lossy()]), "refused 6 2\n");
-    let unplayable = top().join("books/unplayable-late-key.book");
-    assert_eq!(printed(&["summary", &unplayable.to_string_lossy()]), "refused 10 2 3\n");
-    let maker = top().join("books/unplayable-maker.book");
-    assert_eq!(printed(&["summary", &maker.to_string_lossy()]), "refused 13 0 3\n");
-    let uneven = folder.file("uneven.book", [0]);
-    assert_eq!(printed(&["summary", &uneven]), "refused 1 0\n");
 }

@@ -5,6 +5,7 @@ use workbench::guard;
 use workbench::input::Input;
 use workbench::listing::{Event, Program};
 use workbench::proved::Answers;
+use workbench::run::{run, Order};
 use workbench::subject::{open, to_words, Opened, Subject};
 use workbench::told::Names;
 
@@ -104,4 +105,24 @@ fn moves() {
         assert_eq!(told, Err(70));
     }
     assert_eq!(guard::moved(&[1, 2], &[2, 2], 0), Ok(true));
+}
+
+/// A program with an event less, or more, than the proved one: the run doesn't do what it says is next.
+#[test]
+fn runs() {
+    let subject = subject("example-1.narration");
+    let status = |answers: &Answers| run(&subject, answers, &Order::Round).map_err(|failure| failure.status);
+    let whole = answers(&subject);
+    assert!(status(&whole).is_ok());
+    for party in 0..whole.programs.len() {
+        for at in 0..whole.programs[party].len() - 1 {
+            let mut altered = answers(&subject);
+            altered.programs[party].remove(at);
+            assert_eq!(status(&altered).err(), Some(70), "party {party}, without event {at}");
+            let mut altered = answers(&subject);
+            let twice = altered.programs[party][at].clone();
+            altered.programs[party].insert(at, twice);
+            assert_eq!(status(&altered).err(), Some(70), "party {party}, event {at} twice");
+        }
+    }
 }

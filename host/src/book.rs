@@ -13,17 +13,6 @@ use std::hash::BuildHasherDefault;
 /// The words that a program reads: "one word more than the longest book", and no further.
 pub const READ: usize = LONGEST + 1;
 
-/// How many parts a row of this kind has, least and most; nothing if there is no such kind.
-pub fn parts(kind: u32) -> Option<(u32, u32)> {
-    match kind {
-        ATOM => Some((0, 0)),
-        OPERATION => Some((0, MOST_ARGUMENTS)),
-        CIPHER => Some((1, MOST_PARTS)),
-        PUBLIC | PRIVATE => Some((1, 1)),
-        _ => None,
-    }
-}
-
 /// A refusal: its number in the papers' table, and its place (two numbers where a walk stops: step and row).
 #[derive(Clone, PartialEq, Eq, Debug)]
 pub struct Refusal {
@@ -134,27 +123,6 @@ pub fn read(words: &[u32]) -> Result<Book, Refusal> {
         return Err(Refusal::new(9, &[0]));
     }
     Ok(Book { rows, parties, steps })
-}
-
-/// The four sections of words whose header is right.
-struct Sections<'w> {
-    rows: &'w [u32],
-    parties: &'w [u32],
-    steps: &'w [u32],
-    pool: &'w [u32],
-}
-
-impl<'w> Sections<'w> {
-    /// Only for words that passed refusals 1 to 3.
-    fn of(words: &'w [u32]) -> Sections<'w> {
-        let [rows, parties, steps, pool] = OFFSETS.map(|word| words[word] as usize);
-        Sections {
-            rows: &words[rows..parties],
-            parties: &words[parties..steps],
-            steps: &words[steps..pool],
-            pool: &words[pool..],
-        }
-    }
 }
 
 /// Refusals 1 to 3.

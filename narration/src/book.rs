@@ -38,6 +38,17 @@ pub const CIPHER: u32 = 2;
 pub const PUBLIC: u32 = 3;
 pub const PRIVATE: u32 = 4;
 
+/// How many parts a row of this kind has, least and most; nothing if there is no such kind.
+pub fn parts(kind: u32) -> Option<(u32, u32)> {
+    match kind {
+        ATOM => Some((0, 0)),
+        OPERATION => Some((0, MOST_ARGUMENTS)),
+        CIPHER => Some((1, MOST_PARTS)),
+        PUBLIC | PRIVATE => Some((1, 1)),
+        _ => None,
+    }
+}
+
 /// What a row of this kind adds to the sizes of its parts.
 pub fn own_size(kind: u32) -> u32 {
     match kind {
@@ -205,5 +216,25 @@ impl Layout {
 
     pub const fn step(self, number: usize) -> usize {
         self.steps + STEP * number
+    }
+}
+
+/// The four sections of words whose header is right: they have passed refusals 1 to 3.
+pub struct Sections<'w> {
+    pub rows: &'w [u32],
+    pub parties: &'w [u32],
+    pub steps: &'w [u32],
+    pub pool: &'w [u32],
+}
+
+impl<'w> Sections<'w> {
+    pub fn of(words: &'w [u32]) -> Sections<'w> {
+        let layout = Layout::counted(words);
+        Sections {
+            rows: &words[layout.rows..layout.parties],
+            parties: &words[layout.parties..layout.steps],
+            steps: &words[layout.steps..layout.pool],
+            pool: &words[layout.pool..layout.end],
+        }
     }
 }

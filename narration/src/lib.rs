@@ -15,7 +15,7 @@ mod token;
 mod write;
 mod written;
 
-pub use mistake::{Mistake, Spot};
+pub use mistake::{Kind, Mistake, Spot};
 pub use names::Names;
 pub use token::of_a_name;
 pub use write::write;
@@ -79,7 +79,8 @@ pub fn narrate(text: &str) -> Result<Narration, Vec<Mistake>> {
         return Err(lines.mistakes);
     }
     if lines.parties.is_empty() {
-        return Err(vec![mistake(lines.end, "a party", "the end of the text")]);
+        let empty = mistake(lines.end, "a party", "the end of the text");
+        return Err(vec![empty.of(Kind::Empty)]);
     }
     let mut reading = Reading {
         table: Table::new(
@@ -98,7 +99,7 @@ pub fn narrate(text: &str) -> Result<Narration, Vec<Mistake>> {
     for line in &lines.parties {
         if numbers.len() == limits::PARTIES {
             let expected = format!("at most {} parties", limits::PARTIES);
-            reading.wrong(mistake(line.spot, &expected, "one more"));
+            reading.wrong(mistake(line.spot, &expected, "one more").of(Kind::Limit));
         }
         if numbers.insert(line.name, parties.len() as u32).is_some() {
             let found = format!("`{}` a second time", line.name);
@@ -112,7 +113,7 @@ pub fn narrate(text: &str) -> Result<Narration, Vec<Mistake>> {
     for line in &lines.steps {
         if steps.len() == limits::STEPS {
             let expected = format!("at most {} steps", limits::STEPS);
-            reading.wrong(mistake(line.sender.1, &expected, "one more"));
+            reading.wrong(mistake(line.sender.1, &expected, "one more").of(Kind::Limit));
         }
         let (step, place) = reading.step(line, &numbers);
         steps.push(step);
@@ -139,13 +140,10 @@ struct Reading<'a, 't> {
 }
 
 impl<'a> Reading<'a, '_> {
-    /// Notes a mistake, a limit's once: its message names the limit alone.
+    /// Notes a mistake; that a limit is passed, once.
     fn wrong(&mut self, wrong: Mistake) {
-        if self
-            .mistakes
-            .iter()
-            .all(|earlier| earlier.message != wrong.message || !is_limit(&wrong))
-        {
+        let told = |earlier: &Mistake| wrong.kind == Kind::Limit && earlier.expected == wrong.expected;
+        if !self.mistakes.iter().any(told) {
             self.mistakes.push(wrong);
         }
     }
@@ -212,17 +210,12 @@ impl<'a> Reading<'a, '_> {
     }
 }
 
-/// Whether a limit of the whole book was passed, which every later term passes too.
-fn is_limit(wrong: &Mistake) -> bool {
-    wrong.message.contains(" at most ")
-}
-
 fn number(numbers: &HashMap<&str, u32>, (name, spot): (&str, Spot)) -> Result<u32, Mistake> {
     match numbers.get(name) {
         Some(number) => Ok(*number),
         None => {
             let found = format!("`{name}`, which no party line declares");
-            Err(mistake(spot, "a party's name", &found))
+            Err(mistake(spot, "a party's name", &found).of(Kind::Undeclared))
         }
     }
 }

@@ -3,7 +3,7 @@
 
 use super::book::{own_size, Row, ATOM, CIPHER, OPERATION, PRIVATE, PUBLIC};
 use super::limits;
-use super::mistake::{mistake, Mistake, Spot};
+use super::mistake::{mistake, Kind, Mistake, Spot};
 use super::names::Names;
 use super::tags::Tags;
 use super::written::{Form, Written};
@@ -118,7 +118,7 @@ impl<'a> Table<'a> {
         }
         if self.rows.len() == limits::ROWS {
             let expected = format!("at most {} rows", limits::ROWS);
-            return Err(mistake(spot, &expected, "a term that needs one more"));
+            return Err(mistake(spot, &expected, "a term that needs one more").of(Kind::Limit));
         }
         self.lists(row.parts.len(), spot)?;
         self.rows.push(row);
@@ -133,6 +133,6 @@ impl<'a> Table<'a> {
             return Ok(());
         }
         let expected = format!("lists of at most {} words in all", limits::POOL);
-        Err(mistake(spot, &expected, "a term that needs more"))
+        Err(mistake(spot, &expected, "a term that needs more").of(Kind::Limit))
     }
 }

@@ -100,6 +100,6 @@ fn every_mistake() {
     // A limit is told once, however often it is passed.
     let many: String = (0..1_100).map(|n| format!("rows n{n}\n")).collect();
     assert_eq!(told(&format!("{many}party A")).len(), 1);
-    let length = narrate("party A knows {N}K, {N}K").expect_err("a mistake")[0].length;
-    assert_eq!(length, 4);
+    let mistakes = narrate("party A knows {N}K, {N}K").expect_err("a mistake");
+    assert_eq!(mistakes[0].spot.length, 4);
 }

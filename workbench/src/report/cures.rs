@@ -152,7 +152,7 @@ impl Case<'_> {
     /// What the sender lacks at the same step after a change.
     fn lacking(&self, text: &Text, edit: &Edit) -> Option<&str> {
         match edits::attempt(&edit.lines) {
-            Outcome::Refused { step, atom, .. } if step == self.step => {
+            Some(Outcome::Refused { step, atom, .. }) if step == self.step => {
                 let row = self.subject.terms.iter().position(|term| *term == atom)?;
                 self.needed(text, row as u32)
             }

@@ -100,25 +100,23 @@ impl Outcome {
     }
 }
 
-/// Reads a text and asks the proved translator about its book. With no room lent it refuses every book; one that can be
-/// played by 12.
-pub fn attempt(lines: &[String]) -> Outcome {
+/// Reads a text and asks the proved translator about its book. With no room lent it refuses every book, one that can be
+/// played by 12. A text whose book is none helps nobody.
+pub fn attempt(lines: &[String]) -> Option<Outcome> {
     let narration = match narration::narrate(&lines.join("\n")) {
         Ok(narration) => narration,
-        Err(mistakes) => return Outcome::Mistaken(mistakes.len()),
+        Err(mistakes) => return Some(Outcome::Mistaken(mistakes.len())),
     };
-    let bytes = to_bytes(&narration.book.words());
-    match nghiralum::translate(&bytes, &mut []) {
-        Err(refusal) if matches!(refusal.number(), 10 | 13) => Outcome::Refused {
+    let refusal = nghiralum::translate(&to_bytes(&narration.book.words()), &mut []).err()?;
+    match refusal.number() {
+        12 => Some(Outcome::Playable),
+        10 | 13 => Some(Outcome::Refused {
             number: refusal.number(),
             step: refusal.place(),
-            line: (narration.steps.get(refusal.place() as usize)).map_or(0, |place| place.sender.line),
-            atom: (refusal
-                .row()
-                .and_then(|row| narration.names.atoms.get(row as usize)?.clone()))
-            .unwrap_or_default(),
-        },
-        _ => Outcome::Playable,
+            line: narration.steps.get(refusal.place() as usize)?.sender.line,
+            atom: narration.names.atoms.get(refusal.row()? as usize)?.clone()?,
+        }),
+        _ => None,
     }
 }
 
@@ -131,15 +129,15 @@ pub fn helpful(lines: &[String], kinds: Vec<Vec<Edit>>, step: u32, atom: &str, m
         for edit in edits {
             let step = step + edit.lines.len().saturating_sub(lines.len()) as u32;
             match attempt(&edit.lines) {
-                Outcome::Playable => {
+                Some(Outcome::Playable) => {
                     helps.push(Help::of(edit, Outcome::Playable));
                     break;
                 }
-                Outcome::Checked | Outcome::Mistaken(_) => (),
-                Outcome::Refused {
+                None | Some(Outcome::Checked | Outcome::Mistaken(_)) => (),
+                Some(Outcome::Refused {
                     step: stop, atom: next, ..
-                } if stop < step || (stop == step && next == atom) => (),
-                outcome @ Outcome::Refused { step: stop, .. } => {
+                }) if stop < step || (stop == step && next == atom) => (),
+                Some(outcome @ Outcome::Refused { step: stop, .. }) => {
                     if later.as_ref().is_none_or(|(best, _)| *best < stop) {
                         later = Some((stop, Help::of(edit, outcome)));
                     }
@@ -249,15 +247,17 @@ mod tests {
 
     #[test]
     fn tried() {
-        assert_eq!(attempt(&lines("party A\nparty B\nA -> B: N")), Outcome::Playable);
+        assert_eq!(attempt(&lines("party A\nparty B\nA -> B: N")), Some(Outcome::Playable));
         let refused = Outcome::Refused {
             number: 13,
             step: 0,
             line: 3,
             atom: String::from("N"),
         };
-        assert_eq!(attempt(&lines("party A makes nothing\nparty B\nA -> B: N")), refused);
-        assert_eq!(attempt(&lines("party A\nA -> C: N\nB -> A: N")), Outcome::Mistaken(2));
+        let maker = lines("party A makes nothing\nparty B\nA -> B: N");
+        assert_eq!(attempt(&maker), Some(refused));
+        let mistaken = lines("party A\nA -> C: N\nB -> A: N");
+        assert_eq!(attempt(&mistaken), Some(Outcome::Mistaken(2)));
     }
 
     #[test]

@@ -3,7 +3,7 @@
 use super::edits::{self, Edit, Help, Outcome};
 use super::{listed, Diagnostic, Report, Verdict};
 use crate::arguments::distance;
-use narration::{of_a_name, Mistake, Spot};
+use narration::{of_a_name, Kind, Mistake};
 
 /// Helps are looked for for so many mistakes, and in a text of so many bytes: each help is tried on the whole text.
 const MOST_HELPED: usize = 40;
@@ -17,7 +17,7 @@ pub fn mistaken(name: &str, lines: Vec<String>, mistakes: &[Mistake]) -> Report 
     };
     let diagnostics = (mistakes.iter().enumerate())
         .map(|(n, mistake)| {
-            let mut diagnostic = Diagnostic::error("text", mistake.message.clone()).mark(Some(spot(mistake)), "");
+            let mut diagnostic = Diagnostic::error("text", mistake.message()).mark(Some(mistake.spot), "");
             if n < helped {
                 help(&mut diagnostic, &lines, mistake, mistakes.len());
             }
@@ -27,19 +27,11 @@ pub fn mistaken(name: &str, lines: Vec<String>, mistakes: &[Mistake]) -> Report 
     Report::new(name, lines, Verdict::Mistaken(mistakes.len()), diagnostics)
 }
 
-fn spot(mistake: &Mistake) -> Spot {
-    Spot {
-        line: mistake.line,
-        column: mistake.column,
-        length: mistake.length,
-    }
-}
-
 /// What is said beside the mistake, and what was perhaps meant: the first change that leaves fewer mistakes in the text.
 fn help(diagnostic: &mut Diagnostic, lines: &[String], mistake: &Mistake, mistakes: usize) {
     let wrong = Wrong::of(lines, mistake);
     diagnostic.notes.extend(wrong.note());
-    if mistake.message.ends_with("found the end of the text") {
+    if mistake.kind == Kind::Empty {
         let help = "a narration begins with its parties, a line each: `party A knows K`";
         diagnostic.helps.push(Help::plain(help));
     }
@@ -48,7 +40,9 @@ fn help(diagnostic: &mut Diagnostic, lines: &[String], mistake: &Mistake, mistak
         false => [wrong.arrows(), wrong.first_word(), wrong.expected()].concat(),
     };
     let fewer = |outcome: &Outcome| !matches!(outcome, Outcome::Mistaken(left) if *left >= mistakes);
-    let tried = edits.into_iter().map(|edit| (edits::attempt(&edit.lines), edit));
+    let tried = edits
+        .into_iter()
+        .filter_map(|edit| Some((edits::attempt(&edit.lines)?, edit)));
     let best = tried.into_iter().find(|(outcome, _)| fewer(outcome));
     diagnostic
         .helps
@@ -65,22 +59,26 @@ struct Wrong<'t> {
 
 impl<'t> Wrong<'t> {
     fn of(lines: &'t [String], mistake: &'t Mistake) -> Wrong<'t> {
-        let line = lines.get(mistake.line - 1).map_or("", String::as_str);
+        let line = lines.get(mistake.spot.line - 1).map_or("", String::as_str);
         Wrong {
             lines,
             mistake,
             line,
-            found: line.chars().skip(mistake.column - 1).take(mistake.length).collect(),
+            found: line
+                .chars()
+                .skip(mistake.spot.column - 1)
+                .take(mistake.spot.length)
+                .collect(),
         }
     }
 
     fn undeclared(&self) -> bool {
-        self.mistake.message.ends_with("which no party line declares")
+        self.mistake.kind == Kind::Undeclared
     }
 
     fn note(&self) -> Option<String> {
-        let front: String = self.line.chars().take(self.mistake.column - 1).collect();
-        let keyless = self.mistake.message.starts_with("expected a term,") && front.trim_end().ends_with('}');
+        let front: String = self.line.chars().take(self.mistake.spot.column - 1).collect();
+        let keyless = self.mistake.expected == "a term" && front.trim_end().ends_with('}');
         if self.undeclared() {
             let parties = declared(self.lines);
             let verb = if parties.len() == 1 { "party is" } else { "parties are" };
@@ -91,12 +89,12 @@ impl<'t> Wrong<'t> {
 
     /// The text with this line changed.
     fn edit(&self, line: String, message: String) -> Edit {
-        edits::with_line(self.lines, self.mistake.line, line, message)
+        edits::with_line(self.lines, self.mistake.spot.line, line, message)
     }
 
     /// The line with something in the place of what was found.
     fn instead(&self, what: &str) -> String {
-        edits::replaced(self.line, self.mistake.column, self.mistake.length, what)
+        edits::replaced(self.line, self.mistake.spot.column, self.mistake.spot.length, what)
     }
 
     /// The declared names that are close to the one that isn't, the closest first.
@@ -153,11 +151,10 @@ impl<'t> Wrong<'t> {
         ["party", "rows"].into_iter().filter(near).map(edit).collect()
     }
 
-    /// What was expected, put in or in the place of what was found: all that stands in backquotes before "found". What stands
-    /// in parentheses is an explanation.
+    /// What was expected, put in or in the place of what was found: all that stands in backquotes. What stands in parentheses
+    /// is an explanation.
     fn expected(&self) -> Vec<Edit> {
-        let expected = self.mistake.message.split(", found ").next().unwrap_or("");
-        let expected = expected.split(" (").next().unwrap_or("");
+        let expected = self.mistake.expected.split(" (").next().unwrap_or("");
         let signs = expected.split('`').skip(1).step_by(2);
         signs.flat_map(|sign| self.with(sign)).collect()
     }
@@ -176,7 +173,7 @@ impl<'t> Wrong<'t> {
             ":" if !self.found.is_empty() => ": ",
             _ => sign,
         };
-        let (column, blanks) = blanks_before(self.line, self.mistake.column);
+        let (column, blanks) = blanks_before(self.line, self.mistake.spot.column);
         let line = edits::replaced(self.line, column, blanks, put);
         let mut edits = vec![self.edit(line, format!("put in `{sign}`"))];
         if !self.found.is_empty() && !word(&self.found) {

@@ -3,7 +3,7 @@
 
 use super::count;
 use crate::subject::to_words;
-use narration::book::{self, Layout, BOUNDS, COUNTS, HEADER, MARK, OFFSETS, PARTY, ROW, STEP};
+use narration::book::{self, Layout, Sections, BOUNDS, COUNTS, HEADER, MARK, OFFSETS, PARTY, ROW, STEP};
 use nghiralum::Refusal;
 
 /// The reason for what the reader says of these bytes.
@@ -30,42 +30,11 @@ pub fn why(bytes: &[u8], refusal: Refusal) -> Option<String> {
     }
 }
 
-/// The four sections of words that passed refusals 1 to 3.
-struct Sections<'w> {
-    rows: &'w [u32],
-    parties: &'w [u32],
-    steps: &'w [u32],
-    pool: &'w [u32],
-}
-
-impl<'w> Sections<'w> {
-    fn of(words: &'w [u32]) -> Sections<'w> {
-        let layout = Layout::counted(words);
-        Sections {
-            rows: &words[layout.rows..layout.parties],
-            parties: &words[layout.parties..layout.steps],
-            steps: &words[layout.steps..layout.pool],
-            pool: &words[layout.pool..layout.end],
-        }
-    }
-
-    /// As much of a list as lies in the pool, and no more of it than a good list could have.
-    fn clipped(&self, first: u32, count: u32, most: u32) -> &'w [u32] {
-        let from = (first as usize).min(self.pool.len());
-        let to = from + (count.min(most) as usize).min(self.pool.len() - from);
-        &self.pool[from..to]
-    }
-}
-
-/// How many parts a row of this kind has, least and most; nothing if there is no such kind.
-fn parts(kind: u32) -> Option<(u32, u32)> {
-    match kind {
-        book::ATOM => Some((0, 0)),
-        book::OPERATION => Some((0, book::MOST_ARGUMENTS)),
-        book::CIPHER => Some((1, book::MOST_PARTS)),
-        book::PUBLIC | book::PRIVATE => Some((1, 1)),
-        _ => None,
-    }
+/// As much of a list as lies in the pool, and no more of it than a good list could have.
+fn clipped(pool: &[u32], first: u32, count: u32, most: u32) -> &[u32] {
+    let from = (first as usize).min(pool.len());
+    let to = from + (count.min(most) as usize).min(pool.len() - from);
+    &pool[from..to]
 }
 
 fn bounds(words: &[u32], at: usize) -> Option<String> {
@@ -130,7 +99,7 @@ fn counts_before(words: &[u32], end: usize) -> u64 {
 fn row(words: &[u32], at: usize) -> Option<String> {
     let own = Sections::of(words).rows.chunks_exact(ROW).nth(at)?;
     let (kind, tag, count) = (own[0], own[1], own[3]);
-    let Some((least, most)) = parts(kind) else {
+    let Some((least, most)) = book::parts(kind) else {
         return Some(format!("kind {kind} is none of 0 to 4"));
     };
     if kind != book::OPERATION && tag != 0 {
@@ -149,7 +118,7 @@ fn row(words: &[u32], at: usize) -> Option<String> {
         most,
     );
     broken.or_else(|| {
-        let parts = Sections::of(words).clipped(own[2], count, most);
+        let parts = clipped(Sections::of(words).pool, own[2], count, most);
         let later = parts.iter().find(|part| **part as usize >= at)?;
         Some(format!("part {later} is no row before it"))
     })
@@ -159,7 +128,7 @@ fn size(words: &[u32], at: usize) -> Option<String> {
     let sections = Sections::of(words);
     let mut sizes: Vec<u64> = Vec::new();
     for row in sections.rows.chunks_exact(ROW).take(at + 1) {
-        let parts = sections.clipped(row[2], row[3], book::MOST_PARTS);
+        let parts = clipped(sections.pool, row[2], row[3], book::MOST_PARTS);
         let parts: u64 = parts.iter().filter_map(|part| sizes.get(*part as usize)).sum();
         sizes.push(u64::from(book::own_size(row[0])) + parts);
     }
@@ -173,7 +142,7 @@ fn repeated(words: &[u32], at: usize) -> Option<String> {
         (
             words[0],
             words[1],
-            sections.clipped(words[2], words[3], book::MOST_PARTS),
+            clipped(sections.pool, words[2], words[3], book::MOST_PARTS),
         )
     };
     let earlier = (0..at).find(|earlier| own(*earlier) == own(at))?;
@@ -196,7 +165,7 @@ fn party(words: &[u32], at: usize) -> Option<String> {
     let before = counts_before(words, Layout::counted(words).party(at));
     let broken = list(words, &own[1..3], before, book::MOST_KNOWN);
     broken.or_else(|| {
-        let known = sections.clipped(own[1], own[2], book::MOST_KNOWN);
+        let known = clipped(sections.pool, own[1], own[2], book::MOST_KNOWN);
         if let Some(row) = known.iter().find(|row| **row >= words[COUNTS[0]]) {
             return Some(format!("known {row} is no row"));
         }
@@ -225,7 +194,7 @@ fn step(words: &[u32], at: usize) -> Option<String> {
     let before = counts_before(words, Layout::counted(words).step(at));
     let broken = list(words, &own[2..], before, book::MOST_MESSAGES);
     broken.or_else(|| {
-        let messages = sections.clipped(own[2], own[3], book::MOST_MESSAGES);
+        let messages = clipped(sections.pool, own[2], own[3], book::MOST_MESSAGES);
         let message = messages.iter().find(|row| **row >= words[COUNTS[0]])?;
         Some(format!("message {message} is no row"))
     })

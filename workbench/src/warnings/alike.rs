@@ -49,7 +49,7 @@ fn warning(text: &Text, (rare, spots): (&str, &[Spot]), (usual, places): (&str, 
         lines,
         changed,
     };
-    if attempt(&edit.lines) == Outcome::Playable {
+    if attempt(&edit.lines) == Some(Outcome::Playable) {
         warning.helps.push(Help::of(edit, Outcome::Playable));
     }
     warning

@@ -234,7 +234,7 @@ fn help(
         Kind::Buildable | Kind::Openable => later(subject, text, step),
     };
     for edit in edits {
-        if attempt(&edit.lines) == Outcome::Playable && checked(subject, &edit.lines, party, rows)? {
+        if attempt(&edit.lines) == Some(Outcome::Playable) && checked(subject, &edit.lines, party, rows)? {
             return Ok(Some(Help::of(edit, Outcome::Checked)));
         }
     }

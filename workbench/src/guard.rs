@@ -1,44 +1,51 @@
 //! What is not proved guards itself: each of these compares a thing with what it was made from, in another way than it was
 //! made. A guard that breaks ends the command with status 70.
 
+mod source;
+
+pub use source::plain;
+
 use crate::failure::Failure;
 use crate::listing::{self, Program};
-use crate::subject::{to_bytes, Subject};
-use narration::of_a_name;
+use crate::subject::{to_bytes, to_words, Subject};
+use narration::book::Book;
+use std::collections::BTreeSet;
 
-/// The book printed back with names is the source's terms: each term of the text, read here by itself, is what is printed
-/// of its row.
-pub fn terms(subject: &Subject) -> Result<(), Failure> {
-    let Some(text) = &subject.text else { return Ok(()) };
-    let narration = &text.narration;
-    let known = narration.parties.iter().flat_map(|party| &party.known);
-    let messages = narration.steps.iter().flat_map(|step| &step.messages);
-    for (row, spot) in known.chain(messages) {
-        let line = text.lines.get(spot.line - 1).map_or("", String::as_str);
-        let written: String = line.chars().skip(spot.column - 1).take(spot.length).collect();
-        let read = plain(&written);
-        if read.as_deref() != Some(subject.term(*row)) {
-            return Err(Failure::guard(format!(
-                "{}, line {}: `{written}` became `{}`",
-                subject.name,
-                spot.line,
-                subject.term(*row)
-            )));
+/// The book printed back with names is the source's terms: what the book's bytes say of each party and step is what its line
+/// says, read here by itself, and its rows are the terms of the text with their parts, each once.
+pub fn source(text: &str, subject: &Subject) -> Result<(), Failure> {
+    let broken = |what: String| Err(Failure::guard(format!("{}: {what}", subject.name)));
+    let book = Book::of(&to_words(&subject.bytes)).filter(|book| to_bytes(&book.words()) == subject.bytes);
+    let (Some(book), Some(source)) = (book, source::read(text)) else {
+        return broken("the text, or its book, is not what was read of it".to_string());
+    };
+    let terms = subject.names.texts(&book);
+    let mut lines = source.lines.into_iter();
+    for printed in printed(&book, &terms) {
+        let written = lines.next().unwrap_or_default();
+        if written != printed {
+            return broken(format!("`{written}` became `{printed}`"));
         }
     }
-    for (party, place) in subject.book.parties.iter().zip(&narration.parties) {
-        let line = text.lines.get(place.name.line - 1).map_or("", String::as_str);
-        let written: String = (line.chars().skip(place.name.column - 1))
-            .take(place.name.length)
-            .collect();
-        if written != subject.term(party.name) {
-            return Err(Failure::guard(format!(
-                "party `{written}` became `{}`",
-                subject.term(party.name)
-            )));
-        }
+    if let Some(lost) = lines.next() {
+        return broken(format!("`{lost}` was lost"));
+    }
+    let rows: BTreeSet<&String> = terms.iter().collect();
+    if rows.len() < terms.len() || !rows.into_iter().eq(&source.terms) || terms != subject.terms {
+        return broken("the book's rows are not the terms of the text".to_string());
     }
     Ok(())
+}
+
+/// A line for each party and each step of a book.
+fn printed<'b>(book: &'b Book, terms: &'b [String]) -> impl Iterator<Item = String> + 'b {
+    let list = |rows: &[u32]| -> Vec<String> { rows.iter().map(|row| terms[*row as usize].clone()).collect() };
+    let name = |party: u32| &terms[book.parties[party as usize].name as usize];
+    let parties =
+        (book.parties.iter()).map(move |own| source::party(&terms[own.name as usize], own.makes, list(&own.known)));
+    let steps =
+        (book.steps.iter()).map(move |own| source::step(name(own.sender), name(own.receiver), &list(&own.messages)));
+    parties.chain(steps)
 }
 
 /// A book that is written as a narration is the book of that narration.
@@ -51,81 +58,6 @@ pub fn narration(subject: &Subject, text: &str) -> Result<(), Failure> {
             subject.name
         ))),
     }
-}
-
-/// A term as it is printed: its blanks and the parentheses that it doesn't need left out.
-pub fn plain(written: &str) -> Option<String> {
-    let signs: Vec<char> = written.chars().filter(|sign| !matches!(sign, ' ' | '\t')).collect();
-    // A term that begins inside a parenthesis may end behind it.
-    let mut at = 0;
-    let text = term(&signs, &mut at)?;
-    let rest: String = signs[at..].iter().collect();
-    match rest.trim_start_matches(')') {
-        "" if rest.is_empty() => Some(text.0),
-        halves => halves.chars().try_fold(text, half).map(|text| text.0),
-    }
-}
-
-/// A text, and whether it is a cipher's.
-type Plain = (String, bool);
-
-fn half((text, cipher): Plain, sign: char) -> Option<Plain> {
-    let whole = if cipher { format!("({text})") } else { text };
-    matches!(sign, '+' | '-').then(|| (format!("{whole}{sign}"), false))
-}
-
-fn term(signs: &[char], at: &mut usize) -> Option<Plain> {
-    let mut text = match signs.get(*at)? {
-        '{' => {
-            let contents = list(signs, at, '}')?;
-            let key = term(signs, at)?;
-            return Some((format!("{{{contents}}}{}", key.0), true));
-        }
-        '(' => {
-            *at += 1;
-            let inside = term(signs, at)?;
-            closes(signs, at, ')')?;
-            inside
-        }
-        _ => {
-            let from = *at;
-            while signs.get(*at).is_some_and(|sign| of_a_name(*sign)) {
-                *at += 1;
-            }
-            let name: String = signs[from..*at].iter().collect();
-            if name.is_empty() {
-                return None;
-            }
-            match signs.get(*at) {
-                Some('(') => (format!("{name}({})", list(signs, at, ')')?), false),
-                _ => (name, false),
-            }
-        }
-    };
-    while let Some(sign @ ('+' | '-')) = signs.get(*at) {
-        text = half(text, *sign)?;
-        *at += 1;
-    }
-    Some(text)
-}
-
-/// What stands between an opening sign, which is next, and this closing one.
-fn list(signs: &[char], at: &mut usize, close: char) -> Option<String> {
-    *at += 1;
-    let mut texts = Vec::new();
-    if signs.get(*at) != Some(&close) {
-        texts.push(term(signs, at)?.0);
-        while signs.get(*at) == Some(&',') {
-            *at += 1;
-            texts.push(term(signs, at)?.0);
-        }
-    }
-    closes(signs, at, close)?;
-    Some(texts.join(", "))
-}
-
-fn closes(signs: &[char], at: &mut usize, sign: char) -> Option<()> {
-    (signs.get(*at) == Some(&sign)).then(|| *at += 1)
 }
 
 /// The listing decoded and encoded again is the same words.
@@ -147,19 +79,6 @@ pub fn moved(before: &[u32], after: &[u32], party: u32) -> Result<bool, Failure>
 #[cfg(test)]
 mod tests {
     use super::*;
-
-    #[test]
-    fn plain_terms() {
-        let plain = |text: &str| plain(text).unwrap_or_default();
-        assert_eq!(plain("K"), "K");
-        assert_eq!(plain("{ N , f( M,g() ) } (K +)"), "{N, f(M, g())}K+");
-        assert_eq!(plain("(({N}(K)))+"), "({N}K)+");
-        assert_eq!(plain("{}K+-"), "{}K+-");
-        assert_eq!(plain("{N}{M}K"), "{N}{M}K");
-        // As the place of a half begins inside its parentheses.
-        assert_eq!(plain("{N}K)+"), "({N}K)+");
-        assert_eq!(plain("{N"), "");
-    }
 
     #[test]
     fn an_altered_word_is_told() {

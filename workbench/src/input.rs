@@ -6,7 +6,8 @@ use std::fs;
 use std::io::{self, Read};
 use std::path::{Path, PathBuf};
 
-/// More than any narration that gives a book, and than any book.
+/// More bytes than any book or listing has, and than a narration needs. What is larger is not read at all: a part of it says
+/// something else.
 const MOST: u64 = 16 << 20;
 
 /// Bytes, and what they are called.
@@ -29,22 +30,18 @@ pub enum Content {
 impl Input {
     /// Of a path, or of `-`.
     pub fn read(path: &OsStr) -> Result<Input, Failure> {
+        let name = name(path);
         if path == "-" {
-            let mut bytes = Vec::new();
-            let read = io::stdin().lock().take(MOST).read_to_end(&mut bytes);
-            read.map_err(|error| Failure::file(format!("standard input: {error}")))?;
+            let bytes = whole(io::stdin().lock()).map_err(|error| Failure::file(format!("{name}: {error}")))?;
             return Ok(Input {
-                name: "standard input".to_string(),
+                name,
                 path: None,
                 bytes,
             });
         }
         let path = Path::new(path);
-        let name = path.display().to_string();
         let told = |error: io::Error| Failure::file(format!("{name}: {}", reason(path, &error)));
-        let mut bytes = Vec::new();
-        let file = fs::File::open(path).map_err(told)?;
-        file.take(MOST).read_to_end(&mut bytes).map_err(told)?;
+        let bytes = fs::File::open(path).and_then(whole).map_err(told)?;
         Ok(Input {
             name,
             path: Some(path.to_path_buf()),
@@ -54,6 +51,24 @@ impl Input {
 
     pub fn content(&self) -> Content {
         content(&self.bytes)
+    }
+}
+
+/// What a path, or `-`, is called.
+pub fn name(path: &OsStr) -> String {
+    match path == "-" {
+        true => "standard input".to_string(),
+        false => Path::new(path).display().to_string(),
+    }
+}
+
+/// All bytes that there are.
+fn whole(from: impl Read) -> io::Result<Vec<u8>> {
+    let mut bytes = Vec::new();
+    from.take(MOST + 1).read_to_end(&mut bytes)?;
+    match bytes.len() as u64 <= MOST {
+        true => Ok(bytes),
+        false => Err(io::Error::other("it has more than 16 MB, and so much is not read")),
     }
 }
 
@@ -103,6 +118,13 @@ fn latin(bytes: &[u8], valid: usize) -> bool {
 #[cfg(test)]
 mod tests {
     use super::*;
+
+    #[test]
+    fn whole_or_not_at_all() {
+        let read = |bytes: u64| whole(io::repeat(b' ').take(bytes)).map(|read| read.len() as u64);
+        assert_eq!(read(MOST).ok(), Some(MOST));
+        assert!(read(MOST + 1).is_err());
+    }
 
     #[test]
     fn kinds() {

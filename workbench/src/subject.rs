@@ -141,7 +141,7 @@ fn of_text(name: &str, text: &str) -> Result<Opened, Failure> {
         bytes,
         names,
     };
-    guard::terms(&subject)?;
+    guard::source(text, &subject)?;
     Ok(Opened::Subject(Box::new(subject)))
 }
 

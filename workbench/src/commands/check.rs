@@ -3,7 +3,7 @@
 use crate::arguments::{Call, Command};
 use crate::commands::Output;
 use crate::failure::{Failure, FILE, PLAYABLE, REFUSED};
-use crate::input::Input;
+use crate::input::{self, Input};
 use crate::playable;
 use crate::report::{answered, count, Report, Verdict};
 use crate::warnings;
@@ -58,7 +58,7 @@ fn denied(call: &Call) -> Result<Vec<String>, Failure> {
 fn report(path: &OsStr) -> Result<Report, Failure> {
     match Input::read(path) {
         Ok(input) => of(&input),
-        Err(failure) => Ok(Report::unread(&path.to_string_lossy(), &failure)),
+        Err(failure) => Ok(Report::unread(&input::name(path), &failure)),
     }
 }
 

@@ -212,8 +212,9 @@ const MISTAKES: &[(&str, usize, usize, &str)] = &[
     ("party A\nA -> B: f(1,2,3,4,5,6,7,8, 9)", 2, 28, "expected at most 8 arguments, found one more"),
     ("party A\nA -> B: {1,2,3,4,5,6,7,8,9}K", 2, 26, "expected at most 8 contents, found one more"),
     ("party A\nA -> B: 1,2,3,4,5,6,7,8,9", 2, 25, "expected at most 8 messages, found one more"),
-    // How it is written comes first, wherever it stands.
-    ("party A\nparty A\nA -> B: (", 3, 10, "expected a term, found the end of the line"),
+    // The first line that has one, whether it is badly written or says something wrong.
+    ("party A\nparty A\nA -> B: (", 2, 7, "expected a party not declared yet, found `A` a second time"),
+    ("party A\nparty B (\nA -> C: N", 2, 9, "expected `makes nothing`, `knows` or the end of the line, found `(`"),
 ];
 
 #[test]

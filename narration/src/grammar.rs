@@ -5,6 +5,7 @@ use super::limits;
 use super::mistake::{mistake, Mistake, Spot};
 use super::token::{Token, Tokens};
 use super::written::{list, unexpected, Form, Written};
+use std::collections::HashSet;
 
 pub struct Lines<'a> {
     pub terms: Vec<Written<'a>>,
@@ -16,6 +17,8 @@ pub struct Lines<'a> {
     pub end: Spot,
     /// Of each line that can't be read, its first.
     pub mistakes: Vec<Mistake>,
+    /// The names in these lines.
+    pub unread: HashSet<&'a str>,
 }
 
 pub struct PartyLine<'a> {
@@ -44,6 +47,7 @@ pub fn read(text: &str) -> Lines<'_> {
             length: 1,
         },
         mistakes: Vec::new(),
+        unread: HashSet::new(),
     };
     for (number, line) in crate::lines(text).into_iter().enumerate() {
         lines.end = Spot {
@@ -51,8 +55,11 @@ pub fn read(text: &str) -> Lines<'_> {
             column: line.chars().count() + 1,
             length: 1,
         };
-        let read = read_line(&mut Tokens::of(line, number + 1), &mut lines);
-        lines.mistakes.extend(read.err());
+        let mut tokens = Tokens::of(line, number + 1);
+        if let Err(mistake) = read_line(&mut tokens, &mut lines) {
+            lines.mistakes.push(mistake);
+            lines.unread.extend(tokens.names());
+        }
     }
     lines.operations = operations(&lines.terms);
     lines

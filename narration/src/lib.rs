@@ -71,14 +71,11 @@ pub fn lines(text: &str) -> Vec<&str> {
     lines
 }
 
-/// What a text says, or the mistakes in it, at least one: of how it is written, a line's first each; or, if it is well
-/// written, of what it says. A limit that is passed is told once.
+/// What a text says, or the mistakes in it, at least one, by their lines: of a line that is not well written the first, of the
+/// others what is wrong in what they say. A limit that is passed is told once.
 pub fn narrate(text: &str) -> Result<Narration, Vec<Mistake>> {
     let lines = grammar::read(text);
-    if !lines.mistakes.is_empty() {
-        return Err(lines.mistakes);
-    }
-    if lines.parties.is_empty() {
+    if lines.parties.is_empty() && lines.mistakes.is_empty() {
         let empty = mistake(lines.end, "a party", "the end of the text");
         return Err(vec![empty.of(Kind::Empty)]);
     }
@@ -88,7 +85,8 @@ pub fn narrate(text: &str) -> Result<Narration, Vec<Mistake>> {
             lines.parties.iter().map(|party| party.name).collect(),
         ),
         terms: &lines.terms,
-        mistakes: Vec::new(),
+        unread: &lines.unread,
+        mistakes: lines.mistakes,
     };
     for term in &lines.rows {
         let entered = reading.table.enter(&lines.terms, *term);
@@ -120,6 +118,7 @@ pub fn narrate(text: &str) -> Result<Narration, Vec<Mistake>> {
         step_places.push(place);
     }
     if !reading.mistakes.is_empty() {
+        reading.mistakes.sort_by_key(|mistake| mistake.spot.line);
         return Err(reading.mistakes);
     }
     let (rows, names, terms) = reading.table.end();
@@ -136,6 +135,8 @@ pub fn narrate(text: &str) -> Result<Narration, Vec<Mistake>> {
 struct Reading<'a, 't> {
     table: Table<'a>,
     terms: &'t [Written<'a>],
+    /// The names in lines that can't be read: what these declare is not known.
+    unread: &'t HashSet<&'a str>,
     mistakes: Vec<Mistake>,
 }
 
@@ -181,8 +182,8 @@ impl<'a> Reading<'a, '_> {
     }
 
     fn step(&mut self, line: &StepLine<'a>, numbers: &HashMap<&str, u32>) -> (Step, StepPlace) {
-        let sender = self.note(number(numbers, line.sender));
-        let receiver = self.note(number(numbers, line.receiver));
+        let sender = self.number(numbers, line.sender);
+        let receiver = self.number(numbers, line.receiver);
         if sender.is_some() && sender == receiver {
             let found = format!("`{}` again", line.receiver.0);
             self.wrong(mistake(line.receiver.1, "a receiver other than the sender", &found));
@@ -208,14 +209,13 @@ impl<'a> Reading<'a, '_> {
         };
         (step, place)
     }
-}
 
-fn number(numbers: &HashMap<&str, u32>, (name, spot): (&str, Spot)) -> Result<u32, Mistake> {
-    match numbers.get(name) {
-        Some(number) => Ok(*number),
-        None => {
+    fn number(&mut self, numbers: &HashMap<&str, u32>, (name, spot): (&'a str, Spot)) -> Option<u32> {
+        let number = numbers.get(name).copied();
+        if number.is_none() && !self.unread.contains(name) {
             let found = format!("`{name}`, which no party line declares");
-            Err(mistake(spot, "a party's name", &found).of(Kind::Undeclared))
+            self.wrong(mistake(spot, "a party's name", &found).of(Kind::Undeclared));
         }
+        number
     }
 }

@@ -73,6 +73,14 @@ impl<'a> Tokens<'a> {
         self.ahead(0)
     }
 
+    /// Every name of the line.
+    pub fn names(&self) -> impl Iterator<Item = &'a str> + '_ {
+        self.list.iter().filter_map(|(token, _)| match token {
+            Token::Name(name) => Some(*name),
+            _ => None,
+        })
+    }
+
     /// The token `n` places after the next one.
     pub fn ahead(&self, n: usize) -> Token<'a> {
         self.list.get(self.next + n).map_or(Token::End, |(token, _)| *token)

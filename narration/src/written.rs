@@ -39,7 +39,7 @@ enum Around<'a> {
     Contents(Spot, Vec<usize>),
     /// The contents are closed, the key is awaited.
     Key(Spot, Vec<usize>),
-    Parentheses,
+    Parentheses(Spot),
 }
 
 /// Terms separated by commas up to the line's end, at least one.
@@ -67,14 +67,15 @@ pub fn term<'a>(tokens: &mut Tokens<'a>, terms: &mut Vec<Written<'a>>) -> Result
     loop {
         // A term begins here, or a bracket with nothing in it closes at once.
         let spot = tokens.spot();
-        let mut ready = None;
+        // With where it begins, parentheses included.
+        let mut ready: Option<(usize, Spot)> = None;
         match tokens.peek() {
             Token::Name(name) => {
                 tokens.skip();
                 if !tokens.take(Token::Sign('(')) {
-                    ready = Some(add(terms, Form::Atom(name), tokens.since(spot)));
+                    ready = Some((add(terms, Form::Atom(name), tokens.since(spot)), spot));
                 } else if tokens.take(Token::Sign(')')) {
-                    ready = Some(add(terms, Form::Operation(name, Vec::new()), tokens.since(spot)));
+                    ready = Some((add(terms, Form::Operation(name, Vec::new()), tokens.since(spot)), spot));
                 } else {
                     around.push(Around::Operation(name, spot, Vec::new()));
                 }
@@ -89,14 +90,13 @@ pub fn term<'a>(tokens: &mut Tokens<'a>, terms: &mut Vec<Written<'a>>) -> Result
             }
             Token::Sign('(') => {
                 tokens.skip();
-                around.push(Around::Parentheses);
+                around.push(Around::Parentheses(spot));
             }
             _ => return Err(unexpected(tokens, "a term")),
         }
         // A term has ended: its signs follow, then whatever it stands in goes on or ends too.
-        while let Some(mut term) = ready.take() {
+        while let Some((mut term, spot)) = ready.take() {
             loop {
-                let spot = terms[term].spot;
                 if tokens.take(Token::Sign('+')) {
                     term = add(terms, Form::Public(term), tokens.since(spot));
                 } else if tokens.take(Token::Sign('-')) {
@@ -113,7 +113,7 @@ pub fn term<'a>(tokens: &mut Tokens<'a>, terms: &mut Vec<Written<'a>>) -> Result
                         no_more_than(limits::LIST, "arguments", &arguments, tokens)?;
                         around.push(Around::Operation(name, spot, arguments));
                     } else if tokens.take(Token::Sign(')')) {
-                        ready = Some(add(terms, Form::Operation(name, arguments), tokens.since(spot)));
+                        ready = Some((add(terms, Form::Operation(name, arguments), tokens.since(spot)), spot));
                     } else {
                         return Err(unexpected(tokens, "`,` or `)`"));
                     }
@@ -130,13 +130,14 @@ pub fn term<'a>(tokens: &mut Tokens<'a>, terms: &mut Vec<Written<'a>>) -> Result
                     }
                 }
                 Some(Around::Key(spot, contents)) => {
-                    ready = Some(add(terms, Form::Cipher { key: term, contents }, tokens.since(spot)));
+                    let cipher = add(terms, Form::Cipher { key: term, contents }, tokens.since(spot));
+                    ready = Some((cipher, spot));
                 }
-                Some(Around::Parentheses) => {
+                Some(Around::Parentheses(spot)) => {
                     if !tokens.take(Token::Sign(')')) {
                         return Err(unexpected(tokens, "`)`"));
                     }
-                    ready = Some(term);
+                    ready = Some((term, spot));
                 }
             }
         }

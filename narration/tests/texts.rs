@@ -30,7 +30,7 @@ fn names_and_places() {
     assert_eq!((first.sender, first.receiver), (at(5, 1, 6), at(5, 11, 3)));
     // A tab is a character.
     assert_eq!((second.sender, second.receiver), (at(6, 2, 3), at(6, 9, 6)));
-    let halves = [term("{N, Tag}K", at(6, 17, 9)), term("({N}K)+", at(6, 29, 6))];
+    let halves = [term("{N, Tag}K", at(6, 17, 9)), term("({N}K)+", at(6, 28, 7))];
     assert_eq!(told(&second.messages), halves);
     // Parts too, each where it stands.
     let all = told(&narration.terms);
@@ -83,6 +83,16 @@ fn every_mistake() {
             "line 2, column 6: expected the party's name, found the end of the line",
             "line 3, column 6: expected the receiver's name, found `:`",
             "line 4, column 15: expected a term, found `}`",
+        ]
+    );
+    // Of the other lines what they say; of a name that stands in a line which can't be read nothing is known.
+    assert_eq!(
+        told("party A\nparti B\nA -> C: N\nB -> A: {N\nA -> A: N"),
+        [
+            "line 2, column 7: expected `->` (if this is no `party` and no `rows` line), found `B`",
+            "line 3, column 6: expected a party's name, found `C`, which no party line declares",
+            "line 4, column 11: expected `,` or `}`, found the end of the line",
+            "line 5, column 6: expected a receiver other than the sender, found `A` again",
         ]
     );
     // Of what it says, all.

@@ -13,8 +13,24 @@ pub struct Command {
     pub does: &'static str,
     /// The fewest and the most things besides options.
     pub places: (usize, usize),
-    /// The options that have a value, with what it is called, and those that have none.
-    pub options: &'static [(&'static str, Option<&'static str>)],
+    pub options: &'static [(&'static str, Takes)],
+}
+
+/// What an option takes: nothing, a value, or values, one each time that it is written; and what a value is called.
+#[derive(Clone, Copy, PartialEq, Eq, Debug)]
+pub enum Takes {
+    Nothing,
+    One(&'static str),
+    Many(&'static str),
+}
+
+impl Takes {
+    pub fn value(self) -> Option<&'static str> {
+        match self {
+            Takes::Nothing => None,
+            Takes::One(what) | Takes::Many(what) => Some(what),
+        }
+    }
 }
 
 /// A command as it was written.
@@ -52,14 +68,17 @@ impl Call {
                 None => (&text[..], None),
             };
             let known = command.options.iter().find(|(own, _)| *own == name);
-            let Some((name, value)) = known else {
+            let Some((name, takes)) = known else {
                 return Err(wrong(format!(
                     "`{name}` is no option of `nghi {}`{}",
                     command.name,
                     near(name, command)
                 )));
             };
-            let given = match (value, joined) {
+            if matches!(takes, Takes::One(_)) && call.has(name) {
+                return Err(wrong(format!("`{name}` is given twice")));
+            }
+            let given = match (takes.value(), joined) {
                 (None, None) => OsString::new(),
                 (None, Some(_)) => return Err(wrong(format!("`{name}` has no value"))),
                 // Behind `=` a path that is no text would lose its bytes.
@@ -100,18 +119,18 @@ impl Call {
         self.options.get(option).map_or(&[], Vec::as_slice)
     }
 
-    /// The last value of an option.
-    pub fn last(&self, option: &str) -> Option<&OsStr> {
-        self.all(option).last().map(OsString::as_os_str)
+    /// The value of an option that is written once.
+    pub fn value(&self, option: &str) -> Option<&OsStr> {
+        self.all(option).first().map(OsString::as_os_str)
     }
 
-    /// The last value as text.
+    /// The same as text.
     pub fn text(&self, option: &str) -> Result<Option<String>, Failure> {
         let text = |value: &OsStr| {
             let text = value.to_str().map(str::to_string);
             text.ok_or_else(|| Failure::command_line(format!("the value of `{option}` is no text")))
         };
-        self.last(option).map(text).transpose()
+        self.value(option).map(text).transpose()
     }
 }
 
@@ -146,7 +165,11 @@ mod tests {
         takes: "FILE..",
         does: "",
         places: (1, usize::MAX),
-        options: &[("--deny", Some("W1 to W5")), ("--json", None)],
+        options: &[
+            ("--deny", Takes::Many("W1 to W5")),
+            ("--at", Takes::One("a line")),
+            ("--json", Takes::Nothing),
+        ],
     };
 
     fn call(arguments: &[&str]) -> Result<Call, String> {
@@ -164,6 +187,11 @@ mod tests {
         assert!(call(&["a", "--jsn"]).unwrap_err().contains("is `--json` meant?"));
         assert!(call(&["a", "--json=1"]).unwrap_err().contains("has no value"));
         assert!(call(&["a", "--deny"]).unwrap_err().contains("W1 to W5"));
+        assert!(call(&["a", "--at", "1", "--at=2"]).unwrap_err().contains("given twice"));
+        assert_eq!(
+            call(&["a", "--at", "1"]).unwrap().text("--at"),
+            Ok(Some("1".to_string()))
+        );
         assert_eq!(distance("check", "chekc"), 2);
         assert_eq!(distance("", "ab"), 2);
     }

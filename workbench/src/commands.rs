@@ -14,6 +14,7 @@ pub mod watch;
 
 use crate::arguments::{distance, Call, Command};
 use crate::failure::Failure;
+use crate::json::answer;
 use std::ffi::OsString;
 
 /// What a command answers, and its status. The answer goes to standard output; where there is none, what is said instead
@@ -67,7 +68,8 @@ pub fn run(arguments: &[OsString]) -> Result<Output, Failure> {
     };
     let name = name.to_string_lossy();
     match &name[..] {
-        "help" | "--help" | "-h" => return Ok(told(help())),
+        "help" | "--help" | "-h" if rest.is_empty() => return Ok(told(help())),
+        "help" | "--help" | "-h" => return run(&[&rest[..1], &["--help".into()]].concat()),
         "--version" | "-V" => return Ok(told(format!("nghi {}\n", env!("CARGO_PKG_VERSION")))),
         _ => (),
     }
@@ -81,7 +83,20 @@ pub fn run(arguments: &[OsString]) -> Result<Output, Failure> {
     if rest.iter().any(|argument| argument == "--help" || argument == "-h") {
         return Ok(told(help_of(command)));
     }
-    run(&Call::of(command, rest)?)
+    let answered = Call::of(command, rest).and_then(|call| run(&call));
+    match answered {
+        Err(failure) if rest.iter().any(|argument| argument == "--json") => Ok(unanswered(command, &failure)),
+        answered => answered,
+    }
+}
+
+/// For programs, why there is no answer: what standard error would say.
+fn unanswered(command: &Command, failure: &Failure) -> Output {
+    let fields = [
+        ("status", u32::from(failure.status).into()),
+        ("error", failure.message.as_str().into()),
+    ];
+    Output::answer(format!("{}\n", answer(command.name, fields)), failure.status)
 }
 
 fn told(text: String) -> Output {
@@ -106,7 +121,7 @@ fn help() -> String {
 fn help_of(command: &Command) -> String {
     let mut text = format!("nghi {} {}\n\n  {}\n", command.name, command.takes, command.does);
     for (option, value) in command.options {
-        let value = value.map_or_else(String::new, |what| format!(" {what}"));
+        let value = value.value().map_or_else(String::new, |what| format!(" {what}"));
         text.push_str(&format!("  {option}{value}\n"));
     }
     text

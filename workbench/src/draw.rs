@@ -44,7 +44,7 @@ pub fn picture(scene: &Scene, form: Form) -> Result<String, Failure> {
     match form {
         Form::Svg => svg::picture(scene, svg::Use::Alone),
         Form::Html => html::page(scene),
-        Form::Mermaid => Ok(mmd::diagram(scene)),
+        Form::Mermaid => mmd::diagram(scene),
     }
 }
 

@@ -25,6 +25,10 @@ impl Failure {
         Failure::new(COMMAND_LINE, message)
     }
 
+    pub fn mistake(message: impl Into<String>) -> Failure {
+        Failure::new(MISTAKE, message)
+    }
+
     pub fn file(message: impl Into<String>) -> Failure {
         Failure::new(FILE, message)
     }

@@ -15,9 +15,9 @@ use std::collections::BTreeSet;
 /// says, read here by itself, and its rows are the terms of the text with their parts, each once.
 pub fn source(text: &str, subject: &Subject) -> Result<(), Failure> {
     let broken = |what: String| Err(Failure::guard(format!("{}: {what}", subject.name)));
-    let book = Book::of(&to_words(&subject.bytes)).filter(|book| to_bytes(&book.words()) == subject.bytes);
-    let (Some(book), Some(source)) = (book, source::read(text)) else {
-        return broken("the text, or its book, is not what was read of it".to_string());
+    let book = book(&subject.name, &subject.bytes)?;
+    let Some(source) = source::read(text) else {
+        return broken("the text is not what was read of it".to_string());
     };
     let terms = subject.names.texts(&book);
     let mut lines = source.lines.into_iter();
@@ -35,6 +35,12 @@ pub fn source(text: &str, subject: &Subject) -> Result<(), Failure> {
         return broken("the book's rows are not the terms of the text".to_string());
     }
     Ok(())
+}
+
+/// The book of these bytes, which the proved reader accepts, is written back to the same bytes.
+pub fn book(name: &str, bytes: &[u8]) -> Result<Book, Failure> {
+    let book = Book::of(&to_words(bytes)).filter(|book| to_bytes(&book.words()) == bytes);
+    book.ok_or_else(|| Failure::guard(format!("{name}: the book is not what was read of it")))
 }
 
 /// A line for each party and each step of a book.

@@ -58,6 +58,7 @@ impl Input {
 pub fn name(path: &OsStr) -> String {
     match path == "-" {
         true => "standard input".to_string(),
+        false if path.is_empty() => "``".to_string(),
         false => Path::new(path).display().to_string(),
     }
 }
@@ -102,17 +103,16 @@ fn content(bytes: &[u8]) -> Content {
         Ok(text) if !text.contains('\0') => Content::Narration(text.to_string()),
         // A book's header has its rows at word 8.
         _ if bytes.len() >= 8 && bytes[4..8] == [8, 0, 0, 0] => Content::Book,
-        Err(error) if latin(bytes, error.valid_up_to()) => Content::Other("text that is not UTF-8"),
+        Err(_) if typed(bytes) => Content::Other("text that is not UTF-8"),
+        Ok(_) if typed(bytes) => Content::Other("text with a zero byte in it"),
         _ => Content::Book,
     }
 }
 
-/// Whether bytes that are no UTF-8 are text all the same: no zero byte, and mostly what is typed.
-fn latin(bytes: &[u8], valid: usize) -> bool {
-    let typed = bytes
-        .iter()
-        .filter(|byte| matches!(byte, b' '..=b'~' | b'\n' | b'\r' | b'\t'));
-    valid > 0 && !bytes.contains(&0) && typed.count() * 10 > bytes.len() * 8
+/// Whether bytes are mostly such as are typed, which a book's are not: three of four are zero in most of its words.
+fn typed(bytes: &[u8]) -> bool {
+    let typed = |byte: &&u8| matches!(byte, b' '..=b'~' | b'\n' | b'\r' | b'\t');
+    bytes.iter().filter(typed).count() * 10 > bytes.len() * 8
 }
 
 #[cfg(test)]
@@ -135,5 +135,9 @@ mod tests {
         assert_eq!(content(b"\x89PNG\r\n"), Content::Other("a PNG picture"));
         assert!(matches!(content(b"party M\xfcller knows K\n"), Content::Other(_)));
         assert!(matches!(content(b"\xff\xfep\0a\0"), Content::Other(_)));
+        assert_eq!(
+            content(b"party A knows K\0\n"),
+            Content::Other("text with a zero byte in it")
+        );
     }
 }

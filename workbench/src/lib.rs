@@ -5,6 +5,7 @@
 //! to book and from words to text or picture, guards itself ([`guard`]).
 
 pub mod arguments;
+pub mod cells;
 pub mod commands;
 pub mod draw;
 pub mod failure;

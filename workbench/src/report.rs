@@ -10,7 +10,7 @@ mod why;
 mod words;
 
 pub use mistaken::mistaken;
-pub use refused::{no_book, openings, unplayable};
+pub use refused::{no_book, unplayable};
 pub use words::{count, listed, short};
 
 use crate::failure::{Failure, FILE, MISTAKE, PLAYABLE, REFUSED};

@@ -98,9 +98,9 @@ impl Order {
         }
     }
 
-    /// Of names with commas between them.
+    /// Of names with commas between them; of none, no moves.
     fn moves(names: &str, subject: &Subject) -> Result<Order, Failure> {
-        let written = names.split(',').map(str::trim).filter(|name| !name.is_empty());
+        let written = names.split(',').map(str::trim).filter(|_| !names.trim().is_empty());
         let numbers = written.map(|name| subject.meant(name));
         Ok(Order::Moves(numbers.collect::<Result<_, _>>()?))
     }

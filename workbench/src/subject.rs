@@ -106,11 +106,7 @@ pub fn open(input: &Input) -> Result<Opened, Failure> {
         Content::Narration(text) => of_text(&input.name, &text),
         Content::Book => of_book(&input.name, &input.bytes),
         Content::Other(kind) => {
-            let advice = if kind.starts_with("text") {
-                ": save it as UTF-8"
-            } else {
-                ""
-            };
+            let advice = if kind.contains("UTF") { ": save it as UTF-8" } else { "" };
             Err(Failure::file(format!(
                 "{}: it is {kind}, and a narration or a book is asked for{advice}",
                 input.name
@@ -149,8 +145,7 @@ fn of_book(name: &str, bytes: &[u8]) -> Result<Opened, Failure> {
     if let Some(refusal) = unread(bytes) {
         return Ok(Opened::Refused(refusal));
     }
-    let book = Book::of(&to_words(bytes)).filter(|book| to_bytes(&book.words()) == bytes);
-    let book = book.ok_or_else(|| Failure::guard(format!("{name}: the book is not what was read of it")))?;
+    let book = guard::book(name, bytes)?;
     let names = Names::made_up(&book);
     Ok(Opened::Subject(Box::new(Subject {
         name: name.to_string(),

@@ -250,7 +250,7 @@ can build               can build       {N, B}K
                  stored at line 8 as x0  made at line 8  N\n";
     answers(&["knows", EXAMPLE, "--at=8", "--term", "N"], 0, after);
     answers(
-        &["knows", EXAMPLE, "--at", "10", "--term", "( N )"],
+        &["knows", EXAMPLE, "--at", "9", "--term", "( N )"],
         0,
         &after.replace("after line 8", "after line 9"),
     );
@@ -293,8 +293,9 @@ fn knows_nothing_of_that() {
     refuses(&["knows", EXAMPLE, "--term", "{N, A}K"], 2, "the nearest is `{N, B}K`");
     refuses(&["knows", EXAMPLE, "--term", "{N"], 2, "is no term");
     refuses(&["knows", EXAMPLE, "--party", "C"], 2, "its parties are A, B");
-    for at in ["0", "11", "x", "-1"] {
-        refuses(&["knows", EXAMPLE, "--at", at], 2, "1 to 10");
+    // The text ends with a line feed, and line 10 is nothing.
+    for at in ["0", "10", "x", "-1"] {
+        refuses(&["knows", EXAMPLE, "--at", at], 2, "1 to 9");
     }
     refuses(&["knows", FROG, "--at", "2"], 2, "0 to 1");
     refuses(
@@ -761,7 +762,9 @@ fn statuses() {
 fn json_is_one_line_with_the_version() {
     let folder = Folder::new("json");
     let (book, new) = (folder.text("x.book"), folder.text("n"));
-    let calls: [&[&str]; 8] = [
+    let calls: [&[&str]; 13] = [
+        &["check", EXAMPLE],
+        &["programs", EXAMPLE],
         &["play", EXAMPLE],
         &["play", FROG, "--moves", "A,B"],
         &["knows", EXAMPLE],
@@ -770,6 +773,9 @@ fn json_is_one_line_with_the_version() {
         &["build", EXAMPLE, "-o", &book],
         &["new", &new],
         &["watch", EXAMPLE, "--once"],
+        &["draw", EXAMPLE],
+        &["explain", "R10"],
+        &["completions", "zsh"],
     ];
     let theirs = folder.text("theirs");
     fs::write(&theirs, "3 0 9 2").unwrap();
@@ -797,6 +803,34 @@ fn json_is_one_line_with_the_version() {
     let told = out(&ran(&["play", EXAMPLE, "--moves", "A", "--json"]));
     let end = r#"{"party": "A", "done": 0, "events": 2, "state": "waits", "step": 0, "line": 8}"#;
     assert!(told.contains(end), "{told}");
+}
+
+/// Where there is no answer, programs read why on the same line that they would read it on.
+#[test]
+fn json_without_an_answer() {
+    let folder = Folder::new("json-errors");
+    fs::write(folder.path("text"), "1 2\n 3 x4\n").unwrap();
+    let (none, text) = (folder.text("none"), folder.text("text"));
+    let calls: [(&[&str], i32, &str); 7] = [
+        (&["programs", &none], 4, "there is no such file"),
+        (&["knows", EXAMPLE, "--term", "M"], 2, "has no term `M`"),
+        (&["play", EXAMPLE, "--order", "none"], 2, "is no order"),
+        (&["judge", EXAMPLE, "A", &text], 3, "text:2:4: expected a word"),
+        (&["draw", EXAMPLE, "-o", EXAMPLE, "--as", "svg"], 4, "not written over"),
+        (&["build", EXAMPLE], 2, "`-o` is missing"),
+        (&["check", EXAMPLE, "--deny", "W9"], 2, "is no warning"),
+    ];
+    for (call, expected, why) in calls {
+        let output = ran(&[call, &["--json"]].concat());
+        let told = out(&output);
+        let front = format!(
+            "{{\"nghi\": 1, \"command\": \"{}\", \"status\": {expected}, \"error\": \"",
+            call[0]
+        );
+        assert_eq!((status(&output), &err(&output)[..]), (expected, ""), "{call:?}");
+        assert!(told.starts_with(&front) && told.contains(why), "{call:?}: {told}");
+        assert_eq!(told.lines().count(), 1);
+    }
 }
 
 /// Twice the same, from a file and from standard input.

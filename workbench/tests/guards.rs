@@ -1,5 +1,6 @@
 //! Each guard breaks where one thing is altered, and says so with status 70.
 
+use narration::book::{Layout, MARK};
 use std::fs;
 use std::path::{Path, PathBuf};
 use workbench::guard;
@@ -7,7 +8,7 @@ use workbench::input::Input;
 use workbench::listing::{Event, Program};
 use workbench::proved::Answers;
 use workbench::run::{run, Order};
-use workbench::subject::{open, to_words, Opened, Subject};
+use workbench::subject::{open, to_bytes, to_words, Opened, Subject};
 use workbench::told::Names;
 
 fn books() -> PathBuf {
@@ -61,6 +62,39 @@ fn source() {
         altered.terms[row].push('\'');
         assert_eq!(told(&text, &altered), Err(70), "row {row}");
     }
+}
+
+/// A word that says something else than the rest: where a list begins, how long it is, where a section stands, a mark.
+#[test]
+fn book() {
+    let whole = subject("example-1.book");
+    let told = |bytes: &[u8]| guard::book("book", bytes).map_err(|failure| failure.status);
+    assert_eq!(told(&whole.bytes), Ok(whole.book.clone()));
+    let words = to_words(&whole.bytes);
+    let layout = Layout::counted(&words);
+    let (row, party, step) = (layout.row(4), layout.party(1), layout.step(1));
+    for at in [
+        0,
+        1,
+        2,
+        3,
+        4,
+        5,
+        6,
+        7,
+        row + 2,
+        row + 3,
+        party + 1,
+        party + 2,
+        party + MARK,
+        step + 2,
+        step + 3,
+    ] {
+        let mut altered = words.clone();
+        altered[at] += 2;
+        assert_eq!(told(&to_bytes(&altered)), Err(70), "word {at}");
+    }
+    assert_eq!(told(&whole.bytes[..whole.bytes.len() - 4]), Err(70));
 }
 
 #[test]

@@ -8,7 +8,7 @@ use std::fs;
 use std::path::{Path, PathBuf};
 use workbench::input::Input;
 use workbench::listing::{self, Event, Image};
-use workbench::proved::{rehearse, Answers, Source};
+use workbench::proved::{can_build, rehearse, Answers, Source};
 use workbench::report;
 use workbench::subject::{open, Opened, Subject};
 use workbench::told::Names;
@@ -149,7 +149,7 @@ fn same_image((ours, theirs): (&Image, &theirs::Image)) -> bool {
     }
 }
 
-/// How each party holds each row.
+/// How each party holds each row, and whether it can build it.
 fn known(name: &str, answers: &Answers, own: &book::Book) {
     let walk = Translation::whole(own).expect("it was played");
     for party in 0..own.parties.len() as u32 {
@@ -161,6 +161,11 @@ fn known(name: &str, answers: &Answers, own: &book::Book) {
                 None => Source::Not,
             };
             assert_eq!(answers.source(party, row), theirs, "{name}, party {party}, row {row}");
+            let held = |row: u32| answers.source(party, row) != Source::Not;
+            let ours = can_build(own, row, held).unwrap_or_else(|failure| panic!("{name}: {failure}"));
+            let theirs = walk.dictionary(party).image(&walk.terms[row as usize]);
+            // What a party can know from the start is enough for every one of these.
+            assert_eq!(ours, Some(theirs.is_some()), "{name}, party {party}, row {row}");
         }
     }
 }

@@ -1,6 +1,6 @@
 //! `nghi build`: the book of a narration, and beside it what its rows and operations are called; or of a book a narration.
 
-use crate::arguments::{Call, Command};
+use crate::arguments::{Call, Command, Takes};
 use crate::commands::Output;
 use crate::failure::{Failure, PLAYABLE, REFUSED};
 use crate::guard;
@@ -20,9 +20,9 @@ pub static COMMAND: Command = Command {
     does: "writes the book, and its names beside it as X.names; or of a book a narration; never over its source",
     places: (1, 1),
     options: &[
-        ("-o", Some("the book's file, or the narration's")),
-        ("--force", None),
-        ("--json", None),
+        ("-o", Takes::One("the book's file, or the narration's")),
+        ("--force", Takes::Nothing),
+        ("--json", Takes::Nothing),
     ],
 };
 
@@ -78,7 +78,7 @@ pub fn run(call: &Call) -> Result<Output, Failure> {
 }
 
 fn asked(call: &Call) -> Result<Asked, Failure> {
-    let Some(path) = call.last("-o") else {
+    let Some(path) = call.value("-o") else {
         return wrong("`-o` is missing, the file that the book or the narration goes to");
     };
     let path = Path::new(path);

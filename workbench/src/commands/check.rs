@@ -1,10 +1,11 @@
 //! `nghi check`: whether files can be played, and what is wrong in them or deserves a look.
 
-use crate::arguments::{Call, Command};
+use crate::arguments::{Call, Command, Takes};
 use crate::commands::Output;
 use crate::failure::{Failure, FILE, PLAYABLE, REFUSED};
 use crate::input::{self, Input};
 use crate::playable;
+use crate::progress::Progress;
 use crate::report::{answered, count, Report, Verdict};
 use crate::warnings;
 use std::ffi::OsStr;
@@ -14,13 +15,15 @@ pub static COMMAND: Command = Command {
     takes: "FILE.. [--deny W2] [--json]",
     does: "whether it can be played, and what is wrong or deserves a look",
     places: (1, usize::MAX),
-    options: &[("--deny", Some("W1 to W5, or all")), ("--json", None)],
+    options: &[("--deny", Takes::Many("W1 to W5, or all")), ("--json", Takes::Nothing)],
 };
 
 pub fn run(call: &Call) -> Result<Output, Failure> {
     let denied = denied(call)?;
     let mut reports = Vec::new();
+    let mut progress = Progress::of("files");
     for path in &call.places {
+        progress.tell(reports.len());
         reports.push(report(path)?);
     }
     let status = (reports.iter().map(|report| status(report, &denied)))

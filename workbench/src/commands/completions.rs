@@ -1,21 +1,22 @@
 //! `nghi completions`: what a shell has to know to complete a command line, from the table of commands.
 
 use super::COMMANDS;
-use crate::arguments::{Call, Command};
+use crate::arguments::{Call, Command, Takes};
 use crate::commands::Output;
 use crate::failure::{Failure, PLAYABLE};
+use crate::json::answer;
 
 pub static COMMAND: Command = Command {
     name: "completions",
-    takes: "bash|zsh|fish",
+    takes: "bash|zsh|fish [--json]",
     does: "a script for the shell, which completes commands and options",
     places: (1, 1),
-    options: &[],
+    options: &[("--json", Takes::Nothing)],
 };
 
 pub fn run(call: &Call) -> Result<Output, Failure> {
     let shell = call.places[0].to_string_lossy();
-    let text = match &shell[..] {
+    let script = match &shell[..] {
         "bash" => bash(),
         "zsh" => zsh(),
         "fish" => fish(),
@@ -24,6 +25,13 @@ pub fn run(call: &Call) -> Result<Output, Failure> {
                 "`{shell}` is no shell that is known here; bash, zsh and fish are"
             )))
         }
+    };
+    let text = match call.has("--json") {
+        true => {
+            let fields = [("shell", shell.as_ref().into()), ("script", script.into())];
+            format!("{}\n", answer("completions", fields))
+        }
+        false => script,
     };
     Ok(Output::answer(text, PLAYABLE))
 }
@@ -82,9 +90,10 @@ fn zsh() -> String {
     let described: String = commands()
         .map(|command| format!("        {}\n", quoted(&format!("{}:{}", command.name, command.does))))
         .collect();
-    let option = |(option, value): &(&str, Option<&str>)| match value {
-        Some(what) => quoted(&format!("*{option}[{what}]:value:_files")),
-        None => quoted(option),
+    let option = |(option, takes): &(&str, Takes)| match takes {
+        Takes::Nothing => quoted(option),
+        Takes::One(what) => quoted(&format!("{option}[{what}]:value:_files")),
+        Takes::Many(what) => quoted(&format!("*{option}[{what}]:value:_files")),
     };
     let cases: String = commands()
         .map(|command| {
@@ -137,7 +146,9 @@ fn fish() -> String {
                 (Some(long), _) => format!("-l {long}"),
                 (None, short) => format!("-s {}", short.unwrap_or_default()),
             };
-            let value = value.map_or_else(String::new, |what| format!(" -r -d {}", quoted(what)));
+            let value = value
+                .value()
+                .map_or_else(String::new, |what| format!(" -r -d {}", quoted(what)));
             text.push_str(&format!(
                 "complete -c nghi -n '__fish_seen_subcommand_from {name}' {form}{value}\n"
             ));

@@ -1,6 +1,6 @@
 //! `nghi draw`: a picture of the run.
 
-use crate::arguments::{Call, Command};
+use crate::arguments::{Call, Command, Takes};
 use crate::commands::Output;
 use crate::draw::scene::{too_many, Scene};
 use crate::draw::{is_ours, picture, Form, MOST_EVENTS};
@@ -21,11 +21,14 @@ pub static COMMAND: Command = Command {
     does: "a picture of the run, of at most 400 events; what is refused is drawn up to its step",
     places: (1, 1),
     options: &[
-        ("-o", Some("the picture's file, or - for standard output")),
-        ("--order", Some("narration, round, reverse or random:SEED")),
-        ("--as", Some("svg, html or mmd, where the file's name does not say it")),
-        ("--force", None),
-        ("--json", None),
+        ("-o", Takes::One("the picture's file, or - for standard output")),
+        ("--order", Takes::One("narration, round, reverse or random:SEED")),
+        (
+            "--as",
+            Takes::One("svg, html or mmd, where the file's name does not say it"),
+        ),
+        ("--force", Takes::Nothing),
+        ("--json", Takes::Nothing),
     ],
 };
 
@@ -107,7 +110,7 @@ fn asked(call: &Call) -> Result<Asked, Failure> {
         })?),
     };
     let picture =
-        match (call.last("-o"), form) {
+        match (call.value("-o"), form) {
             (Some(path), _) if path == "-" && json => {
                 return Err(Failure::command_line(
                     "`-o -` and `--json` both write to standard output; leave one of them out",

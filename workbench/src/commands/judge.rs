@@ -1,9 +1,9 @@
 //! `nghi judge`: whether another tool's listing of a party is ours but for the names of placeholders, by the proved judge;
 //! and if not, where it differs and why.
 
-use crate::arguments::{Call, Command};
+use crate::arguments::{Call, Command, Takes};
 use crate::commands::Output;
-use crate::failure::{Failure, MISTAKE, PLAYABLE, REFUSED};
+use crate::failure::{Failure, PLAYABLE, REFUSED};
 use crate::input::Input;
 use crate::json::{answer, object, Json};
 use crate::listing::{part_words, Event, Image, Program};
@@ -17,7 +17,7 @@ pub static COMMAND: Command = Command {
     takes: "FILE PARTY LISTING [--json], or --ours FILE PARTY",
     does: "whether another tool's listing of a party is ours but for the names of placeholders",
     places: (2, 3),
-    options: &[("--ours", None), ("--json", None)],
+    options: &[("--ours", Takes::Nothing), ("--json", Takes::Nothing)],
 };
 
 /// An event is shown up to so many letters: an END may have a hundred thousand rows.
@@ -41,22 +41,16 @@ pub fn run(call: &Call) -> Result<Output, Failure> {
     let ours = Ours::of(&playable, party)?;
     match call.places.get(2) {
         None => Ok(ours.printed(call.has("--json"))),
-        Some(listing) => {
-            let input = Input::read(listing)?;
-            match words(&input)? {
-                Ok(theirs) => ours.judged(&theirs, call.has("--json")),
-                Err(mistake) => Ok(Output::error(mistake, MISTAKE)),
-            }
-        }
+        Some(listing) => ours.judged(&words(&Input::read(listing)?)?, call.has("--json")),
     }
 }
 
 /// The words of a listing: of text, if it is text, in decimal with remarks, or else of bytes, four each. What is wrong in a
 /// text is told with its place.
-fn words(input: &Input) -> Result<Result<Vec<u32>, String>, Failure> {
+fn words(input: &Input) -> Result<Vec<u32>, Failure> {
     match std::str::from_utf8(&input.bytes) {
-        Ok(text) if !text.contains('\0') => Ok(of_text(&input.name, text)),
-        _ if input.bytes.len().is_multiple_of(4) => Ok(Ok(to_words(&input.bytes))),
+        Ok(text) if !text.contains('\0') => of_text(&input.name, text),
+        _ if input.bytes.len().is_multiple_of(4) => Ok(to_words(&input.bytes)),
         _ => Err(Failure::file(format!(
             "{}: its {} bytes are no listing, which has four bytes a word",
             input.name,
@@ -65,7 +59,7 @@ fn words(input: &Input) -> Result<Result<Vec<u32>, String>, Failure> {
     }
 }
 
-fn of_text(name: &str, text: &str) -> Result<Vec<u32>, String> {
+fn of_text(name: &str, text: &str) -> Result<Vec<u32>, Failure> {
     let mut words = Vec::new();
     for (line, number) in narration::lines(text).into_iter().zip(1..) {
         let line = line.split('#').next().unwrap_or("");
@@ -77,7 +71,9 @@ fn of_text(name: &str, text: &str) -> Result<Vec<u32>, String> {
                 let before = piece.as_ptr() as usize - line.as_ptr() as usize;
                 let column = line[..before].chars().count() + 1;
                 let most = u32::MAX;
-                format!("{name}:{number}:{column}: expected a word from 0 to {most}, found `{piece}`\n")
+                Failure::mistake(format!(
+                    "{name}:{number}:{column}: expected a word from 0 to {most}, found `{piece}`"
+                ))
             })?);
         }
     }
@@ -467,7 +463,10 @@ mod tests {
         assert_eq!(of_text("t", "1 2\t3 # 4\r\n4294967295"), Ok(vec![1, 2, 3, u32::MAX]));
         assert_eq!(of_text("t", ""), Ok(vec![]));
         for (text, at) in [("1\n +2", "t:2:2:"), ("4294967296", "t:1:1:"), ("1 -1", "t:1:3:")] {
-            assert!(of_text("t", text).is_err_and(|told| told.starts_with(at)), "{text}");
+            assert!(
+                of_text("t", text).is_err_and(|told| told.message.starts_with(at)),
+                "{text}"
+            );
         }
     }
 }

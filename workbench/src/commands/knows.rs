@@ -1,26 +1,29 @@
 //! `nghi knows`: which party holds which term, how and since when.
 
-use crate::arguments::{distance, Call, Command};
+use crate::arguments::{distance, Call, Command, Takes};
+use crate::cells::{cells, padded};
 use crate::commands::Output;
 use crate::failure::{Failure, PLAYABLE};
 use crate::guard::plain;
 use crate::json::{answer, object, Json};
 use crate::playable::{self, Playable};
-use crate::proved::Source;
-use crate::subject::Subject;
+use crate::proved::{can_build, Source};
+use crate::subject::{Subject, Text};
 use crate::told::Names;
-use narration::book::ATOM;
 
 pub static COMMAND: Command = Command {
     name: "knows",
     takes: "FILE [--party P] [--at LINE] [--term T] [--json]",
-    does: "who holds what, how and since when; holding is proved, what can be built follows from it",
+    does: "who holds what, how and since when, and who can build it",
     places: (1, 1),
     options: &[
-        ("--party", Some("a party's name")),
-        ("--at", Some("a line: what is held after its step; of a book, a step")),
-        ("--term", Some("a term, as the narration has it")),
-        ("--json", None),
+        ("--party", Takes::One("a party's name")),
+        (
+            "--at",
+            Takes::One("a line: what is held after its step; of a book, a step"),
+        ),
+        ("--term", Takes::One("a term, as the narration has it")),
+        ("--json", Takes::Nothing),
     ],
 };
 
@@ -37,7 +40,8 @@ pub fn run(call: &Call) -> Result<Output, Failure> {
     };
     let after = at.unwrap_or_else(|| (subject.book.steps.len() as u32).checked_sub(1));
     let parties = playable.parties(call.text("--party")?)?;
-    let columns = parties.iter().map(|party| column(&playable, *party, after)).collect();
+    let columns = parties.iter().map(|party| column(&playable, *party, &rows, after));
+    let columns = columns.collect::<Result<_, _>>()?;
     let table = Table {
         playable: &playable,
         parties,
@@ -54,20 +58,26 @@ pub fn run(call: &Call) -> Result<Output, Failure> {
     Ok(Output::answer(text, PLAYABLE))
 }
 
+/// The number of a text's last line: behind a line's end there may be nothing more.
+fn last(text: &Text) -> usize {
+    let lines = text.lines.len();
+    lines - usize::from(lines > 1 && text.lines[lines - 1].is_empty())
+}
+
 /// The step behind which it is asked: that of the line, or the last one before it; nothing is the start.
 fn after(subject: &Subject, at: &str) -> Result<Option<u32>, Failure> {
     let steps = subject.book.steps.len();
     let wrong = |message: String| Failure::command_line(format!("`--at {at}`: {message}"));
     let number: Result<usize, _> = at.parse();
     match (&subject.text, number) {
-        (Some(text), Ok(line)) if (1..=text.lines.len()).contains(&line) => {
+        (Some(text), Ok(line)) if (1..=last(text)).contains(&line) => {
             let before = (text.narration.steps.iter()).take_while(|step| step.sender.line <= line);
             Ok((before.count() as u32).checked_sub(1))
         }
         (Some(text), _) => Err(wrong(format!(
             "a line of {} is asked for, 1 to {}",
             subject.name,
-            text.lines.len()
+            last(text)
         ))),
         (None, Ok(step)) if step < steps => Ok(Some(step as u32)),
         (None, _) if steps == 0 => Err(wrong(format!("{} has no steps", subject.name))),
@@ -118,29 +128,26 @@ fn nearest<'t>(terms: &'t [String], term: &str) -> Option<&'t str> {
 #[derive(Clone, Copy, PartialEq, Eq)]
 enum Has {
     Held(Source),
-    /// It is not held, and all its parts are, or can be built in turn.
+    /// It is not held, and can be built from what is.
     Buildable,
     Not,
 }
 
-/// How a party has each row after a step, or at the start.
-fn column(playable: &Playable, party: u32, after: Option<u32>) -> Vec<Has> {
-    let mut column: Vec<Has> = Vec::new();
-    for (number, row) in (0..).zip(&playable.subject.book.rows) {
-        let held = playable.answers.holds(party, number, after);
-        // Parts stand before what they are parts of.
-        let parts = || row.parts.iter().all(|part| column[*part as usize] != Has::Not);
-        let has = match held {
-            true => Has::Held(playable.answers.source(party, number)),
-            false if row.kind != ATOM && parts() => Has::Buildable,
+/// How a party has each of these rows after a step, or at the start.
+fn column(playable: &Playable, party: u32, rows: &[u32], after: Option<u32>) -> Result<Vec<Has>, Failure> {
+    let (book, answers) = (&playable.subject.book, &playable.answers);
+    let holds = |row: u32| answers.holds(party, row, after);
+    let has = |row: &u32| {
+        Ok(match holds(*row) {
+            true => Has::Held(answers.source(party, *row)),
+            false if can_build(book, *row, holds)? == Some(true) => Has::Buildable,
             false => Has::Not,
-        };
-        column.push(has);
-    }
-    column
+        })
+    };
+    rows.iter().map(has).collect()
 }
 
-/// What is told: rows of the book, and how each party has them.
+/// What is told: rows of the book, and in a column a party how it has each.
 struct Table<'p> {
     playable: &'p Playable,
     parties: Vec<u32>,
@@ -162,7 +169,7 @@ impl Table<'_> {
         let subject = &self.playable.subject;
         let names = Names::of(subject);
         let column = |(party, column): (&u32, &Vec<Has>)| -> Vec<String> {
-            let cells = self.rows.iter().map(|row| match column[*row as usize] {
+            let cells = column.iter().map(|has| match *has {
                 Has::Held(Source::Given) => String::from("given"),
                 Has::Held(Source::Made { step }) => format!("made at {}", subject.step(step)),
                 Has::Held(Source::Stored { step, placeholder }) => {
@@ -177,13 +184,13 @@ impl Table<'_> {
         };
         let columns: Vec<Vec<String>> = self.parties.iter().zip(&self.columns).map(column).collect();
         let widths: Vec<usize> = (columns.iter())
-            .map(|cells| cells.iter().map(|cell| cell.chars().count()).max().unwrap_or(0))
+            .map(|column| column.iter().map(|cell| cells(cell)).max().unwrap_or(0))
             .collect();
         let terms = self.rows.iter().map(|row| subject.term(*row));
         let mut text = String::new();
         for (line, term) in std::iter::once("term").chain(terms).enumerate() {
-            for (cells, width) in columns.iter().zip(&widths) {
-                text.push_str(&format!("{:width$}  ", cells[line]));
+            for (column, width) in columns.iter().zip(&widths) {
+                text.push_str(&format!("{}  ", padded(&column[line], *width)));
             }
             text.push_str(&format!("{term}\n"));
         }
@@ -210,9 +217,9 @@ impl Table<'_> {
                 ("as", placeholder.map(|number| names.placeholder(number)).into()),
             ])
         };
-        let row = |row: &u32| {
+        let row = |(at, row): (usize, &u32)| {
             let cells = (self.parties.iter().zip(&self.columns))
-                .map(|(party, column)| cell(*row, *party, column[*row as usize]))
+                .map(|(party, column)| cell(*row, *party, column[at]))
                 .collect::<Vec<_>>();
             object([
                 ("row", (*row).into()),
@@ -226,7 +233,10 @@ impl Table<'_> {
                 ("file", subject.name.as_str().into()),
                 ("step", after.into()),
                 ("line", after.and_then(|step| subject.line(step)).into()),
-                ("terms", self.rows.iter().map(row).collect::<Vec<_>>().into()),
+                (
+                    "terms",
+                    self.rows.iter().enumerate().map(row).collect::<Vec<_>>().into(),
+                ),
             ],
         )
     }

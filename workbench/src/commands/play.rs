@@ -1,6 +1,7 @@
 //! `nghi play`: a run of the programs, move by move, and how it leaves each party.
 
-use crate::arguments::{Call, Command};
+use crate::arguments::{Call, Command, Takes};
+use crate::cells::{cells, padded};
 use crate::commands::Output;
 use crate::failure::{Failure, PLAYABLE};
 use crate::json::{answer, object, Json};
@@ -14,9 +15,9 @@ pub static COMMAND: Command = Command {
     does: "a run of the programs, move by move, and how it leaves each party",
     places: (1, 1),
     options: &[
-        ("--order", Some("narration, round, reverse or random:SEED")),
-        ("--moves", Some("parties' names with commas, a move each")),
-        ("--json", None),
+        ("--order", Takes::One("narration, round, reverse or random:SEED")),
+        ("--moves", Takes::One("parties' names with commas, a move each")),
+        ("--json", Takes::Nothing),
     ],
 };
 
@@ -100,7 +101,7 @@ impl Played<'_> {
         let subject = &self.playable.subject;
         let place = |line: &Line| self.step(line).map_or_else(String::new, |step| subject.step(step));
         let lines = self.lines();
-        let wide = (lines.iter().map(|line| subject.party(line.party()).len())).max();
+        let wide = (lines.iter().map(|line| cells(subject.party(line.party())))).max();
         let far = lines.iter().map(|line| place(line).len()).max();
         let (wide, far) = (wide.unwrap_or(0), far.unwrap_or(0));
         let mut text = String::new();
@@ -109,8 +110,8 @@ impl Played<'_> {
                 Line::Did(done) => (self.told(done).kind, &self.told(done).text[..]),
                 Line::Nothing(idle) => idled(idle),
             };
-            let (party, place) = (subject.party(line.party()), place(line));
-            text.push_str(&format!("{party:wide$}  {place:far$}  {kind:7} {what}\n"));
+            let (party, place) = (padded(subject.party(line.party()), wide), place(line));
+            text.push_str(&format!("{party}  {place:far$}  {kind:7} {what}\n"));
         }
         if self.run.cut {
             text.push_str("the run goes on: at most 4,096 moves can be asked of the rehearsal, and these are they\n");

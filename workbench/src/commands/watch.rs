@@ -1,6 +1,6 @@
 //! `nghi watch`: a file, or the narrations of a folder, checked again on every change.
 
-use crate::arguments::{Call, Command};
+use crate::arguments::{Call, Command, Takes};
 use crate::commands::{check, draw, Output};
 use crate::draw::Form;
 use crate::failure::{Failure, PLAYABLE};
@@ -22,9 +22,12 @@ pub static COMMAND: Command = Command {
     does: "checks a file, or a folder's narrations, again on every change",
     places: (1, 1),
     options: &[
-        ("--html", Some("a page of the file's run, drawn again on every change")),
-        ("--once", None),
-        ("--json", None),
+        (
+            "--html",
+            Takes::One("a page of the file's run, drawn again on every change"),
+        ),
+        ("--once", Takes::Nothing),
+        ("--json", Takes::Nothing),
     ],
 };
 
@@ -82,7 +85,7 @@ fn told(call: &Call, change: &Change) -> Result<(String, u8), Failure> {
         true => format!("{}\n", report::answered(&[report], status)),
         false => report.text(&[]),
     };
-    if let (Ok(input), Some(page)) = (&input, call.last("--html")) {
+    if let (Ok(input), Some(page)) = (&input, call.value("--html")) {
         let drawn = drawn(input, page);
         // Standard output is for the answers alone where programs read it.
         if !call.has("--json") {

@@ -1,12 +1,25 @@
 //! A scene as a Mermaid sequence diagram: a message for each step, a note for each event.
 
 use super::scene::Scene;
+use crate::failure::Failure;
 use std::fmt::Write;
 
 /// What every diagram of ours begins with.
 pub const FRONT: &str = "%% nghi draw\n";
 
-pub fn diagram(scene: &Scene) -> String {
+/// The diagram, after it was seen that it has as many notes and messages as there are events and steps.
+pub fn diagram(scene: &Scene) -> Result<String, Failure> {
+    let text = written(scene);
+    let notes = text.lines().filter(|line| line.starts_with("    Note over ")).count();
+    let messages = text.lines().filter(|line| line.contains("->>")).count();
+    let asked = scene.events() + usize::from(scene.stop.is_some());
+    match (notes, messages) == (asked, scene.steps.len()) {
+        true => Ok(text),
+        false => Err(Failure::guard("the diagram has not each event and each step once")),
+    }
+}
+
+fn written(scene: &Scene) -> String {
     let mut out = format!("{FRONT}sequenceDiagram\n");
     for (number, party) in scene.parties.iter().enumerate() {
         let _ = writeln!(out, "    participant p{number} as {}", safe(&party.name));

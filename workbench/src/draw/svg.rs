@@ -7,6 +7,7 @@
 
 use super::escaped;
 use super::scene::{Event, Scene, Step, Stop};
+use crate::cells::{cell, cells};
 use crate::failure::Failure;
 use crate::report::count;
 use std::fmt::Write;
@@ -126,18 +127,6 @@ fn each_once(scene: &Scene, text: &str) -> Result<(), Failure> {
         true => Ok(()),
         false => Err(Failure::guard("the picture has not each event once")),
     }
-}
-
-/// How many cells a text takes: letters of the East that fill two are counted twice.
-pub fn cells(text: &str) -> usize {
-    text.chars().map(cell).sum()
-}
-
-fn cell(sign: char) -> usize {
-    let wide = matches!(sign as u32,
-        0x1100..=0x115f | 0x2e80..=0xa4cf | 0xac00..=0xd7a3 | 0xf900..=0xfaff | 0xfe30..=0xfe4f | 0xff01..=0xff60
-        | 0xffe0..=0xffe6 | 0x1f000..=0x1faff | 0x20000..=0x3fffd);
-    1 + usize::from(wide)
 }
 
 /// The text, or as much of it as fits with two dots behind.
@@ -610,6 +599,10 @@ fn step_mark(step: Option<u32>) -> String {
 #[cfg(test)]
 mod tests {
     use super::*;
+    use crate::input::Input;
+    use crate::proved::Answers;
+    use crate::run::Order;
+    use crate::subject::{open, Opened};
 
     #[test]
     fn texts_are_cut_by_cells() {
@@ -619,6 +612,45 @@ mod tests {
         assert_eq!(cut("鍵鍵鍵鍵", 6), "鍵鍵..");
         assert_eq!((cells("鍵a"), cells("")), (3, 0));
         assert_eq!(cut("abc", 0), "..");
+    }
+
+    fn scene() -> Scene {
+        let input = Input {
+            name: "text".to_string(),
+            path: None,
+            bytes: b"party A knows K\nparty B knows K\nB -> A: N\nA -> B: {N}K\n".to_vec(),
+        };
+        let Ok(Opened::Subject(subject)) = open(&input) else {
+            panic!("a narration");
+        };
+        let answers = Answers::of(&subject).expect("no guard").expect("it can be played");
+        Scene::of(&subject, &answers, &Order::Narration).expect("a scene")
+    }
+
+    /// One box that is moved onto another, or out of the picture, and one event less or twice break the guard.
+    #[test]
+    fn an_altered_picture_is_told() {
+        let scene = scene();
+        let status = |told: Result<(), Failure>| told.map_err(|failure| failure.status);
+        assert_eq!(status(Layout::of(&scene).apart()), Ok(()));
+        for at in 1..Layout::of(&scene).chips.len() {
+            let mut altered = Layout::of(&scene);
+            altered.chips[at].area = altered.chips[at - 1].area;
+            assert_eq!(status(altered.apart()), Err(70), "chip {at}");
+            let mut altered = Layout::of(&scene);
+            altered.chips[at].area.x = altered.width;
+            assert_eq!(status(altered.apart()), Err(70), "chip {at}");
+        }
+        let text = Layout::of(&scene).written(Use::Alone);
+        assert_eq!(status(each_once(&scene, &text)), Ok(()));
+        for (number, party) in scene.parties.iter().enumerate() {
+            for event in 0..party.events.len() {
+                let mark = format!(" data-event=\"{number}-{event}\"");
+                assert_eq!(status(each_once(&scene, &text.replace(&mark, ""))), Err(70), "{mark}");
+                let twice = text.replace(&mark, &mark.repeat(2));
+                assert_eq!(status(each_once(&scene, &twice)), Err(70), "{mark}");
+            }
+        }
     }
 
     #[test]

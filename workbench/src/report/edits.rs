@@ -127,6 +127,11 @@ pub fn helpful(lines: &[String], kinds: Vec<Vec<Edit>>, step: u32, atom: &str, m
     let mut later: Option<(u32, Help)> = None;
     for edits in kinds {
         for edit in edits {
+            // Two kinds may come to one change.
+            let text = Some(edit.lines.join("\n"));
+            if helps.iter().any(|help| help.text == text) {
+                continue;
+            }
             let step = step + edit.lines.len().saturating_sub(lines.len()) as u32;
             match attempt(&edit.lines) {
                 Some(Outcome::Playable) => {

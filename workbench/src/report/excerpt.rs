@@ -3,6 +3,7 @@
 
 use super::edits::Help;
 use super::Mark;
+use crate::cells::cell;
 use narration::Spot;
 
 /// A line of more characters than this is cut.
@@ -50,14 +51,17 @@ pub fn marks(name: &str, lines: &[String], marks: &[Mark], margin: usize) -> Str
     text
 }
 
-/// What stands under a line: blanks, tabs where the line has tabs, and the mark.
+/// What stands under a line: blanks, tabs where the line has tabs, and the mark, as wide as what it marks.
 fn under(line: &str, before: usize, length: usize, mark: &str) -> String {
-    let blanks: String = (line.chars().take(before))
-        .map(|sign| if sign == '\t' { '\t' } else { ' ' })
-        .collect();
-    let rest = line.chars().count().saturating_sub(before).max(1);
+    let blank = |sign: char| match sign {
+        '\t' => "\t".to_string(),
+        _ => " ".repeat(cell(sign)),
+    };
+    let blanks: String = line.chars().take(before).map(blank).collect();
     // The place just behind a line's end can be marked too.
-    format!("{blanks:before$}{}", mark.repeat(length.clamp(1, rest)))
+    let behind = " ".repeat(before.saturating_sub(line.chars().count()));
+    let marked: usize = line.chars().skip(before).take(length).map(cell).sum();
+    format!("{blanks}{behind}{}", mark.repeat(marked.max(1)))
 }
 
 /// Lines as a help would have them.
@@ -113,6 +117,18 @@ mod tests {
             " --> f:1:10\n  |\n1 | \tä -> b: N\n  | \t        ^ here\n  | \t- here\n  |\n2 | party \u{fffd}[31m\n  | ----- here\n"
         );
         assert_eq!(marks("f", &lines, &[], 2), "  --> f\n");
+    }
+
+    /// Under letters that fill two columns, and behind marks that fill none.
+    #[test]
+    fn columns() {
+        let lines = [String::from("甲 -> 乙: {密}鍵, e\u{301}, K")];
+        let under = |column: usize| {
+            let text = marks("f", &lines, &[mark(1, column, 1)], 1);
+            text.lines().nth(3).map(str::to_string)
+        };
+        assert_eq!(under(12), Some(format!("  | {:14}^^ here", "")));
+        assert_eq!(under(19), Some(format!("  | {:21}^ here", "")));
     }
 
     /// The mark of a line that is cut stands under its term, wherever that is.

@@ -3,11 +3,15 @@
 use super::edits::{self, Edit, Help, Outcome};
 use super::{listed, Diagnostic, Report, Verdict};
 use crate::arguments::distance;
+use crate::cells::cell;
 use narration::{of_a_name, Kind, Mistake};
 
 /// Helps are looked for for so many mistakes, and in a text of so many bytes: each help is tried on the whole text.
 const MOST_HELPED: usize = 40;
 const MOST_BYTES: usize = 200_000;
+
+/// Arrows as they are drawn elsewhere.
+const ARROWS: [&str; 6] = ["\u{2192}", "\u{27f6}", "-->", "=>", "\u{2014}>", "\u{2013}>"];
 
 /// Every mistake of a text.
 pub fn mistaken(name: &str, lines: Vec<String>, mistakes: &[Mistake]) -> Report {
@@ -84,7 +88,23 @@ impl<'t> Wrong<'t> {
             let verb = if parties.len() == 1 { "party is" } else { "parties are" };
             return Some(format!("the {verb} {}", listed(&parties)));
         }
-        keyless.then(|| String::from("a cipher's key stands right behind its brace, as in `{N}K`"))
+        if keyless {
+            return Some(String::from(
+                "a cipher's key stands right behind its brace, as in `{N}K`",
+            ));
+        }
+        self.strange()
+    }
+
+    /// What a sign is that isn't on every keyboard, and perhaps can't be seen. An arrow has its help.
+    fn strange(&self) -> Option<String> {
+        let strange = |sign: &char| !sign.is_ascii() && !of_a_name(*sign) && !ARROWS.contains(&&sign.to_string()[..]);
+        let sign = self.found.chars().next().filter(strange)?;
+        let number = format!("U+{:04X}", u32::from(sign));
+        Some(match cell(sign) {
+            0 => format!("{number} takes no place of its own; in names every letter is one character, accents too"),
+            _ => format!("{number} is no letter, and no sign of a narration"),
+        })
     }
 
     /// The text with this line changed.
@@ -127,14 +147,13 @@ impl<'t> Wrong<'t> {
         }]
     }
 
-    /// Arrows as they are drawn elsewhere.
+    /// An arrow of another kind is the one that is meant.
     fn arrows(&self) -> Vec<Edit> {
-        let arrows = ["\u{2192}", "\u{27f6}", "-->", "=>", "\u{2014}>", "\u{2013}>"];
         let edit = |arrow: &str| {
             let message = format!("an arrow is written `->`, and not `{arrow}`");
             self.edit(self.line.replace(arrow, "->"), message)
         };
-        let found = arrows.into_iter().filter(|arrow| self.line.contains(arrow));
+        let found = ARROWS.into_iter().filter(|arrow| self.line.contains(arrow));
         found.map(edit).collect()
     }
 
@@ -176,7 +195,7 @@ impl<'t> Wrong<'t> {
         let (column, blanks) = blanks_before(self.line, self.mistake.spot.column);
         let line = edits::replaced(self.line, column, blanks, put);
         let mut edits = vec![self.edit(line, format!("put in `{sign}`"))];
-        if !self.found.is_empty() && !word(&self.found) {
+        if !self.found.is_empty() && self.found.is_ascii() && !word(&self.found) {
             let message = format!("put `{sign}` in the place of `{}`", self.found);
             edits.push(self.edit(self.instead(sign), message));
         }

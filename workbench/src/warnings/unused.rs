@@ -5,9 +5,9 @@ use crate::guard;
 use crate::input::Input;
 use crate::listing::{Event, Image, Program, Stored};
 use crate::playable::Playable;
-use crate::proved::{Answers, Source};
+use crate::proved::{parts, Answers, Source};
 use crate::report::edits::{all_knowing, attempt, moved, opening, Edit, Help, Outcome};
-use crate::report::{listed, openings, short, Diagnostic};
+use crate::report::{listed, short, Diagnostic};
 use crate::subject::{open, to_bytes, to_words, Opened, Subject, Text};
 use narration::book::{Book, Party, Step, CIPHER, MOST_KNOWN, PRIVATE};
 use narration::Spot;
@@ -34,7 +34,7 @@ pub fn of(playable: &Playable) -> Result<Vec<Diagnostic>, Failure> {
     let (subject, answers) = (&playable.subject, &playable.answers);
     let mut found: BTreeMap<(u32, u32, Kind), Vec<u32>> = BTreeMap::new();
     for (party, program) in (0..).zip(&answers.programs) {
-        for own in unused(subject, answers, party, program) {
+        for own in unused(program) {
             let kind = kind(playable, party, own.row)?;
             found.entry((party, own.step, kind)).or_default().push(own.row);
         }
@@ -51,18 +51,10 @@ pub fn of(playable: &Playable) -> Result<Vec<Diagnostic>, Failure> {
     Ok(warnings)
 }
 
-/// What a party stored and never used. A cipher that it opened when it came once more is no such thing.
-fn unused<'p>(
-    subject: &Subject,
-    answers: &Answers,
-    party: u32,
-    program: &'p Program,
-) -> impl Iterator<Item = Stored> + 'p {
+/// What a party stored and never used. That the same term came once more and was opened then says nothing of the first.
+fn unused(program: &Program) -> impl Iterator<Item = Stored> + '_ {
     let used = used(program);
-    let opened: BTreeSet<u32> = (openings(subject, answers, party).into_iter())
-        .map(|(row, ..)| row)
-        .collect();
-    stored(program).filter(move |own| !used.contains(&own.placeholder) && !opened.contains(&own.row))
+    stored(program).filter(move |own| !used.contains(&own.placeholder))
 }
 
 fn stored(program: &Program) -> impl Iterator<Item = Stored> + '_ {
@@ -155,12 +147,9 @@ fn kind(playable: &Playable, party: u32, row: u32) -> Result<Kind, Failure> {
 
 /// The rows that a row is made of, and the halves of these.
 fn parts_and_halves(subject: &Subject, row: u32) -> BTreeSet<u32> {
-    let rows = &subject.book.rows;
-    let mut near: BTreeSet<u32> = (0..rows.len() as u32)
-        .filter(|part| subject.has_part(row, *part))
-        .collect();
+    let mut near = parts(&subject.book, row, |_| true);
     let halves = (0..)
-        .zip(rows)
+        .zip(&subject.book.rows)
         .filter(|(_, own)| own.parts.len() == 1 && near.contains(&own.parts[0]));
     let halves: Vec<u32> = halves.map(|(half, _)| half).collect();
     near.extend(halves);
@@ -282,7 +271,7 @@ fn checked(subject: &Subject, lines: &[String], party: u32, rows: &[u32]) -> Res
         return Ok(false);
     };
     let program = &answers.programs[party as usize];
-    let left = unused(&changed, &answers, party, program).map(|own| changed.term(own.row));
+    let left = unused(program).map(|own| changed.term(own.row));
     let left: Vec<&str> = left.collect();
     let cipher = |row: &&u32| subject.book.rows[**row as usize].kind == CIPHER;
     let asked = rows.iter().find(cipher).or(rows.first());

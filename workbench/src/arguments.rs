@@ -16,22 +16,27 @@ pub struct Command {
     pub options: &'static [(&'static str, Takes)],
 }
 
-/// What an option takes: nothing, a value, or values, one each time that it is written; and what a value is called.
+/// What an option takes, and what that is: nothing, and what the option does; a value; or values, one each time that it is
+/// written.
 #[derive(Clone, Copy, PartialEq, Eq, Debug)]
 pub enum Takes {
-    Nothing,
+    Nothing(&'static str),
     One(&'static str),
     Many(&'static str),
 }
 
 impl Takes {
-    pub fn value(self) -> Option<&'static str> {
+    pub fn what(self) -> &'static str {
         match self {
-            Takes::Nothing => None,
-            Takes::One(what) | Takes::Many(what) => Some(what),
+            Takes::Nothing(what) | Takes::One(what) | Takes::Many(what) => what,
         }
     }
 }
+
+/// Options that several commands have.
+pub const JSON: (&str, Takes) = ("--json", Takes::Nothing("one line of JSON, for programs"));
+pub const FORCE: (&str, Takes) = ("--force", Takes::Nothing("also over a file that is something else"));
+pub const ORDER: (&str, Takes) = ("--order", Takes::One("narration, round, reverse or random:SEED"));
 
 /// A command as it was written.
 #[derive(Debug)]
@@ -75,20 +80,18 @@ impl Call {
                     near(name, command)
                 )));
             };
-            if matches!(takes, Takes::One(_)) && call.has(name) {
-                return Err(wrong(format!("`{name}` is given twice")));
-            }
-            let given = match (takes.value(), joined) {
-                (None, None) => OsString::new(),
-                (None, Some(_)) => return Err(wrong(format!("`{name}` has no value"))),
+            let given = match (takes, joined) {
+                (Takes::Nothing(_), None) => OsString::new(),
+                (Takes::Nothing(_), Some(_)) => return Err(wrong(format!("`{name}` has no value"))),
+                (Takes::One(_), _) if call.has(name) => return Err(wrong(format!("`{name}` is given twice"))),
                 // Behind `=` a path that is no text would lose its bytes.
-                (Some(_), Some(_)) if argument.to_str().is_none() => {
+                (_, Some(_)) if argument.to_str().is_none() => {
                     return Err(wrong(format!(
                         "the value of `{name}` is no text; put a blank before it, not `=`"
                     )))
                 }
-                (Some(_), Some(value)) => value,
-                (Some(what), None) => match rest.next() {
+                (_, Some(value)) => value,
+                (Takes::One(what) | Takes::Many(what), None) => match rest.next() {
                     Some(value) => value.clone(),
                     None => return Err(wrong(format!("`{name}` needs a value, {what}"))),
                 },
@@ -168,7 +171,7 @@ mod tests {
         options: &[
             ("--deny", Takes::Many("W1 to W5")),
             ("--at", Takes::One("a line")),
-            ("--json", Takes::Nothing),
+            JSON,
         ],
     };
 

@@ -119,10 +119,10 @@ fn help() -> String {
 }
 
 fn help_of(command: &Command) -> String {
-    let mut text = format!("nghi {} {}\n\n  {}\n", command.name, command.takes, command.does);
-    for (option, value) in command.options {
-        let value = value.value().map_or_else(String::new, |what| format!(" {what}"));
-        text.push_str(&format!("  {option}{value}\n"));
+    let mut text = format!("nghi {} {}\n\n  {}\n\n", command.name, command.takes, command.does);
+    let width = command.options.iter().map(|(option, _)| option.len()).max();
+    for (option, takes) in command.options {
+        text.push_str(&format!("  {option:0$}  {1}\n", width.unwrap_or(0), takes.what()));
     }
     text
 }

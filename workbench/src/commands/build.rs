@@ -1,6 +1,6 @@
 //! `nghi build`: the book of a narration, and beside it what its rows and operations are called; or of a book a narration.
 
-use crate::arguments::{Call, Command, Takes};
+use crate::arguments::{Call, Command, Takes, FORCE, JSON};
 use crate::commands::Output;
 use crate::failure::{Failure, PLAYABLE, REFUSED};
 use crate::guard;
@@ -19,11 +19,7 @@ pub static COMMAND: Command = Command {
     takes: "FILE -o X.book|X.narration [--force] [--json]",
     does: "writes the book, and its names beside it as X.names; or of a book a narration; never over its source",
     places: (1, 1),
-    options: &[
-        ("-o", Takes::One("the book's file, or the narration's")),
-        ("--force", Takes::Nothing),
-        ("--json", Takes::Nothing),
-    ],
+    options: &[("-o", Takes::One("the book's file, or the narration's")), FORCE, JSON],
 };
 
 /// What is asked for, and where it goes.

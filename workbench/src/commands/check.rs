@@ -1,6 +1,6 @@
 //! `nghi check`: whether files can be played, and what is wrong in them or deserves a look.
 
-use crate::arguments::{Call, Command, Takes};
+use crate::arguments::{Call, Command, Takes, JSON};
 use crate::commands::Output;
 use crate::failure::{Failure, FILE, PLAYABLE, REFUSED};
 use crate::input::{self, Input};
@@ -15,7 +15,7 @@ pub static COMMAND: Command = Command {
     takes: "FILE.. [--deny W2] [--json]",
     does: "whether it can be played, and what is wrong or deserves a look",
     places: (1, usize::MAX),
-    options: &[("--deny", Takes::Many("W1 to W5, or all")), ("--json", Takes::Nothing)],
+    options: &[("--deny", Takes::Many("W1 to W5, or all")), JSON],
 };
 
 pub fn run(call: &Call) -> Result<Output, Failure> {

@@ -1,7 +1,7 @@
 //! `nghi completions`: what a shell has to know to complete a command line, from the table of commands.
 
-use super::COMMANDS;
-use crate::arguments::{Call, Command, Takes};
+use super::{explain, COMMANDS};
+use crate::arguments::{Call, Command, Takes, JSON};
 use crate::commands::Output;
 use crate::failure::{Failure, PLAYABLE};
 use crate::json::answer;
@@ -11,7 +11,7 @@ pub static COMMAND: Command = Command {
     takes: "bash|zsh|fish [--json]",
     does: "a script for the shell, which completes commands and options",
     places: (1, 1),
-    options: &[("--json", Takes::Nothing)],
+    options: &[JSON],
 };
 
 pub fn run(call: &Call) -> Result<Output, Failure> {
@@ -40,8 +40,11 @@ fn commands() -> impl Iterator<Item = &'static Command> {
     COMMANDS.iter().map(|(command, _)| *command)
 }
 
-/// What may stand in the command's first place, where that is one of a few words: `bash|zsh|fish`.
+/// What may stand in the command's first place, where that is one of a few words: `bash|zsh|fish`, or a code.
 fn choices(command: &Command) -> Vec<&'static str> {
+    if command.name == explain::COMMAND.name {
+        return explain::ALL.iter().map(|own| own.code).collect();
+    }
     let first = command.takes.split(' ').next().unwrap_or("");
     match first.contains('|') {
         true => first.split('|').collect(),
@@ -91,7 +94,7 @@ fn zsh() -> String {
         .map(|command| format!("        {}\n", quoted(&format!("{}:{}", command.name, command.does))))
         .collect();
     let option = |(option, takes): &(&str, Takes)| match takes {
-        Takes::Nothing => quoted(option),
+        Takes::Nothing(what) => quoted(&format!("{option}[{what}]")),
         Takes::One(what) => quoted(&format!("{option}[{what}]:value:_files")),
         Takes::Many(what) => quoted(&format!("*{option}[{what}]:value:_files")),
     };
@@ -141,16 +144,18 @@ fn fish() -> String {
                 "complete -c nghi -n '__fish_seen_subcommand_from {name}' -f -a {word}\n"
             ));
         }
-        for (option, value) in command.options {
+        for (option, takes) in command.options {
             let form = match (option.strip_prefix("--"), option.strip_prefix('-')) {
                 (Some(long), _) => format!("-l {long}"),
                 (None, short) => format!("-s {}", short.unwrap_or_default()),
             };
-            let value = value
-                .value()
-                .map_or_else(String::new, |what| format!(" -r -d {}", quoted(what)));
+            let value = match takes {
+                Takes::Nothing(_) => "",
+                Takes::One(_) | Takes::Many(_) => " -r",
+            };
             text.push_str(&format!(
-                "complete -c nghi -n '__fish_seen_subcommand_from {name}' {form}{value}\n"
+                "complete -c nghi -n '__fish_seen_subcommand_from {name}' {form}{value} -d {}\n",
+                quoted(takes.what())
             ));
         }
     }

@@ -1,6 +1,6 @@
 //! `nghi draw`: a picture of the run.
 
-use crate::arguments::{Call, Command, Takes};
+use crate::arguments::{Call, Command, Takes, FORCE, JSON, ORDER};
 use crate::commands::Output;
 use crate::draw::scene::{too_many, Scene};
 use crate::draw::{is_ours, picture, Form, MOST_EVENTS};
@@ -22,13 +22,13 @@ pub static COMMAND: Command = Command {
     places: (1, 1),
     options: &[
         ("-o", Takes::One("the picture's file, or - for standard output")),
-        ("--order", Takes::One("narration, round, reverse or random:SEED")),
+        ORDER,
         (
             "--as",
             Takes::One("svg, html or mmd, where the file's name does not say it"),
         ),
-        ("--force", Takes::Nothing),
-        ("--json", Takes::Nothing),
+        FORCE,
+        JSON,
     ],
 };
 

@@ -1,6 +1,6 @@
 //! `nghi explain`: a refusal or a warning in plain words, a small example, and the cure.
 
-use crate::arguments::{Call, Command, Takes};
+use crate::arguments::{Call, Command, JSON};
 use crate::commands::Output;
 use crate::failure::{Failure, PLAYABLE};
 use crate::json::{answer, object, Json};
@@ -10,7 +10,7 @@ pub static COMMAND: Command = Command {
     takes: "[CODE] [--json]",
     does: "what a refusal or a warning means: the rule, an example, the cure",
     places: (0, 1),
-    options: &[("--json", Takes::Nothing)],
+    options: &[JSON],
 };
 
 /// What is said of a code. Lines of the rule and the cure are broken as they are shown.

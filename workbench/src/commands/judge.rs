@@ -1,7 +1,7 @@
 //! `nghi judge`: whether another tool's listing of a party is ours but for the names of placeholders, by the proved judge;
 //! and if not, where it differs and why.
 
-use crate::arguments::{Call, Command, Takes};
+use crate::arguments::{Call, Command, Takes, JSON};
 use crate::commands::Output;
 use crate::failure::{Failure, PLAYABLE, REFUSED};
 use crate::input::Input;
@@ -17,7 +17,7 @@ pub static COMMAND: Command = Command {
     takes: "FILE PARTY LISTING [--json], or --ours FILE PARTY",
     does: "whether another tool's listing of a party is ours but for the names of placeholders",
     places: (2, 3),
-    options: &[("--ours", Takes::Nothing), ("--json", Takes::Nothing)],
+    options: &[("--ours", Takes::Nothing("our own listing of the party")), JSON],
 };
 
 /// An event is shown up to so many letters: an END may have a hundred thousand rows.

@@ -1,6 +1,6 @@
 //! `nghi knows`: which party holds which term, how and since when.
 
-use crate::arguments::{distance, Call, Command, Takes};
+use crate::arguments::{distance, Call, Command, Takes, JSON};
 use crate::cells::{cells, padded};
 use crate::commands::Output;
 use crate::failure::{Failure, PLAYABLE};
@@ -23,7 +23,7 @@ pub static COMMAND: Command = Command {
             Takes::One("a line: what is held after its step; of a book, a step"),
         ),
         ("--term", Takes::One("a term, as the narration has it")),
-        ("--json", Takes::Nothing),
+        JSON,
     ],
 };
 

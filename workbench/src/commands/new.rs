@@ -1,6 +1,6 @@
 //! `nghi new`: a small narration to begin with.
 
-use crate::arguments::{Call, Command, Takes};
+use crate::arguments::{Call, Command, JSON};
 use crate::commands::Output;
 use crate::failure::{Failure, PLAYABLE};
 use crate::json::answer;
@@ -12,7 +12,7 @@ pub static COMMAND: Command = Command {
     takes: "NAME [--json]",
     does: "writes NAME.narration, a small one to begin with; never over a file that is there",
     places: (1, 1),
-    options: &[("--json", Takes::Nothing)],
+    options: &[JSON],
 };
 
 const END: &str = ".narration";

@@ -1,6 +1,6 @@
 //! `nghi play`: a run of the programs, move by move, and how it leaves each party.
 
-use crate::arguments::{Call, Command, Takes};
+use crate::arguments::{Call, Command, Takes, JSON, ORDER};
 use crate::cells::{cells, padded};
 use crate::commands::Output;
 use crate::failure::{Failure, PLAYABLE};
@@ -15,9 +15,9 @@ pub static COMMAND: Command = Command {
     does: "a run of the programs, move by move, and how it leaves each party",
     places: (1, 1),
     options: &[
-        ("--order", Takes::One("narration, round, reverse or random:SEED")),
+        ORDER,
         ("--moves", Takes::One("parties' names with commas, a move each")),
-        ("--json", Takes::Nothing),
+        JSON,
     ],
 };
 

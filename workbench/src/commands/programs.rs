@@ -1,6 +1,6 @@
 //! `nghi programs`: each party's events with the narration's own names and lines.
 
-use crate::arguments::{Call, Command, Takes};
+use crate::arguments::{Call, Command, Takes, JSON};
 use crate::commands::Output;
 use crate::failure::{Failure, PLAYABLE};
 use crate::json::{answer, object, Json};
@@ -12,7 +12,7 @@ pub static COMMAND: Command = Command {
     takes: "FILE [--party P] [--json]",
     does: "each party's events with the narration's own names and lines",
     places: (1, 1),
-    options: &[("--party", Takes::One("a party's name")), ("--json", Takes::Nothing)],
+    options: &[("--party", Takes::One("a party's name")), JSON],
 };
 
 pub fn run(call: &Call) -> Result<Output, Failure> {

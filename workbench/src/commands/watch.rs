@@ -1,6 +1,6 @@
 //! `nghi watch`: a file, or the narrations of a folder, checked again on every change.
 
-use crate::arguments::{Call, Command, Takes};
+use crate::arguments::{Call, Command, Takes, JSON};
 use crate::commands::{check, draw, Output};
 use crate::draw::Form;
 use crate::failure::{Failure, PLAYABLE};
@@ -26,8 +26,8 @@ pub static COMMAND: Command = Command {
             "--html",
             Takes::One("a page of the file's run, drawn again on every change"),
         ),
-        ("--once", Takes::Nothing),
-        ("--json", Takes::Nothing),
+        ("--once", Takes::Nothing("looks once, and ends")),
+        JSON,
     ],
 };
 

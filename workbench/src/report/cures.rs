@@ -86,15 +86,12 @@ impl Case<'_> {
                 let (Some(from), Some(to)) = (self.subject.line(step), self.subject.line(behind)) else {
                     continue;
                 };
-                edits.push(Edit {
-                    message: format!(
-                        "move line {from} behind line {to}, so that {} can open {} when it arrives",
-                        self.subject.party(self.sender),
-                        short(self.subject.term(row))
-                    ),
-                    lines: edits::moved(&text.lines, from, to),
-                    changed: vec![to],
-                });
+                let message = format!(
+                    "move line {from} behind line {to}, so that {} can open {} when it arrives",
+                    self.subject.party(self.sender),
+                    short(self.subject.term(row))
+                );
+                edits.push(edits::moved(&text.lines, from, to, message));
             }
         }
         edits
@@ -230,14 +227,10 @@ impl Case<'_> {
         for (party, number) in others.zip(std::iter::repeat(subject.line(self.step))) {
             let Some(number) = number else { continue };
             for term in self.sendable(party, self.step.checked_sub(1)) {
-                let mut lines = text.lines.clone();
                 let from = subject.party(party);
-                lines.insert(number - 1, format!("{from} -> {sender}: {term}"));
-                edits.push(Edit {
-                    message: format!("let {from} send {term} to {sender} before"),
-                    lines,
-                    changed: vec![number],
-                });
+                let line = format!("{from} -> {sender}: {term}");
+                let message = format!("let {from} send {term} to {sender} before");
+                edits.push(edits::inserted(&text.lines, number, line, message));
             }
         }
         edits

@@ -13,6 +13,8 @@ pub struct Edit {
     pub lines: Vec<String>,
     /// The numbers of the lines that are new or other than before, counted from 1.
     pub changed: Vec<usize>,
+    /// Whether they are new, and no line of before is gone for them.
+    pub added: bool,
 }
 
 /// What is said of a changed text.
@@ -40,6 +42,8 @@ pub struct Help {
     pub outcome: Option<Outcome>,
     /// The changed lines with their numbers.
     pub changed: Vec<(usize, String)>,
+    /// Whether they are new lines.
+    pub added: bool,
     /// The whole changed text, lines ended by line feeds; nothing if there was nothing to try.
     pub text: Option<String>,
 }
@@ -51,6 +55,7 @@ impl Help {
             message: message.into(),
             outcome: None,
             changed: Vec::new(),
+            added: false,
             text: None,
         }
     }
@@ -59,6 +64,7 @@ impl Help {
         let line = |number: usize| edit.lines.get(number - 1).map(|line| (number, line.clone()));
         Help {
             changed: edit.changed.iter().filter_map(|number| line(*number)).collect(),
+            added: edit.added,
             text: Some(edit.lines.join("\n")),
             message: edit.message,
             outcome: Some(outcome),
@@ -79,6 +85,7 @@ impl Help {
             ("message", self.message.as_str().into()),
             ("tried", self.outcome.as_ref().map(Outcome::sentence).into()),
             ("changed", self.changed.iter().map(line).collect::<Vec<_>>().into()),
+            ("added", self.added.into()),
             ("text", self.text.clone().into()),
         ])
     }
@@ -177,12 +184,29 @@ pub fn behind(line: &str, what: &str) -> String {
 }
 
 /// These lines with one moved down, behind another.
-pub fn moved(lines: &[String], from: usize, to: usize) -> Vec<String> {
+pub fn moved(lines: &[String], from: usize, to: usize, message: String) -> Edit {
     let mut lines = lines.to_vec();
     if let Some(part) = lines.get_mut(from - 1..to) {
         part.rotate_left(1);
     }
-    lines
+    Edit {
+        message,
+        lines,
+        changed: vec![to],
+        added: false,
+    }
+}
+
+/// These lines with a new one, which gets this number.
+pub fn inserted(lines: &[String], number: usize, line: String, message: String) -> Edit {
+    let mut lines = lines.to_vec();
+    lines.insert(number - 1, line);
+    Edit {
+        message,
+        lines,
+        changed: vec![number],
+        added: true,
+    }
 }
 
 /// These lines with a party that knows one more term from the start. The lines of the parties are where the text has them.
@@ -205,6 +229,7 @@ pub fn all_knowing(subject: &Subject, lines: &[String], parties: &[u32], term: &
         message: format!("let {} know {} from the start", listed(&names), short(term)),
         lines: lines.to_vec(),
         changed: Vec::new(),
+        added: false,
     };
     parties.iter().try_fold(start, |mut all, party| {
         let edit = knowing(subject, &all.lines, *party, term)?;
@@ -239,6 +264,7 @@ pub fn with_line(lines: &[String], number: usize, line: String, message: String)
         message,
         lines,
         changed: vec![number],
+        added: false,
     }
 }
 

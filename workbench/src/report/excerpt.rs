@@ -64,13 +64,14 @@ fn under(line: &str, before: usize, length: usize, mark: &str) -> String {
     format!("{blanks}{behind}{}", mark.repeat(marked.max(1)))
 }
 
-/// Lines as a help would have them.
-pub fn changed(lines: &[(usize, String)], margin: usize) -> String {
+/// Lines as a help would have them: `+` stands before new ones, `~` before changed ones.
+pub fn changed(help: &Help, margin: usize) -> String {
+    let sign = if help.added { '+' } else { '~' };
     let line = |(number, line): &(usize, String)| {
         let (shown, _) = part(line, line.chars().count().saturating_sub(FRONT).max(1));
-        format!("{number:margin$} | {shown}\n")
+        format!("{number:margin$} {sign} {shown}\n")
     };
-    lines.iter().map(line).collect()
+    help.changed.iter().map(line).collect()
 }
 
 /// The part of a line that is shown, and how many characters are left out in front of it less those that say so.

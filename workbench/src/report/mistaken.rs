@@ -11,7 +11,17 @@ const MOST_HELPED: usize = 40;
 const MOST_BYTES: usize = 200_000;
 
 /// Arrows as they are drawn elsewhere.
-const ARROWS: [&str; 6] = ["\u{2192}", "\u{27f6}", "-->", "=>", "\u{2014}>", "\u{2013}>"];
+const ARROWS: [&str; 9] = [
+    "\u{2192}",
+    "\u{27f6}",
+    "\u{21d2}",
+    "-->",
+    "->>",
+    "=>",
+    "- >",
+    "\u{2014}>",
+    "\u{2013}>",
+];
 
 /// Every mistake of a text.
 pub fn mistaken(name: &str, lines: Vec<String>, mistakes: &[Mistake]) -> Report {
@@ -138,13 +148,9 @@ impl<'t> Wrong<'t> {
         let Some(last) = self.lines.iter().rposition(declares) else {
             return Vec::new();
         };
-        let mut lines = self.lines.to_vec();
-        lines.insert(last + 1, format!("party {}", self.found));
-        vec![Edit {
-            message: format!("declare {}, and what it knows", self.found),
-            lines,
-            changed: vec![last + 2],
-        }]
+        let line = format!("party {}", self.found);
+        let message = format!("declare {}, and what it knows", self.found);
+        vec![edits::inserted(self.lines, last + 2, line, message)]
     }
 
     /// An arrow of another kind is the one that is meant.
@@ -154,7 +160,20 @@ impl<'t> Wrong<'t> {
             self.edit(self.line.replace(arrow, "->"), message)
         };
         let found = ARROWS.into_iter().filter(|arrow| self.line.contains(arrow));
-        found.map(edit).collect()
+        found.map(edit).chain(self.backwards()).collect()
+    }
+
+    /// An arrow from the receiver to the sender.
+    fn backwards(&self) -> Option<Edit> {
+        let (receiver, rest) = self.line.split_once("<-")?;
+        let (sender, messages) = rest.split_once(':')?;
+        let blanks = [' ', '\t', '-'];
+        let line = format!(
+            "{} -> {}:{messages}",
+            sender.trim_matches(blanks),
+            receiver.trim_matches(blanks)
+        );
+        Some(self.edit(line, String::from("the sender stands in front of the arrow, `->`")))
     }
 
     /// The word at the front of the line may be the one that is wrong.

@@ -48,6 +48,7 @@ fn warning(text: &Text, (rare, spots): (&str, &[Spot]), (usual, places): (&str, 
         message: format!("if they are one, write `{usual}`"),
         lines,
         changed,
+        added: false,
     };
     if attempt(&edit.lines) == Some(Outcome::Playable) {
         warning.helps.push(Help::of(edit, Outcome::Playable));

@@ -249,11 +249,7 @@ fn with_key(subject: &Subject, answers: &Answers, party: u32, rows: &[u32]) -> O
 fn later(subject: &Subject, text: &Text, step: u32) -> Vec<Edit> {
     let lines = (step + 1..subject.book.steps.len() as u32).filter_map(|next| subject.line(next));
     let from = subject.line(step).unwrap_or(1);
-    let edit = |to: usize| Edit {
-        message: format!("move line {from} behind line {to}"),
-        lines: moved(&text.lines, from, to),
-        changed: vec![to],
-    };
+    let edit = |to: usize| moved(&text.lines, from, to, format!("move line {from} behind line {to}"));
     lines.map(edit).collect()
 }
 

@@ -61,15 +61,37 @@ static COMMANDS: &[(&Command, Run)] = &[
     (&completions::COMMAND, completions::run),
 ];
 
-/// Runs a command line.
+/// Runs a command line. Where there is no answer, and one for programs was asked, it says why on the line that they read.
 pub fn run(arguments: &[OsString]) -> Result<Output, Failure> {
+    match answered(arguments) {
+        Err(failure) if arguments.iter().any(|argument| argument == "--json") => {
+            let command = arguments[0].to_string_lossy();
+            let fields = [
+                ("status", u32::from(failure.status).into()),
+                ("error", failure.message.as_str().into()),
+            ];
+            let text = format!("{}\n", answer(&command, fields));
+            Ok(Output::answer(text, failure.status))
+        }
+        answered => answered,
+    }
+}
+
+fn answered(arguments: &[OsString]) -> Result<Output, Failure> {
     let Some((name, rest)) = arguments.split_first() else {
         return Ok(told(help()));
     };
     let name = name.to_string_lossy();
     match &name[..] {
-        "help" | "--help" | "-h" if rest.is_empty() => return Ok(told(help())),
-        "help" | "--help" | "-h" => return run(&[&rest[..1], &["--help".into()]].concat()),
+        "help" | "--help" | "-h" => {
+            let asked = rest
+                .iter()
+                .find(|argument| !argument.to_string_lossy().starts_with('-'));
+            return match asked {
+                None => Ok(told(help())),
+                Some(asked) => answered(&[asked.clone(), "--help".into()]),
+            };
+        }
         "--version" | "-V" => return Ok(told(format!("nghi {}\n", env!("CARGO_PKG_VERSION")))),
         _ => (),
     }
@@ -83,20 +105,7 @@ pub fn run(arguments: &[OsString]) -> Result<Output, Failure> {
     if rest.iter().any(|argument| argument == "--help" || argument == "-h") {
         return Ok(told(help_of(command)));
     }
-    let answered = Call::of(command, rest).and_then(|call| run(&call));
-    match answered {
-        Err(failure) if rest.iter().any(|argument| argument == "--json") => Ok(unanswered(command, &failure)),
-        answered => answered,
-    }
-}
-
-/// For programs, why there is no answer: what standard error would say.
-fn unanswered(command: &Command, failure: &Failure) -> Output {
-    let fields = [
-        ("status", u32::from(failure.status).into()),
-        ("error", failure.message.as_str().into()),
-    ];
-    Output::answer(format!("{}\n", answer(command.name, fields)), failure.status)
+    run(&Call::of(command, rest)?)
 }
 
 fn told(text: String) -> Output {

@@ -2,6 +2,7 @@
 
 use crate::failure::Failure;
 use crate::listing::{Event, Image, Program};
+use crate::proved::Source;
 use crate::subject::Subject;
 use std::collections::HashMap;
 
@@ -43,6 +44,19 @@ impl<'s> Names<'s> {
 
     pub fn placeholder(&self, number: u32) -> String {
         format!("{}{number}", self.prefix)
+    }
+
+    /// How a row is held, if it is.
+    pub fn held(&self, source: Source) -> Option<String> {
+        let step = |step: u32| self.subject.step(step);
+        match source {
+            Source::Given => Some(String::from("given")),
+            Source::Made { step: at } => Some(format!("made at {}", step(at))),
+            Source::Stored { step: at, placeholder } => {
+                Some(format!("stored at {} as {}", step(at), self.placeholder(placeholder)))
+            }
+            Source::Not => None,
+        }
     }
 
     /// An image: what is held as itself by its name, and the rest by its placeholders.

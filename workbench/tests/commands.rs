@@ -811,7 +811,8 @@ fn json_without_an_answer() {
     let folder = Folder::new("json-errors");
     fs::write(folder.path("text"), "1 2\n 3 x4\n").unwrap();
     let (none, text) = (folder.text("none"), folder.text("text"));
-    let calls: [(&[&str], i32, &str); 7] = [
+    let calls: [(&[&str], i32, &str); 8] = [
+        (&["paly", EXAMPLE], 2, "is `play` meant?"),
         (&["programs", &none], 4, "there is no such file"),
         (&["knows", EXAMPLE, "--term", "M"], 2, "has no term `M`"),
         (&["play", EXAMPLE, "--order", "none"], 2, "is no order"),

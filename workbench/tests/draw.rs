@@ -577,8 +577,8 @@ fn an_example_to_the_word() {
     let cells: Vec<String> = (read_xml(&page).unwrap().iter().filter(|element| element.name == "td"))
         .map(|cell| format!("{} {}", cell.get("data-move").unwrap_or("-"), cell.text))
         .collect();
-    let given = "0 from the start";
-    let told = ["3 kept as x0 since line 8", "1 made for line 8"];
+    let given = "0 given";
+    let told = ["3 stored at line 8 as x0", "1 made at line 8"];
     assert_eq!(cells, [&[given; 6][..], &told[..]].concat());
 }
 

@@ -168,16 +168,12 @@ impl Table<'_> {
     fn text(&self) -> String {
         let subject = &self.playable.subject;
         let names = Names::of(subject);
+        let not_held = || String::from("not held");
         let column = |(party, column): (&u32, &Vec<Has>)| -> Vec<String> {
             let cells = column.iter().map(|has| match *has {
-                Has::Held(Source::Given) => String::from("given"),
-                Has::Held(Source::Made { step }) => format!("made at {}", subject.step(step)),
-                Has::Held(Source::Stored { step, placeholder }) => {
-                    let own = names.placeholder(placeholder);
-                    format!("stored at {} as {own}", subject.step(step))
-                }
+                Has::Held(source) => names.held(source).unwrap_or_else(not_held),
                 Has::Buildable => String::from("can build"),
-                Has::Held(Source::Not) | Has::Not => String::from("not held"),
+                Has::Not => not_held(),
             });
             let head = subject.party(*party).to_string();
             std::iter::once(head).chain(cells).collect()

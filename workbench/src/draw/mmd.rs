@@ -10,11 +10,16 @@ pub const FRONT: &str = "%% nghi draw\n";
 /// The diagram, after it was seen that it has as many notes and messages as there are events and steps.
 pub fn diagram(scene: &Scene) -> Result<String, Failure> {
     let text = written(scene);
+    each_once(scene, &text)?;
+    Ok(text)
+}
+
+fn each_once(scene: &Scene, text: &str) -> Result<(), Failure> {
     let notes = text.lines().filter(|line| line.starts_with("    Note over ")).count();
     let messages = text.lines().filter(|line| line.contains("->>")).count();
     let asked = scene.events() + usize::from(scene.stop.is_some());
     match (notes, messages) == (asked, scene.steps.len()) {
-        true => Ok(text),
+        true => Ok(()),
         false => Err(Failure::guard("the diagram has not each event and each step once")),
     }
 }
@@ -85,6 +90,24 @@ fn is_end(letters: &[char], at: usize) -> bool {
 #[cfg(test)]
 mod tests {
     use super::*;
+    use crate::draw::scene;
+
+    /// One line that is left out, or stands twice, breaks the guard.
+    #[test]
+    fn an_altered_diagram_is_told() {
+        let scene = scene::example();
+        let text = written(&scene);
+        let status = |text: &str| each_once(&scene, text).map_err(|failure| failure.status);
+        assert_eq!(status(&text), Ok(()));
+        for line in text
+            .lines()
+            .filter(|line| line.contains("Note over ") || line.contains("->>"))
+        {
+            let line = format!("{line}\n");
+            assert_eq!(status(&text.replacen(&line, "", 1)), Err(70), "{line}");
+            assert_eq!(status(&text.replacen(&line, &line.repeat(2), 1)), Err(70), "{line}");
+        }
+    }
 
     #[test]
     fn signs_are_safe() {

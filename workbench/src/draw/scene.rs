@@ -68,11 +68,11 @@ pub struct Term {
 }
 
 pub struct Held {
-    /// `given`, `made` or `kept`.
+    /// `given`, `made` or `stored`.
     pub how: &'static str,
     pub step: Option<u32>,
     pub line: Option<usize>,
-    /// The placeholder of what is kept.
+    /// The placeholder of what is stored.
     pub name: Option<String>,
     /// The move after which it is held; 0 from the start.
     pub at: usize,
@@ -351,23 +351,27 @@ fn terms(subject: &Subject, answers: &Answers, names: &Names, parties: &[Party])
 }
 
 fn held(subject: &Subject, names: &Names, party: &Party, source: Source, row: u32) -> Option<Held> {
-    let (how, step, name, at, text) = match source {
+    let text = names.held(source)?;
+    let (how, step, name, at) = match source {
         Source::Not => return None,
-        Source::Given => ("given", None, None, 0, String::from("from the start")),
+        Source::Given => ("given", None, None, 0),
         Source::Made { step } => {
             let made = |event: &&Event| event.told.kind == "new" && event.told.rows == [row];
             let at = party.events.iter().find(made).map_or(0, |event| event.at);
-            ("made", Some(step), None, at, format!("made for {}", subject.step(step)))
+            ("made", Some(step), None, at)
         }
         Source::Stored { step, placeholder } => {
-            // It is kept once all that arrived with it is opened and compared.
+            // It is stored once all that arrived with it is opened and compared.
             let arrived = |event: &&Event| {
                 event.told.step == Some(step) && matches!(event.told.kind, "receive" | "open" | "check")
             };
             let at = party.events.iter().filter(arrived).map(|event| event.at).max();
-            let name = names.placeholder(placeholder);
-            let text = format!("kept as {name} since {}", subject.step(step));
-            ("kept", Some(step), Some(name), at.unwrap_or(0), text)
+            (
+                "stored",
+                Some(step),
+                Some(names.placeholder(placeholder)),
+                at.unwrap_or(0),
+            )
         }
     };
     Some(Held {
@@ -401,4 +405,60 @@ fn stop(subject: &Subject, refusal: Refusal) -> Option<Stop> {
         term,
         later: subject.book.steps.len() - step as usize - 1,
     })
+}
+
+/// A small one, for tests.
+#[cfg(test)]
+pub fn example() -> Scene {
+    let (subject, answers) = tests::example();
+    Scene::of(&subject, &answers, &Order::Narration).expect("a scene")
+}
+
+#[cfg(test)]
+mod tests {
+    use super::*;
+    use crate::input::Input;
+    use crate::subject::{open, Opened};
+
+    pub fn example() -> (Subject, Answers) {
+        let input = Input {
+            name: "text".to_string(),
+            path: None,
+            bytes: b"party A knows K\nparty B knows K\nB -> A: N\nA -> B: {N}K\n".to_vec(),
+        };
+        let Ok(Opened::Subject(subject)) = open(&input) else {
+            panic!("a narration");
+        };
+        let answers = Answers::of(&subject).expect("no guard").expect("it can be played");
+        (*subject, answers)
+    }
+
+    /// One move that is left out, done twice, or done before its time breaks the guard.
+    #[test]
+    fn altered_moves_are_told() {
+        let (subject, answers) = example();
+        let moves = Scene::of(&subject, &answers, &Order::Round).expect("a scene").moves;
+        let names = Names::of(&subject);
+        for (number, program) in answers.programs.iter().enumerate() {
+            let status = |moves: &[(usize, usize)]| {
+                let told = names.program(program).expect("no guard");
+                party(&subject, number, told, moves).map_or_else(|failure| failure.status, |_| 0)
+            };
+            assert_eq!(status(&moves), 0);
+            let own: Vec<usize> = (0..moves.len()).filter(|at| moves[*at].0 == number).collect();
+            for (n, at) in own.iter().enumerate() {
+                let mut altered = moves.clone();
+                altered.remove(*at);
+                assert_eq!(status(&altered), 70, "without move {at}");
+                let mut altered = moves.clone();
+                altered.insert(*at, moves[*at]);
+                assert_eq!(status(&altered), 70, "move {at} twice");
+                if n > 0 {
+                    let mut altered = moves.clone();
+                    altered.swap(own[n - 1], *at);
+                    assert_eq!(status(&altered), 70, "move {at} too early");
+                }
+            }
+        }
+    }
 }

@@ -599,10 +599,7 @@ fn step_mark(step: Option<u32>) -> String {
 #[cfg(test)]
 mod tests {
     use super::*;
-    use crate::input::Input;
-    use crate::proved::Answers;
-    use crate::run::Order;
-    use crate::subject::{open, Opened};
+    use crate::draw::scene::example;
 
     #[test]
     fn texts_are_cut_by_cells() {
@@ -614,23 +611,10 @@ mod tests {
         assert_eq!(cut("abc", 0), "..");
     }
 
-    fn scene() -> Scene {
-        let input = Input {
-            name: "text".to_string(),
-            path: None,
-            bytes: b"party A knows K\nparty B knows K\nB -> A: N\nA -> B: {N}K\n".to_vec(),
-        };
-        let Ok(Opened::Subject(subject)) = open(&input) else {
-            panic!("a narration");
-        };
-        let answers = Answers::of(&subject).expect("no guard").expect("it can be played");
-        Scene::of(&subject, &answers, &Order::Narration).expect("a scene")
-    }
-
     /// One box that is moved onto another, or out of the picture, and one event less or twice break the guard.
     #[test]
     fn an_altered_picture_is_told() {
-        let scene = scene();
+        let scene = example();
         let status = |told: Result<(), Failure>| told.map_err(|failure| failure.status);
         assert_eq!(status(Layout::of(&scene).apart()), Ok(()));
         for at in 1..Layout::of(&scene).chips.len() {

@@ -38,44 +38,29 @@ pub enum Outcome {
 #[derive(Clone, PartialEq, Eq, Debug)]
 pub struct Help {
     pub message: String,
-    /// Nothing if there was nothing to try.
-    pub outcome: Option<Outcome>,
+    pub outcome: Outcome,
     /// The changed lines with their numbers.
     pub changed: Vec<(usize, String)>,
     /// Whether they are new lines.
     pub added: bool,
-    /// The whole changed text, lines ended by line feeds; nothing if there was nothing to try.
-    pub text: Option<String>,
+    /// The whole changed text, lines ended by line feeds.
+    pub text: String,
 }
 
 impl Help {
-    /// A help that changes nothing.
-    pub fn plain(message: impl Into<String>) -> Help {
-        Help {
-            message: message.into(),
-            outcome: None,
-            changed: Vec::new(),
-            added: false,
-            text: None,
-        }
-    }
-
     pub fn of(edit: Edit, outcome: Outcome) -> Help {
         let line = |number: usize| edit.lines.get(number - 1).map(|line| (number, line.clone()));
         Help {
             changed: edit.changed.iter().filter_map(|number| line(*number)).collect(),
             added: edit.added,
-            text: Some(edit.lines.join("\n")),
+            text: edit.lines.join("\n"),
             message: edit.message,
-            outcome: Some(outcome),
+            outcome,
         }
     }
 
     pub fn sentence(&self) -> String {
-        match &self.outcome {
-            None => self.message.clone(),
-            Some(outcome) => format!("{} (tried: then {})", self.message, outcome.sentence()),
-        }
+        format!("{} (tried: then {})", self.message, self.outcome.sentence())
     }
 
     pub fn json(&self) -> Json {
@@ -83,10 +68,10 @@ impl Help {
             |(number, text): &(usize, String)| object([("line", (*number).into()), ("text", text.as_str().into())]);
         object([
             ("message", self.message.as_str().into()),
-            ("tried", self.outcome.as_ref().map(Outcome::sentence).into()),
+            ("tried", self.outcome.sentence().into()),
             ("changed", self.changed.iter().map(line).collect::<Vec<_>>().into()),
             ("added", self.added.into()),
-            ("text", self.text.clone().into()),
+            ("text", self.text.as_str().into()),
         ])
     }
 }
@@ -135,7 +120,7 @@ pub fn helpful(lines: &[String], kinds: Vec<Vec<Edit>>, step: u32, atom: &str, m
     for edits in kinds {
         for edit in edits {
             // Two kinds may come to one change.
-            let text = Some(edit.lines.join("\n"));
+            let text = edit.lines.join("\n");
             if helps.iter().any(|help| help.text == text) {
                 continue;
             }

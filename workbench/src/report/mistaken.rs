@@ -45,10 +45,6 @@ pub fn mistaken(name: &str, lines: Vec<String>, mistakes: &[Mistake]) -> Report 
 fn help(diagnostic: &mut Diagnostic, lines: &[String], mistake: &Mistake, mistakes: usize) {
     let wrong = Wrong::of(lines, mistake);
     diagnostic.notes.extend(wrong.note());
-    if mistake.kind == Kind::Empty {
-        let help = "a narration begins with its parties, a line each: `party A knows K`";
-        diagnostic.helps.push(Help::plain(help));
-    }
     let edits = match wrong.undeclared() {
         true => [wrong.near_parties(), wrong.declared()].concat(),
         false => [wrong.arrows(), wrong.first_word(), wrong.expected()].concat(),
@@ -93,6 +89,10 @@ impl<'t> Wrong<'t> {
     fn note(&self) -> Option<String> {
         let front: String = self.line.chars().take(self.mistake.spot.column - 1).collect();
         let keyless = self.mistake.expected == "a term" && front.trim_end().ends_with('}');
+        if self.mistake.kind == Kind::Empty {
+            let note = "a narration begins with its parties, a line each: `party A knows K`";
+            return Some(String::from(note));
+        }
         if self.undeclared() {
             let parties = declared(self.lines);
             let verb = if parties.len() == 1 { "party is" } else { "parties are" };

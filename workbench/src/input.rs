@@ -135,6 +135,9 @@ mod tests {
         assert_eq!(content(b"\x89PNG\r\n"), Content::Other("a PNG picture"));
         assert!(matches!(content(b"party M\xfcller knows K\n"), Content::Other(_)));
         assert!(matches!(content(b"\xff\xfep\0a\0"), Content::Other(_)));
+        // Four of five bytes are such as are typed: not enough.
+        assert_eq!(content(b"abcd\xff"), Content::Book);
+        assert_eq!(content(b"abcde\xff"), Content::Other("text that is not UTF-8"));
         assert_eq!(
             content(b"party A knows K\0\n"),
             Content::Other("text with a zero byte in it")

@@ -120,7 +120,7 @@ impl Diagnostic {
         }
         for help in &self.helps {
             text.push_str(&format!("{:margin$} = help: {}\n", "", plain(&help.sentence())));
-            text.push_str(&excerpt::changed(help, margin));
+            text.push_str(&excerpt::changed(help, lines, margin));
         }
         text.push('\n');
         text

@@ -64,11 +64,18 @@ fn under(line: &str, before: usize, length: usize, mark: &str) -> String {
     format!("{blanks}{behind}{}", mark.repeat(marked.max(1)))
 }
 
-/// Lines as a help would have them: `+` stands before new ones, `~` before changed ones.
-pub fn changed(help: &Help, margin: usize) -> String {
+/// Lines as a help would have them: `+` stands before new ones, `~` before changed ones, of which the part around the change
+/// is shown.
+pub fn changed(help: &Help, lines: &[String], margin: usize) -> String {
     let sign = if help.added { '+' } else { '~' };
     let line = |(number, line): &(usize, String)| {
-        let (shown, _) = part(line, line.chars().count().saturating_sub(FRONT).max(1));
+        let old = lines.get(number - 1).filter(|_| !help.added).map_or("", String::as_str);
+        let same = line
+            .chars()
+            .zip(old.chars())
+            .take_while(|(new, old)| new == old)
+            .count();
+        let (shown, _) = part(line, same + 1);
         format!("{number:margin$} {sign} {shown}\n")
     };
     help.changed.iter().map(line).collect()
@@ -101,6 +108,7 @@ pub fn plain(text: &str) -> String {
 
 #[cfg(test)]
 mod tests {
+    use super::super::edits::Outcome;
     use super::*;
 
     fn mark(line: usize, column: usize, length: usize) -> Mark {
@@ -130,6 +138,32 @@ mod tests {
         };
         assert_eq!(under(12), Some(format!("  | {:14}^^ here", "")));
         assert_eq!(under(19), Some(format!("  | {:21}^ here", "")));
+    }
+
+    /// Of a long line that is changed the change is shown, wherever it is.
+    #[test]
+    fn long_changes() {
+        let old: String = ('a'..='z').cycle().take(1_000).collect();
+        for at in [0, 1, 500, 999, 1_000] {
+            let new = format!("{}KEY{}", &old[..at], &old[at..]);
+            let mut help = Help {
+                message: String::new(),
+                outcome: Outcome::Playable,
+                changed: vec![(1, new.clone())],
+                added: false,
+                text: new,
+            };
+            let lines = [old.clone()];
+            let shown = changed(&help, &lines, 1);
+            assert!(shown.starts_with("1 ~ ") && shown.contains("KEY"), "{at}: {shown}");
+            assert!(shown.len() < 160);
+            help.added = true;
+            let shown = changed(&help, &lines, 1);
+            assert!(
+                shown.starts_with("1 + ") && shown.contains("KEY") == (at < 100),
+                "{at}: {shown}"
+            );
+        }
     }
 
     /// The mark of a line that is cut stands under its term, wherever that is.

@@ -16,6 +16,7 @@ pub mod listing;
 pub mod playable;
 pub mod progress;
 pub mod proved;
+pub mod question;
 pub mod report;
 pub mod run;
 pub mod store;

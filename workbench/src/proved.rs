@@ -4,9 +4,8 @@ use crate::failure::Failure;
 use crate::guard;
 use crate::listing::{Event, Program};
 use crate::subject::{to_bytes, to_words, Subject};
-use narration::book::{Book, Party, Row, Step, ATOM, MOST_KNOWN};
+use narration::book::Book;
 use nghiralum::Refusal;
-use std::collections::{BTreeMap, BTreeSet};
 
 /// More moves than this are refused (11).
 pub const MOST_MOVES: usize = 4_096;
@@ -75,69 +74,6 @@ impl Answers {
         }
         Ok(())
     }
-}
-
-/// Whether a party that holds these rows can build this one. A small book asks that: its first party knows what is held of the
-/// row, makes nothing, and sends the row. Nothing if that would be more than a party can know.
-pub fn can_build(book: &Book, row: u32, held: impl Fn(u32) -> bool) -> Result<Option<bool>, Failure> {
-    let all = parts(book, row, |_| true);
-    let numbers: BTreeMap<u32, u32> = all.iter().copied().zip(0..).collect();
-    let outermost = parts(book, row, |own| !held(own));
-    let known: Vec<u32> = (outermost.into_iter().filter(|own| held(*own)))
-        .map(|own| numbers[&own])
-        .collect();
-    if known.len() > MOST_KNOWN as usize {
-        return Ok(None);
-    }
-    let renumbered = |own: &u32| {
-        let mut row = book.rows[*own as usize].clone();
-        row.parts.iter_mut().for_each(|part| *part = numbers[part]);
-        row
-    };
-    let mut rows: Vec<Row> = all.iter().map(renumbered).collect();
-    // The parties' names are atoms among these, or new ones behind them.
-    let atoms = (0..).zip(&rows).filter(|(_, row)| row.kind == ATOM);
-    let names: Vec<u32> = (atoms.map(|(number, _)| number).chain(rows.len() as u32..))
-        .take(2)
-        .collect();
-    let atom = Row {
-        kind: ATOM,
-        tag: 0,
-        parts: Vec::new(),
-    };
-    rows.resize(rows.len().max(names[1] as usize + 1), atom);
-    let party = |name: u32, known: Vec<u32>| Party {
-        name,
-        known,
-        makes: false,
-    };
-    let asked = Book {
-        rows,
-        parties: vec![party(names[0], known), party(names[1], Vec::new())],
-        steps: vec![Step {
-            sender: 0,
-            receiver: 1,
-            messages: vec![numbers[&row]],
-        }],
-    };
-    // With no room lent any book is refused, one that can be played by 12.
-    match nghiralum::translate(&to_bytes(&asked.words()), &mut []) {
-        Err(refusal) if refusal.number() == 12 => Ok(Some(true)),
-        Err(refusal) if matches!(refusal.number(), 10 | 13) => Ok(Some(false)),
-        told => Err(Failure::guard(format!("a question about what can be built: {told:?}"))),
-    }
-}
-
-/// A row and its parts, and theirs, as far as they are opened.
-pub fn parts(book: &Book, row: u32, opened: impl Fn(u32) -> bool) -> BTreeSet<u32> {
-    let mut parts = BTreeSet::new();
-    let mut left = vec![row];
-    while let Some(own) = left.pop() {
-        if parts.insert(own) && opened(own) {
-            left.extend(&book.rows[own as usize].parts);
-        }
-    }
-    parts
 }
 
 fn pairs(book: &Book) -> impl Iterator<Item = (u32, u32)> {

@@ -7,7 +7,8 @@ use crate::failure::{Failure, PLAYABLE};
 use crate::guard::plain;
 use crate::json::{answer, object, Json};
 use crate::playable::{self, Playable};
-use crate::proved::{can_build, Source};
+use crate::proved::Source;
+use crate::question::can_build;
 use crate::subject::{Subject, Text};
 use crate::told::Names;
 

@@ -1,15 +1,15 @@
 //! W1 and W2: what a party stored and never compared, opened or sent on.
 
 use crate::failure::Failure;
-use crate::guard;
 use crate::input::Input;
 use crate::listing::{Event, Image, Program, Stored};
 use crate::playable::Playable;
-use crate::proved::{parts, Answers, Source};
+use crate::proved::{Answers, Source};
+use crate::question::{on_arrival, Arrival};
 use crate::report::edits::{all_knowing, attempt, moved, opening, Edit, Help, Outcome};
 use crate::report::{listed, short, Diagnostic};
-use crate::subject::{open, to_bytes, to_words, Opened, Subject, Text};
-use narration::book::{Book, Party, Step, CIPHER, MOST_KNOWN, PRIVATE};
+use crate::subject::{open, Opened, Subject, Text};
+use narration::book::{CIPHER, PRIVATE};
 use narration::Spot;
 use std::collections::{BTreeMap, BTreeSet};
 
@@ -100,60 +100,17 @@ fn placeholders(image: &Image, used: &mut BTreeSet<u32>) {
     }
 }
 
-/// Whether the party could check the row by the end. A small book asks that: the party knows all that it holds at the end but
-/// the row, and another one sends it the row. What it does then is the proved translator's answer.
+/// Whether the party could check the row by the end: what it would do if the row arrived then.
 fn kind(playable: &Playable, party: u32, row: u32) -> Result<Kind, Failure> {
     let book = &playable.subject.book;
+    let held = |own: u32| playable.answers.source(party, own) != Source::Not;
     let own = &book.rows[row as usize];
-    let plain = match own.kind == CIPHER && book.rows[own.parts[0] as usize].kind == PRIVATE {
-        true => Kind::Signature,
-        false => Kind::Plain,
-    };
-    let Some(other) = (0..book.parties.len() as u32).find(|other| *other != party) else {
-        return Ok(plain);
-    };
-    let rows = 0..book.rows.len() as u32;
-    let held = rows.filter(|held| *held != row && playable.answers.source(party, *held) != Source::Not);
-    let mut known: Vec<u32> = held.collect();
-    if known.len() > MOST_KNOWN as usize {
-        let near = parts_and_halves(&playable.subject, row);
-        known.retain(|held| near.contains(held));
-        known.truncate(MOST_KNOWN as usize);
-    }
-    let one = |number: u32, known: Vec<u32>| Party {
-        name: book.parties[number as usize].name,
-        known,
-        makes: false,
-    };
-    let asked = Book {
-        rows: book.rows.clone(),
-        parties: vec![one(party, known), one(other, vec![row])],
-        steps: vec![Step {
-            sender: 1,
-            receiver: 0,
-            messages: vec![row],
-        }],
-    };
-    let listing = nghiralum::listing(&to_bytes(&asked.words()));
-    let listing = listing.map_err(|refusal| Failure::guard(format!("a question about what is stored: {refusal}")))?;
-    let programs = guard::listing(&to_words(&listing))?;
-    let answer = programs.first().into_iter().flatten().find_map(|event| match event {
-        Event::Check { placeholder: 0, .. } => Some(Kind::Buildable),
-        Event::Open { placeholder: 0, .. } => Some(Kind::Openable),
-        _ => None,
-    });
-    Ok(answer.unwrap_or(plain))
-}
-
-/// The rows that a row is made of, and the halves of these.
-fn parts_and_halves(subject: &Subject, row: u32) -> BTreeSet<u32> {
-    let mut near = parts(&subject.book, row, |_| true);
-    let halves = (0..)
-        .zip(&subject.book.rows)
-        .filter(|(_, own)| own.parts.len() == 1 && near.contains(&own.parts[0]));
-    let halves: Vec<u32> = halves.map(|(half, _)| half).collect();
-    near.extend(halves);
-    near
+    Ok(match on_arrival(book, row, held)? {
+        Arrival::Compared => Kind::Buildable,
+        Arrival::Opened => Kind::Openable,
+        Arrival::Stored if own.kind == CIPHER && book.rows[own.parts[0] as usize].kind == PRIVATE => Kind::Signature,
+        Arrival::Stored => Kind::Plain,
+    })
 }
 
 fn warning(subject: &Subject, party: u32, step: u32, kind: Kind, rows: &[u32]) -> Diagnostic {

@@ -212,6 +212,9 @@ const MISTAKES: &[(&str, usize, usize, &str)] = &[
     ("party A\nA -> B: f(1,2,3,4,5,6,7,8, 9)", 2, 28, "expected at most 8 arguments, found one more"),
     ("party A\nA -> B: {1,2,3,4,5,6,7,8,9}K", 2, 26, "expected at most 8 contents, found one more"),
     ("party A\nA -> B: 1,2,3,4,5,6,7,8,9", 2, 25, "expected at most 8 messages, found one more"),
+    (concat!("party A\nA -> B: K", "0123456789012345678901234567890123456789012345678901234567890123456789012345678901234567890123456789",
+             "0123456789012345678901234567890123456789012345678901234567890123456789012345678901234567890123456789",
+             "0123456789012345678901234567890123456789012345678901234"), 2, 9, "expected a name of at most 255 letters, found one of 256"),
     // The first line that has one, whether it is badly written or says something wrong.
     ("party A\nparty A\nA -> B: (", 2, 7, "expected a party not declared yet, found `A` a second time"),
     ("party A\nparty B (\nA -> C: N", 2, 9, "expected `makes nothing`, `knows` or the end of the line, found `(`"),

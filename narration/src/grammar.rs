@@ -58,7 +58,7 @@ pub fn read(text: &str) -> Lines<'_> {
         let mut tokens = Tokens::of(line, number + 1);
         if let Err(mistake) = read_line(&mut tokens, &mut lines) {
             lines.mistakes.push(mistake);
-            lines.unread.extend(tokens.names());
+            lines.unread.extend(tokens.names().map(|(name, _)| name));
         }
     }
     lines.operations = operations(&lines.terms);
@@ -67,6 +67,10 @@ pub fn read(text: &str) -> Lines<'_> {
 
 /// No word is reserved: a line whose second token is `->` is a step, whatever its first one is.
 fn read_line<'a>(tokens: &mut Tokens<'a>, lines: &mut Lines<'a>) -> Result<(), Mistake> {
+    if let Some((_, spot)) = tokens.names().find(|(_, spot)| spot.length > limits::NAME) {
+        let expected = format!("a name of at most {} letters", limits::NAME);
+        return Err(mistake(spot, &expected, &format!("one of {}", spot.length)));
+    }
     let step = tokens.ahead(1) == Token::Arrow;
     match tokens.peek() {
         Token::End => Ok(()),

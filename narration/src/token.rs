@@ -73,10 +73,10 @@ impl<'a> Tokens<'a> {
         self.ahead(0)
     }
 
-    /// Every name of the line.
-    pub fn names(&self) -> impl Iterator<Item = &'a str> + '_ {
-        self.list.iter().filter_map(|(token, _)| match token {
-            Token::Name(name) => Some(*name),
+    /// Every name of the line, and where it stands.
+    pub fn names(&self) -> impl Iterator<Item = (&'a str, Spot)> + '_ {
+        self.list.iter().filter_map(|(token, spot)| match token {
+            Token::Name(name) => Some((*name, *spot)),
             _ => None,
         })
     }

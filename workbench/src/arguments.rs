@@ -1,6 +1,7 @@
 //! The command line: a command, its files and its options. Paths need not be UTF-8.
 
 use crate::failure::Failure;
+use crate::slips::slips;
 use std::collections::BTreeMap;
 use std::ffi::{OsStr, OsString};
 
@@ -106,9 +107,14 @@ impl Call {
                 false if most == usize::MAX => format!("at least {least}"),
                 false => format!("{least} to {most}"),
             };
+            let verb = if found == 1 { "is" } else { "are" };
             return Err(wrong(format!(
-                "{asked} asked for besides options, and there are {found}"
+                "`nghi {}` takes {asked} besides options, and {found} {verb} given",
+                command.name
             )));
+        }
+        if call.places.iter().filter(|place| *place == "-").count() > 1 {
+            return Err(wrong(String::from("standard input can be one file and not two")));
         }
         Ok(call)
     }
@@ -139,24 +145,8 @@ impl Call {
 
 /// The option that was perhaps meant.
 fn near(name: &str, command: &Command) -> String {
-    let alike = command.options.iter().find(|(own, _)| distance(own, name) <= 2);
+    let alike = command.options.iter().find(|(own, _)| slips(2, own, name).is_some());
     alike.map_or_else(String::new, |(own, _)| format!("; is `{own}` meant?"))
-}
-
-/// How many letters have to be put in, left out or changed.
-pub fn distance(one: &str, other: &str) -> usize {
-    let other: Vec<char> = other.chars().collect();
-    let mut row: Vec<usize> = (0..=other.len()).collect();
-    for (i, own) in one.chars().enumerate() {
-        let mut left = row[0];
-        row[0] = i + 1;
-        for (j, sign) in other.iter().enumerate() {
-            let change = left + usize::from(own != *sign);
-            left = row[j + 1];
-            row[j + 1] = change.min(row[j] + 1).min(left + 1);
-        }
-    }
-    row[other.len()]
 }
 
 #[cfg(test)]
@@ -195,7 +185,5 @@ mod tests {
             call(&["a", "--at", "1"]).unwrap().text("--at"),
             Ok(Some("1".to_string()))
         );
-        assert_eq!(distance("check", "chekc"), 2);
-        assert_eq!(distance("", "ab"), 2);
     }
 }

@@ -12,9 +12,10 @@ pub mod play;
 pub mod programs;
 pub mod watch;
 
-use crate::arguments::{distance, Call, Command};
+use crate::arguments::{Call, Command};
 use crate::failure::Failure;
 use crate::json::answer;
+use crate::slips::slips;
 use std::ffi::OsString;
 
 /// What a command answers, and its status. The answer goes to standard output; where there is none, what is said instead
@@ -96,13 +97,19 @@ fn answered(arguments: &[OsString]) -> Result<Output, Failure> {
         _ => (),
     }
     let Some((command, run)) = COMMANDS.iter().find(|(command, _)| command.name == name) else {
-        let near = COMMANDS.iter().find(|(command, _)| distance(command.name, &name) <= 2);
+        let near = COMMANDS
+            .iter()
+            .find(|(command, _)| slips(2, command.name, &name).is_some());
         let near = near.map_or_else(String::new, |(command, _)| format!("; is `{}` meant?", command.name));
         return Err(Failure::command_line(format!(
             "`{name}` is no command{near}\nuse: nghi COMMAND FILE.. (`nghi --help` lists the commands)"
         )));
     };
-    if rest.iter().any(|argument| argument == "--help" || argument == "-h") {
+    let options = rest.iter().take_while(|argument| *argument != "--");
+    if options
+        .into_iter()
+        .any(|argument| argument == "--help" || argument == "-h")
+    {
         return Ok(told(help_of(command)));
     }
     run(&Call::of(command, rest)?)

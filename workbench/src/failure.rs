@@ -1,6 +1,6 @@
 //! Why a command ends without an answer, and the status that says so.
 
-use std::fmt;
+use std::{fmt, io};
 
 /// A message, and the status that goes with it.
 #[derive(Clone, PartialEq, Eq, Debug)]
@@ -45,6 +45,12 @@ impl Failure {
             message: message.into(),
         }
     }
+}
+
+/// What the system says, without the number that it gives it.
+pub fn plain(error: &io::Error) -> String {
+    let text = error.to_string();
+    text.split(" (os error").next().unwrap_or(&text).to_string()
 }
 
 impl fmt::Display for Failure {

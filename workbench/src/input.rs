@@ -1,6 +1,6 @@
 //! What is handed in: a file or standard input, and whether it is a narration or a book. The kind is told by the content.
 
-use crate::failure::Failure;
+use crate::failure::{plain, Failure};
 use std::ffi::OsStr;
 use std::fs;
 use std::io::{self, Read};
@@ -32,7 +32,8 @@ impl Input {
     pub fn read(path: &OsStr) -> Result<Input, Failure> {
         let name = name(path);
         if path == "-" {
-            let bytes = whole(io::stdin().lock()).map_err(|error| Failure::file(format!("{name}: {error}")))?;
+            let bytes =
+                whole(io::stdin().lock()).map_err(|error| Failure::file(format!("{name}: {}", plain(&error))))?;
             return Ok(Input {
                 name,
                 path: None,
@@ -58,8 +59,16 @@ impl Input {
 pub fn name(path: &OsStr) -> String {
     match path == "-" {
         true => "standard input".to_string(),
-        false if path.is_empty() => "``".to_string(),
-        false => Path::new(path).display().to_string(),
+        false => shown(Path::new(path)),
+    }
+}
+
+/// A path as it is shown: what a terminal would take for a command is one unknown character.
+pub fn shown(path: &Path) -> String {
+    let plain = |sign: char| if sign.is_control() { '\u{fffd}' } else { sign };
+    match path.as_os_str().is_empty() {
+        true => "``".to_string(),
+        false => path.display().to_string().chars().map(plain).collect(),
     }
 }
 
@@ -79,22 +88,26 @@ fn reason(path: &Path, error: &io::Error) -> String {
         io::ErrorKind::NotFound => "there is no such file".to_string(),
         io::ErrorKind::PermissionDenied => "it can't be read: permission is denied".to_string(),
         _ if path.is_dir() => "it is a folder, and a narration or a book is asked for".to_string(),
-        _ => error.to_string(),
+        _ => plain(error),
     }
 }
 
 /// Text is a narration, well written or not. What is no text is a book, right or wrong, unless it is plainly something else.
 fn content(bytes: &[u8]) -> Content {
-    const KINDS: [(&[u8], &str); 9] = [
+    const KINDS: [(&[u8], &str); 13] = [
         (b"\x89PNG", "a PNG picture"),
         (b"\xff\xd8\xff", "a JPEG picture"),
         (b"GIF8", "a GIF picture"),
         (b"%PDF", "a PDF document"),
         (b"PK\x03\x04", "a ZIP archive, or a document of an office program"),
         (b"\x1f\x8b", "a gzip archive"),
+        (b"\xfd7zXZ", "an xz archive"),
         (b"\x7fELF", "a program"),
+        (b"\xff\xfe\0\0", "text in UTF-32"),
+        (b"\0\0\xfe\xff", "text in UTF-32"),
         (b"\xff\xfe", "text in UTF-16"),
         (b"\xfe\xff", "text in UTF-16"),
+        (b"RIFF", "a sound, a film or a WebP picture"),
     ];
     if let Some((_, kind)) = KINDS.iter().find(|(front, _)| bytes.starts_with(front)) {
         return Content::Other(kind);
@@ -103,16 +116,36 @@ fn content(bytes: &[u8]) -> Content {
         Ok(text) if !text.contains('\0') => Content::Narration(text.to_string()),
         // A book's header has its rows at word 8.
         _ if bytes.len() >= 8 && bytes[4..8] == [8, 0, 0, 0] => Content::Book,
-        Err(_) if typed(bytes) => Content::Other("text that is not UTF-8"),
-        Ok(_) if typed(bytes) => Content::Other("text with a zero byte in it"),
+        _ if bytes.starts_with(b"BM") => Content::Other("a BMP picture"),
+        _ if bytes.starts_with(b"BZh") => Content::Other("a bzip2 archive"),
+        _ if of_two_bytes(bytes) => Content::Other("text in UTF-16"),
+        Err(_) if bytes.iter().all(|byte| written(*byte)) => Content::Other("text that is not UTF-8"),
+        Ok(_) if mostly(bytes.iter().copied(), typed) => Content::Other("text with a zero byte in it"),
         _ => Content::Book,
     }
 }
 
-/// Whether bytes are mostly such as are typed, which a book's are not: three of four are zero in most of its words.
-fn typed(bytes: &[u8]) -> bool {
-    let typed = |byte: &&u8| matches!(byte, b' '..=b'~' | b'\n' | b'\r' | b'\t');
-    bytes.iter().filter(typed).count() * 10 > bytes.len() * 8
+/// Whether most of these are such, four of five.
+fn mostly(bytes: impl Iterator<Item = u8> + Clone, such: fn(u8) -> bool) -> bool {
+    bytes.clone().filter(|byte| such(*byte)).count() * 5 > bytes.count() * 4
+}
+
+/// A byte that a keyboard gives, whatever the coding.
+fn typed(byte: u8) -> bool {
+    matches!(byte, b' '..=b'~' | b'\n' | b'\r' | b'\t')
+}
+
+/// The same, or a letter of another coding. A book has zeros in its header, and more of them behind it.
+fn written(byte: u8) -> bool {
+    typed(byte) || byte >= 0x80
+}
+
+/// Text of two bytes a letter: one is typed and the other is zero. Of a book's words two bytes of four are zero at least.
+fn of_two_bytes(bytes: &[u8]) -> bool {
+    let every_other = |from: usize| bytes.iter().copied().skip(from).step_by(2);
+    let zero = |byte: u8| byte == 0;
+    let as_text = |text: usize, zeros: usize| mostly(every_other(text), typed) && mostly(every_other(zeros), zero);
+    bytes.len() >= 4 && bytes.len().is_multiple_of(2) && (as_text(0, 1) || as_text(1, 0))
 }
 
 #[cfg(test)]
@@ -135,9 +168,16 @@ mod tests {
         assert_eq!(content(b"\x89PNG\r\n"), Content::Other("a PNG picture"));
         assert!(matches!(content(b"party M\xfcller knows K\n"), Content::Other(_)));
         assert!(matches!(content(b"\xff\xfep\0a\0"), Content::Other(_)));
-        // Four of five bytes are such as are typed: not enough.
-        assert_eq!(content(b"abcd\xff"), Content::Book);
-        assert_eq!(content(b"abcde\xff"), Content::Other("text that is not UTF-8"));
+        // Russian in Windows-1251, and text of two bytes a letter.
+        assert_eq!(
+            content(b"party \xca\xeb\xfe\xf7\n"),
+            Content::Other("text that is not UTF-8")
+        );
+        assert_eq!(content(b"\xca\xeb\xfe\x01"), Content::Book);
+        assert_eq!(content(b"p\0a\0r\0t\0y\0"), Content::Other("text in UTF-16"));
+        assert_eq!(content(b"\0p\0a\0r\0t\0y"), Content::Other("text in UTF-16"));
+        assert_eq!(content(b"p\0\0\0a\0\0\0"), Content::Book);
+        assert_eq!(content(b"\xff\xfe\0\0p\0\0\0"), Content::Other("text in UTF-32"));
         assert_eq!(
             content(b"party A knows K\0\n"),
             Content::Other("text with a zero byte in it")

@@ -19,6 +19,7 @@ pub mod proved;
 pub mod question;
 pub mod report;
 pub mod run;
+pub mod slips;
 pub mod store;
 pub mod subject;
 pub mod told;

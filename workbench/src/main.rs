@@ -5,7 +5,7 @@ use std::io::{self, ErrorKind, Write};
 use std::process::ExitCode;
 use std::thread;
 use workbench::commands::{self, Output};
-use workbench::failure::Failure;
+use workbench::failure::{plain, Failure};
 
 /// Terms are walked by recursion, up to a thousand deep.
 const STACK: usize = 64 << 20;
@@ -39,7 +39,9 @@ fn main() -> ExitCode {
 fn say(text: &str) -> Result<(), Failure> {
     let mut out = io::stdout().lock();
     match out.write_all(text.as_bytes()).and_then(|()| out.flush()) {
-        Err(error) if error.kind() != ErrorKind::BrokenPipe => Err(Failure::file(format!("standard output: {error}"))),
+        Err(error) if error.kind() != ErrorKind::BrokenPipe => {
+            Err(Failure::file(format!("standard output: {}", plain(&error))))
+        }
         _ => Ok(()),
     }
 }

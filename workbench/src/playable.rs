@@ -5,7 +5,7 @@ use crate::commands::Output;
 use crate::failure::Failure;
 use crate::input::Input;
 use crate::proved::Answers;
-use crate::report::{self, Report};
+use crate::report::{self, edits, Report};
 use crate::subject::{open as open_input, Opened, Subject};
 
 pub struct Playable {
@@ -47,6 +47,23 @@ pub fn examine(input: &Input) -> Result<Result<Playable, Report>, Failure> {
 }
 
 impl Playable {
+    /// Of a text that was changed, if it can be played.
+    pub fn of_lines(name: &str, lines: &[String]) -> Result<Option<Playable>, Failure> {
+        let input = Input {
+            name: name.to_string(),
+            path: None,
+            bytes: edits::text(lines).into_bytes(),
+        };
+        let Opened::Subject(subject) = open_input(&input)? else {
+            return Ok(None);
+        };
+        let answers = Answers::of(&subject)?.ok();
+        Ok(answers.map(|answers| Playable {
+            subject: *subject,
+            answers,
+        }))
+    }
+
     /// The party that was asked for, or all.
     pub fn parties(&self, asked: Option<String>) -> Result<Vec<u32>, Failure> {
         match asked {

@@ -35,7 +35,7 @@ pub struct Mark {
 #[derive(Clone, PartialEq, Eq, Debug)]
 pub struct Diagnostic {
     pub severity: Severity,
-    /// `R10`, `W1`; or `text` for a mistake in the text, and `file` for a file that can't be read.
+    /// `R10`, `W1`; or `text` for a mistake in the text, `file` for a file that can't be read, and `guard` where a guard broke.
     pub code: String,
     pub message: String,
     pub marks: Vec<Mark>,
@@ -53,7 +53,8 @@ pub enum Verdict {
     Refused(u8),
     /// The text is no narration: so many mistakes.
     Mistaken(usize),
-    Unread,
+    /// Nothing can be said of it: the status that says why.
+    Unread(u8),
 }
 
 /// All that is said of one file.
@@ -108,7 +109,7 @@ impl Diagnostic {
         };
         // There is nothing to explain of a mistake but what it says.
         let code = match self.code.as_str() {
-            "text" | "file" => String::new(),
+            "text" | "file" | "guard" => String::new(),
             code => format!("[{code}]"),
         };
         let plain = excerpt::plain;
@@ -164,12 +165,13 @@ impl Report {
         }
     }
 
-    /// Of a file that can't be read.
+    /// Of a file of which nothing can be said: it can't be read, or a guard broke.
     pub fn unread(name: &str, failure: &Failure) -> Report {
         let front = format!("{name}: ");
         let message = failure.message.strip_prefix(&front).unwrap_or(&failure.message);
-        let diagnostic = Diagnostic::error("file", message);
-        Report::new(name, Vec::new(), Verdict::Unread, vec![diagnostic])
+        let code = if failure.status == FILE { "file" } else { "guard" };
+        let diagnostic = Diagnostic::error(code, message);
+        Report::new(name, Vec::new(), Verdict::Unread(failure.status), vec![diagnostic])
     }
 
     /// The codes of its warnings, each once, in the order of the codes.
@@ -187,7 +189,7 @@ impl Report {
             Verdict::Playable { .. } => PLAYABLE,
             Verdict::Refused(_) => REFUSED,
             Verdict::Mistaken(_) => MISTAKE,
-            Verdict::Unread => FILE,
+            Verdict::Unread(status) => status,
         }
     }
 
@@ -213,7 +215,8 @@ impl Report {
             }
             Verdict::Refused(number) => format!("refused (R{number})"),
             Verdict::Mistaken(mistakes) => count(mistakes, "mistake", "mistakes"),
-            Verdict::Unread => String::from("not read"),
+            Verdict::Unread(FILE) => String::from("not read"),
+            Verdict::Unread(_) => String::from("not answered"),
         };
         let warnings = self.diagnostics.iter().filter(|own| own.severity == Severity::Warning);
         let codes: Vec<String> = (self.warnings().into_iter())
@@ -233,7 +236,7 @@ impl Report {
             Verdict::Playable { parties, steps } => ("playable", None, Some(parties), Some(steps)),
             Verdict::Refused(number) => ("refused", Some(u32::from(number)), None, None),
             Verdict::Mistaken(_) => ("mistaken", None, None, None),
-            Verdict::Unread => ("unread", None, None, None),
+            Verdict::Unread(_) => ("unread", None, None, None),
         };
         let allowed = self.allowed.iter().map(|(diagnostic, reason)| {
             object([

@@ -1,6 +1,7 @@
 //! Writing files so that nothing is lost: never over the source, never over what is something else, and whole or not at all.
 
-use crate::failure::Failure;
+use crate::failure::{plain, Failure};
+use crate::input::shown;
 use std::fs::{self, File, OpenOptions};
 use std::io::{self, Write};
 use std::path::{Path, PathBuf};
@@ -25,7 +26,7 @@ impl Target {
         what: &str,
         force: bool,
     ) -> Result<Target, Failure> {
-        let name = path.display().to_string();
+        let name = shown(path);
         let wrong = |message: String| Err(Failure::file(format!("{name}: {message}")));
         let metadata = match fs::metadata(path) {
             Ok(metadata) => metadata,
@@ -127,7 +128,7 @@ pub fn write(files: &[(Target, &[u8])]) -> Result<(), Failure> {
 
 /// Writes a file that is not there yet.
 pub fn create(path: &Path, bytes: &[u8]) -> Result<(), Failure> {
-    let name = path.display();
+    let name = shown(path);
     let mut file = match OpenOptions::new().write(true).create_new(true).open(path) {
         Ok(file) => file,
         Err(error) if error.kind() == io::ErrorKind::AlreadyExists => {
@@ -173,10 +174,9 @@ fn near(path: &Path, number: usize) -> PathBuf {
 
 /// The reason without the number that the system gives it.
 fn reason(error: &io::Error) -> String {
-    let text = match error.kind() {
+    match error.kind() {
         io::ErrorKind::NotFound => String::from("there is no such folder"),
         io::ErrorKind::PermissionDenied => String::from("permission is denied"),
-        _ => error.to_string(),
-    };
-    text.split(" (os error").next().unwrap_or(&text).to_lowercase()
+        _ => plain(error).to_lowercase(),
+    }
 }

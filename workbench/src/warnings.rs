@@ -161,6 +161,22 @@ fn atoms(subject: &Subject) -> BTreeMap<u32, Vec<Spot>> {
     atoms
 }
 
+/// Where the name of each operation is written.
+fn operations(subject: &Subject) -> BTreeMap<String, Vec<Spot>> {
+    let mut operations: BTreeMap<String, Vec<Spot>> = BTreeMap::new();
+    let Some(text) = &subject.text else { return operations };
+    for (row, spot) in &text.narration.terms {
+        let row = &subject.book.rows[*row as usize];
+        if row.kind == OPERATION {
+            let name = subject.names.operation(row.tag);
+            let length = name.chars().count();
+            operations.entry(name).or_default().push(Spot { length, ..*spot });
+        }
+    }
+    operations.values_mut().for_each(|spots| spots.sort_unstable());
+    operations
+}
+
 #[cfg(test)]
 mod tests {
     use super::*;

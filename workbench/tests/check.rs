@@ -92,7 +92,9 @@ fn report(name: &str, bytes: Vec<u8>) -> Report {
         path: None,
         bytes,
     };
-    check::of(&input).expect("no guard breaks")
+    let report = check::of(&input);
+    assert!(report.verdict != Verdict::Unread(70), "{}", report.text(&[]));
+    report
 }
 
 fn of_file(path: &Path) -> Report {
@@ -157,7 +159,7 @@ fn the_helps_help() {
             let text = &help.text;
             let found = report("changed", text.clone().into_bytes()).verdict;
             let same = match &help.outcome {
-                Outcome::Playable | Outcome::Checked => matches!(found, Verdict::Playable { .. }),
+                Outcome::Playable | Outcome::Checked(_) => matches!(found, Verdict::Playable { .. }),
                 Outcome::Refused { number, .. } => found == Verdict::Refused(*number),
                 Outcome::Mistaken(mistakes) => found == Verdict::Mistaken(*mistakes),
             };

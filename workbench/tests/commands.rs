@@ -589,6 +589,10 @@ fn build_without_room() {
 
 #[test]
 fn new_narrations() {
+    refuses(&["new", "-"], 2, "none that begins with `-`");
+    let blank = Folder::new("a blank");
+    assert!(out(&ran(&["new", &blank.text("n")])).contains("`nghi programs '"));
+
     let folder = Folder::new("new");
     let name = folder.text("first");
     let file = folder.text("first.narration");
@@ -611,6 +615,28 @@ fn new_narrations() {
 }
 
 // Changes
+
+/// A page that can't be written is told, with its status, wherever the answers go.
+#[test]
+fn watch_without_a_page() {
+    let folder = Folder::new("no-page");
+    let page = folder.text("none/page.html");
+    for json in [&[][..], &["--json"]] {
+        let output = ran(&[&["watch", EXAMPLE, "--once", "--html", &page], json].concat());
+        assert_eq!(status(&output), 4);
+        assert!(
+            err(&output).contains("page.html: it can't be written"),
+            "{}",
+            err(&output)
+        );
+        assert!(out(&output).contains("playable"));
+    }
+    let mistaken = folder.text("mistaken.narration");
+    fs::write(&mistaken, "party\n").unwrap();
+    let output = ran(&["watch", &mistaken, "--once", "--html", &folder.text("page.html")]);
+    assert_eq!((status(&output), &err(&output)[..]), (3, ""));
+    assert_eq!(folder.names(), ["mistaken.narration"]);
+}
 
 #[test]
 fn watch_once() {
@@ -755,6 +781,27 @@ fn statuses() {
         refuses(&wrong, 2, "is no option");
     }
     refuses(&["paly", EXAMPLE], 2, "is `play` meant?");
+    refuses(&["check", "-", "-"], 2, "one file and not two");
+    refuses(
+        &["programs", EXAMPLE, EXAMPLE],
+        2,
+        "takes 1 besides options, and 2 are given",
+    );
+    refuses(
+        &["watch", EXAMPLE, "--once", "--html", "page.png"],
+        2,
+        "ends with .html",
+    );
+    for call in [["help", "help"], ["--help", "-h"], ["help", "--help"], ["-h", "--json"]] {
+        let told = ran(&call);
+        assert!(
+            status(&told) == 0 && out(&told).contains("nghi check FILE.."),
+            "{call:?}"
+        );
+    }
+    assert!(out(&ran(&["help", "knows"])).starts_with("nghi knows FILE"));
+    // Behind `--` there are files alone.
+    assert_eq!(status(&ran(&["check", "--", "--help"])), 4);
     assert_eq!(folder.names(), ["mistaken", "picture"]);
 }
 

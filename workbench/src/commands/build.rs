@@ -11,7 +11,6 @@ use crate::proved::Answers;
 use crate::report::{self, count};
 use crate::store::{self, Target};
 use crate::subject::{open, Opened, Subject};
-use std::ffi::OsStr;
 use std::path::{Path, PathBuf};
 
 pub static COMMAND: Command = Command {
@@ -81,10 +80,11 @@ fn asked(call: &Call) -> Result<Asked, Failure> {
     if path == Path::new("-") || path.file_name().is_none() {
         return wrong("`-o` asks for a file: a book and its names go to two");
     }
-    if path.extension() == Some(OsStr::new("names")) {
+    let ends = |end: &str| path.extension().is_some_and(|own| own.eq_ignore_ascii_case(end));
+    if ends("names") {
         return wrong("a file that ends with .names is for the names, which go beside the book");
     }
-    if path.extension() == Some(OsStr::new("narration")) {
+    if ends("narration") {
         return Ok(Asked::Narration(path.to_path_buf()));
     }
     Ok(Asked::Book {

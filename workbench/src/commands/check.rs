@@ -24,7 +24,7 @@ pub fn run(call: &Call) -> Result<Output, Failure> {
     let mut progress = Progress::of("files");
     for path in &call.places {
         progress.tell(reports.len());
-        reports.push(report(path)?);
+        reports.push(report(path));
     }
     let status = (reports.iter().map(|report| status(report, &denied)))
         .max()
@@ -58,17 +58,21 @@ fn denied(call: &Call) -> Result<Vec<String>, Failure> {
 }
 
 /// All that is said of one file. One that can't be read is told among the others.
-fn report(path: &OsStr) -> Result<Report, Failure> {
+fn report(path: &OsStr) -> Report {
     match Input::read(path) {
         Ok(input) => of(&input),
-        Err(failure) => Ok(Report::unread(&input::name(path), &failure)),
+        Err(failure) => Report::unread(&input::name(path), &failure),
     }
 }
 
-/// All that is said of what was handed in.
-pub fn of(input: &Input) -> Result<Report, Failure> {
-    match playable::examine(input) {
-        Ok(Ok(playable)) => {
+/// All that is said of what was handed in, and if that is nothing, why.
+pub fn of(input: &Input) -> Report {
+    examined(input).unwrap_or_else(|failure| Report::unread(&input.name, &failure))
+}
+
+fn examined(input: &Input) -> Result<Report, Failure> {
+    match playable::examine(input)? {
+        Ok(playable) => {
             let subject = &playable.subject;
             let verdict = Verdict::Playable {
                 parties: subject.book.parties.len(),
@@ -78,9 +82,7 @@ pub fn of(input: &Input) -> Result<Report, Failure> {
             let report = Report::new(&input.name, lines, verdict, warnings::of(&playable)?);
             Ok(warnings::wanted(report))
         }
-        Ok(Err(report)) => Ok(report),
-        Err(failure) if failure.status == FILE => Ok(Report::unread(&input.name, &failure)),
-        Err(failure) => Err(failure),
+        Err(report) => Ok(report),
     }
 }
 
@@ -104,7 +106,11 @@ fn text(reports: &[Report], denied: &[String]) -> String {
             (of(|verdict| matches!(verdict, Verdict::Playable { .. })), "playable"),
             (of(|verdict| matches!(verdict, Verdict::Refused(_))), "refused"),
             (of(|verdict| matches!(verdict, Verdict::Mistaken(_))), "with mistakes"),
-            (of(|verdict| matches!(verdict, Verdict::Unread)), "not read"),
+            (of(|verdict| matches!(verdict, Verdict::Unread(FILE))), "not read"),
+            (
+                of(|verdict| matches!(verdict, Verdict::Unread(status) if *status != FILE)),
+                "not answered",
+            ),
         ];
         let told: Vec<String> = (kinds.iter().filter(|(n, _)| *n > 0))
             .map(|(n, kind)| format!("{n} {kind}"))

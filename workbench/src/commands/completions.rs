@@ -52,9 +52,13 @@ fn choices(command: &Command) -> Vec<&'static str> {
     }
 }
 
-/// A text between single quotes, for bash and zsh.
-fn quoted(text: &str) -> String {
-    format!("'{}'", text.replace('\'', "'\\''"))
+/// A text as a shell takes it for one word: between single quotes, if it needs them.
+pub fn quoted(text: &str) -> String {
+    let plain = |sign: char| sign.is_alphanumeric() || matches!(sign, '.' | '_' | '/' | '-');
+    match !text.is_empty() && text.chars().all(plain) {
+        true => text.to_string(),
+        false => format!("'{}'", text.replace('\'', "'\\''")),
+    }
 }
 
 /// Where nothing else is to be completed, it is a file's name.

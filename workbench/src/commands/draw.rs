@@ -5,7 +5,7 @@ use crate::commands::Output;
 use crate::draw::scene::{too_many, Scene};
 use crate::draw::{is_ours, picture, Form, MOST_EVENTS};
 use crate::failure::{Failure, PLAYABLE, REFUSED};
-use crate::input::Input;
+use crate::input::{shown, Input};
 use crate::playable;
 use crate::proved::Answers;
 use crate::report;
@@ -136,13 +136,13 @@ fn no_form(path: &OsStr) -> String {
         true => String::from("`-o -` needs `--as svg`, `--as html` or `--as mmd`"),
         false => format!(
             "{}: its name says no form; end it with .svg, .html or .mmd, or say `--as svg`",
-            Path::new(path).display()
+            shown(Path::new(path))
         ),
     }
 }
 
 fn told_of(path: &OsStr, scene: &Scene) -> String {
-    let path = Path::new(path).display();
+    let path = shown(Path::new(path));
     match &scene.stop {
         None => format!("{path}: {}\n", scene.size()),
         Some(stop) => format!("{path}: drawn up to {}: {}\n", stop.place, stop.reason),

@@ -455,9 +455,10 @@ Give the party a key of its own, and let it alone know the private half: `party 
         title: "two names look alike",
         rule: "
 A slip in a name is no mistake to the translator: another name is another atom, and an atom that is nobody's is made. So
-`KAB` beside `K_AB` is a new key, which nobody else has. Names are told that differ by case, by `_` or a prime inside, by
-letters and digits that look alike (l, I and 1; O and 0; letters of other scripts), or by one letter, if one of them is
-written only once. Names of a family, as N1 and N2 or KAB and KAS or K and K', are not told.
+`KAB` beside `K_AB` is a new key, which nobody else has; and `hash` beside `Hash` is another operation. Names are told that
+differ by case, by `_` or a prime inside, by letters and digits that look alike (l, I and 1; O and 0; letters of other
+scripts), or by one letter, if one of them is written only once. Names of a family, as N1 and N2 or KAB and KAS or K and K',
+are not told.
 ",
         example: "
 # KAB is a slip, so A makes a new key that B lacks

@@ -30,9 +30,6 @@ pub fn run(call: &Call) -> Result<Output, Failure> {
             "a file, a party and the listing to be judged are asked for; with --ours a file and a party",
         ));
     }
-    if call.places.iter().filter(|place| *place == "-").count() > 1 {
-        return Err(Failure::command_line("standard input can be one file and not two"));
-    }
     let playable = match playable::open(call)? {
         Ok(playable) => playable,
         Err(output) => return Ok(output),

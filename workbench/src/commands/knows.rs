@@ -1,6 +1,6 @@
 //! `nghi knows`: which party holds which term, how and since when.
 
-use crate::arguments::{distance, Call, Command, Takes, JSON};
+use crate::arguments::{Call, Command, Takes, JSON};
 use crate::cells::{cells, padded};
 use crate::commands::Output;
 use crate::failure::{Failure, PLAYABLE};
@@ -9,6 +9,7 @@ use crate::json::{answer, object, Json};
 use crate::playable::{self, Playable};
 use crate::proved::Source;
 use crate::question::can_build;
+use crate::slips::slips;
 use crate::subject::{Subject, Text};
 use crate::told::Names;
 
@@ -107,22 +108,21 @@ fn meant(subject: &Subject, written: &str) -> Result<u32, Failure> {
     )))
 }
 
-/// The first of the terms from which the fewest letters differ.
+/// The first of the terms from which the fewest letters differ, and no more than half of them.
 fn nearest<'t>(terms: &'t [String], term: &str) -> Option<&'t str> {
+    const MOST: usize = 10;
     let length = term.chars().count();
-    let mut best: Option<(usize, &str)> = None;
+    let mut best: Option<&str> = None;
+    let mut most = MOST;
     for own in terms {
-        // So many letters differ at least. A term of quite another length is not meant, and is not compared.
-        let own_length = own.chars().count();
-        let least = own_length.abs_diff(length);
-        if 2 * least <= own_length.max(length) && best.is_none_or(|(fewest, _)| least < fewest) {
-            let differ = distance(own, term);
-            if best.is_none_or(|(fewest, _)| differ < fewest) {
-                best = Some((differ, own));
-            }
+        let half = own.chars().count().max(length) / 2;
+        if let Some(differ) = slips(most.min(half), own, term) {
+            best = Some(own);
+            // The next one has to be nearer; the term itself is none of them.
+            most = differ.saturating_sub(1);
         }
     }
-    best.map(|(_, own)| own)
+    best
 }
 
 /// How a party has a row.
@@ -251,5 +251,6 @@ mod tests {
         assert_eq!(nearest(&terms, "KBB"), Some("KAB"));
         assert_eq!(nearest(&terms, "{N, M, KAB, {N, M}K}K"), None);
         assert_eq!(nearest(&[], "K"), None);
+        assert_eq!(nearest(&terms, "Q"), None);
     }
 }

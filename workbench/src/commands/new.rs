@@ -1,8 +1,10 @@
 //! `nghi new`: a small narration to begin with.
 
 use crate::arguments::{Call, Command, JSON};
+use crate::commands::completions::quoted;
 use crate::commands::Output;
 use crate::failure::{Failure, PLAYABLE};
+use crate::input::shown;
 use crate::json::answer;
 use crate::store;
 use std::path::PathBuf;
@@ -40,14 +42,19 @@ pub fn run(call: &Call) -> Result<Output, Failure> {
         path.push(END);
     }
     let path = PathBuf::from(path);
-    if path.file_name().is_none_or(|name| name == END) {
-        return Err(Failure::command_line("a name is asked for\nuse: nghi new NAME"));
+    let name = path.file_name().map(|name| name.to_string_lossy());
+    if name.is_none_or(|name| name == END || name.starts_with('-')) {
+        let message = "a name is asked for, and none that begins with `-`\nuse: nghi new NAME";
+        return Err(Failure::command_line(message));
     }
     store::create(&path, TEXT.as_bytes())?;
-    let name = path.display().to_string();
+    let name = shown(&path);
     let text = match call.has("--json") {
         true => format!("{}\n", answer("new", [("file", name.into())])),
-        false => format!("wrote {name}; `nghi programs {name}` shows what each party does\n"),
+        false => format!(
+            "wrote {name}; `nghi programs {}` shows what each party does\n",
+            quoted(&name)
+        ),
     };
     Ok(Output::answer(text, PLAYABLE))
 }

@@ -3,8 +3,8 @@
 use crate::arguments::{Call, Command, Takes, JSON};
 use crate::commands::{check, draw, Output};
 use crate::draw::Form;
-use crate::failure::{Failure, PLAYABLE};
-use crate::input::Input;
+use crate::failure::{plain, Failure, PLAYABLE};
+use crate::input::{shown, Input};
 use crate::report::{self, Report};
 use crate::run::Order;
 use crate::subject::{open, Opened};
@@ -41,9 +41,18 @@ pub fn run(call: &Call) -> Result<Output, Failure> {
     if let Err(error) = fs::metadata(path) {
         let why = match error.kind() {
             ErrorKind::NotFound => String::from("there is no such file or folder"),
-            _ => error.to_string(),
+            _ => plain(&error),
         };
-        return Err(Failure::file(format!("{}: {why}", path.display())));
+        return Err(Failure::file(format!("{}: {why}", shown(path))));
+    }
+    if let Some(page) = call
+        .value("--html")
+        .filter(|page| Form::of_path(page) != Some(Form::Html))
+    {
+        let page = shown(Path::new(page));
+        return Err(Failure::command_line(format!(
+            "`--html {page}`: a page ends with .html"
+        )));
     }
     if call.has("--html") && path.is_dir() {
         return Err(Failure::command_line(
@@ -70,14 +79,14 @@ pub fn run(call: &Call) -> Result<Output, Failure> {
 
 /// What `nghi check` says of a file, or that it is gone; and where a page is asked for, it is drawn anew.
 fn told(call: &Call, change: &Change) -> Result<(String, u8), Failure> {
-    let name = change.path().display().to_string();
+    let name = shown(change.path());
     let gone = || Failure::file(format!("{name}: it is gone"));
     let input = match change {
         Change::Written(path) => Input::read(path.as_os_str()),
         Change::Gone(_) => Err(gone()),
     };
     let report = match &input {
-        Ok(input) => check::of(input)?,
+        Ok(input) => check::of(input),
         Err(failure) => Report::unread(&name, failure),
     };
     let status = report.status();
@@ -85,11 +94,18 @@ fn told(call: &Call, change: &Change) -> Result<(String, u8), Failure> {
         true => format!("{}\n", report::answered(&[report], status)),
         false => report.text(&[]),
     };
-    if let (Ok(input), Some(page)) = (&input, call.value("--html")) {
-        let drawn = drawn(input, page);
+    let Some(page) = call.value("--html") else {
+        return Ok((text, status));
+    };
+    match input.and_then(|input| drawn(&input, page)) {
         // Standard output is for the answers alone where programs read it.
-        if !call.has("--json") {
-            text.push_str(&drawn.unwrap_or_else(|failure| format!("{failure}\n")));
+        Ok(drawn) if !call.has("--json") => text.push_str(&drawn),
+        Ok(_) => (),
+        // What can't be read was told.
+        Err(failure) if status == failure.status => (),
+        Err(failure) => {
+            let _ = writeln!(io::stderr(), "nghi: {failure}");
+            return Ok((text, status.max(failure.status)));
         }
     }
     Ok((text, status))
@@ -112,7 +128,7 @@ fn say(text: &str) -> Result<bool, Failure> {
     match out.write_all(text.as_bytes()).and_then(|()| out.flush()) {
         Ok(()) => Ok(true),
         Err(error) if error.kind() == ErrorKind::BrokenPipe => Ok(false),
-        Err(error) => Err(Failure::file(format!("standard output: {error}"))),
+        Err(error) => Err(Failure::file(format!("standard output: {}", plain(&error)))),
     }
 }
 

@@ -3,8 +3,9 @@
 use super::edits::{self, Edit, Outcome};
 use super::refused::{around_of, makes_nothing, openings, Case};
 use super::{listed, short};
-use crate::arguments::distance;
+use crate::playable::Playable;
 use crate::proved::Source;
+use crate::slips::slips;
 use crate::subject::Text;
 use crate::warnings;
 use narration::book::{ATOM, CIPHER, PRIVATE, PUBLIC};
@@ -46,7 +47,7 @@ impl Case<'_> {
         let mut names: Vec<&str> = (atoms.filter(near).filter(held))
             .map(|row| self.subject.term(row))
             .collect();
-        names.sort_by_key(|name| distance(self.atom(), name));
+        names.sort_by_key(|name| slips(2, self.atom(), name).unwrap_or(usize::MAX));
         let edit = |name: &str| {
             let mut spots: Vec<Spot> = (self.written(text).filter(|(row, _)| *row == self.row))
                 .map(|(_, spot)| *spot)
@@ -139,11 +140,24 @@ impl Case<'_> {
                 let message =
                     format!("let {sender} know {term} and not {key}, so that it keeps {kept} and can send it on");
                 let both = edits::knowing(self.subject, &edit.lines, self.sender, term);
-                edits.extend(both.map(|both| Edit { message, ..both }));
+                edits.extend(
+                    both.map(|both| Edit { message, ..both })
+                        .filter(|both| self.keeps(both, row)),
+                );
             }
-            edits.push(edit);
+            edits.extend(Some(edit).filter(|edit| self.keeps(edit, row)));
         }
         edits
+    }
+
+    /// Whether the sender of a changed text has stored the row by the end, if it can be played at all.
+    fn keeps(&self, edit: &Edit, row: u32) -> bool {
+        let Ok(Some(changed)) = Playable::of_lines(&self.subject.name, &edit.lines) else {
+            return true;
+        };
+        let term = self.subject.term(row);
+        let own = (0..).zip(&changed.subject.terms).find(|(_, own)| *own == term);
+        own.is_some_and(|(own, _)| matches!(changed.answers.source(self.sender, own), Source::Stored { .. }))
     }
 
     /// What the sender lacks at the same step after a change.
@@ -297,6 +311,5 @@ fn with_content(line: &str, cipher: Spot, content: &str) -> Option<String> {
 /// Whether two names are close enough for a slip of the pen.
 fn close(one: &str, other: &str) -> bool {
     let longest = one.chars().count().max(other.chars().count());
-    let distance = distance(one, other);
-    distance <= 2 && 2 * distance < longest
+    slips(2, one, other).is_some_and(|slips| 2 * slips < longest)
 }

@@ -21,8 +21,8 @@ pub struct Edit {
 #[derive(Clone, PartialEq, Eq, Debug)]
 pub enum Outcome {
     Playable,
-    /// It can be played, and what was stored unchecked is checked.
-    Checked,
+    /// It can be played, and what was stored unchecked is checked: what is said of it.
+    Checked(String),
     Refused {
         number: u8,
         step: u32,
@@ -53,7 +53,7 @@ impl Help {
         Help {
             changed: edit.changed.iter().filter_map(|number| line(*number)).collect(),
             added: edit.added,
-            text: edit.lines.join("\n"),
+            text: text(&edit.lines),
             message: edit.message,
             outcome,
         }
@@ -80,7 +80,7 @@ impl Outcome {
     fn sentence(&self) -> String {
         match self {
             Outcome::Playable => String::from("it can be played"),
-            Outcome::Checked => String::from("it can be played, and this is checked"),
+            Outcome::Checked(what) => format!("it can be played, and {what}"),
             Outcome::Refused { number, line, atom, .. } => {
                 format!("it is refused in line {line}, for {atom} (R{number})")
             }
@@ -95,7 +95,7 @@ impl Outcome {
 /// Reads a text and asks the proved translator about its book. With no room lent it refuses every book, one that can be
 /// played by 12. A text whose book is none helps nobody.
 pub fn attempt(lines: &[String]) -> Option<Outcome> {
-    let narration = match narration::narrate(&lines.join("\n")) {
+    let narration = match narration::narrate(&text(lines)) {
         Ok(narration) => narration,
         Err(mistakes) => return Some(Outcome::Mistaken(mistakes.len())),
     };
@@ -120,7 +120,7 @@ pub fn helpful(lines: &[String], kinds: Vec<Vec<Edit>>, step: u32, atom: &str, m
     for edits in kinds {
         for edit in edits {
             // Two kinds may come to one change.
-            let text = edit.lines.join("\n");
+            let text = text(&edit.lines);
             if helps.iter().any(|help| help.text == text) {
                 continue;
             }
@@ -130,7 +130,7 @@ pub fn helpful(lines: &[String], kinds: Vec<Vec<Edit>>, step: u32, atom: &str, m
                     helps.push(Help::of(edit, Outcome::Playable));
                     break;
                 }
-                None | Some(Outcome::Checked | Outcome::Mistaken(_)) => (),
+                None | Some(Outcome::Checked(_) | Outcome::Mistaken(_)) => (),
                 Some(Outcome::Refused {
                     step: stop, atom: next, ..
                 }) if stop < step || (stop == step && next == atom) => (),
@@ -146,6 +146,15 @@ pub fn helpful(lines: &[String], kinds: Vec<Vec<Edit>>, step: u32, atom: &str, m
     match helps.is_empty() {
         true => later.into_iter().map(|(_, help)| help).collect(),
         false => helps,
+    }
+}
+
+/// The text of these lines. A byte order mark that is a part of the first needs another one before it.
+pub fn text(lines: &[String]) -> String {
+    let text = lines.join("\n");
+    match text.starts_with('\u{feff}') {
+        true => format!("\u{feff}{text}"),
+        false => text,
     }
 }
 

@@ -96,10 +96,12 @@ fn part(line: &str, column: usize) -> (String, usize) {
     (format!("{front}{shown}{back}"), from - front.len())
 }
 
-/// What a terminal would take for a command, or would print from right to left, is shown as one unknown character.
+/// What a terminal would take for a command, would print from right to left, or would not show, is one unknown character.
 pub fn plain(text: &str) -> String {
     let hidden = |sign: char| {
-        (sign.is_control() && sign != '\t') || matches!(sign, '\u{202a}'..='\u{202e}' | '\u{2066}'..='\u{2069}')
+        let turns = matches!(sign, '\u{200e}' | '\u{200f}' | '\u{202a}'..='\u{202e}' | '\u{2066}'..='\u{2069}');
+        let unseen = matches!(sign, '\u{200b}' | '\u{2060}'..='\u{2064}' | '\u{feff}');
+        (sign.is_control() && sign != '\t') || turns || unseen
     };
     text.chars()
         .map(|sign| if hidden(sign) { '\u{fffd}' } else { sign })

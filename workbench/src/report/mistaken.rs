@@ -2,9 +2,10 @@
 
 use super::edits::{self, Edit, Help, Outcome};
 use super::{listed, Diagnostic, Report, Verdict};
-use crate::arguments::distance;
 use crate::cells::cell;
+use crate::slips::slips;
 use narration::{of_a_name, Kind, Mistake};
+use std::collections::HashSet;
 
 /// Helps are looked for for so many mistakes, and in a text of so many bytes: each help is tried on the whole text.
 const MOST_HELPED: usize = 40;
@@ -129,15 +130,16 @@ impl<'t> Wrong<'t> {
 
     /// The declared names that are close to the one that isn't, the closest first.
     fn near_parties(&self) -> Vec<Edit> {
+        const MOST: usize = 3;
         let name = &self.found;
         let far = |own: &String| match own.to_lowercase() == name.to_lowercase() {
-            true => 0,
-            false => distance(own, name),
+            true => Some(0),
+            false => slips(2, own, name).filter(|slips| *slips < own.chars().count().max(name.chars().count())),
         };
-        let longest = |own: &String| own.chars().count().max(name.chars().count());
         let mut near: Vec<String> = declared(self.lines);
-        near.retain(|own| far(own) == 0 || (far(own) <= 2 && far(own) < longest(own)));
+        near.retain(|own| far(own).is_some());
         near.sort_by_key(far);
+        near.truncate(MOST);
         let edit = |own: &String| self.edit(self.instead(own), format!("is `{own}` meant?"));
         near.iter().map(edit).collect()
     }
@@ -181,7 +183,7 @@ impl<'t> Wrong<'t> {
         let rest = self.line.trim_start();
         let first: String = rest.chars().take_while(|sign| of_a_name(*sign)).collect();
         let column = self.line.chars().count() - rest.chars().count() + 1;
-        let near = |word: &&str| !first.is_empty() && first != *word && distance(word, &first.to_lowercase()) <= 1;
+        let near = |word: &&str| !first.is_empty() && first != *word && slips(1, word, &first.to_lowercase()).is_some();
         let edit = |word: &str| {
             let line = edits::replaced(self.line, column, first.chars().count(), word);
             self.edit(line, format!("is `{word}` meant?"))
@@ -201,7 +203,7 @@ impl<'t> Wrong<'t> {
     fn with(&self, sign: &str) -> Vec<Edit> {
         let word = |text: &str| !text.is_empty() && text.chars().all(|sign| of_a_name(sign) || sign == ' ');
         if word(sign) {
-            let near = word(&self.found) && distance(sign, &self.found.to_lowercase()) <= 2;
+            let near = word(&self.found) && slips(2, sign, &self.found.to_lowercase()).is_some();
             let edit = near.then(|| self.edit(self.instead(sign), format!("is `{sign}` meant?")));
             return edit.into_iter().collect();
         }
@@ -230,13 +232,9 @@ fn declared(lines: &[String]) -> Vec<String> {
         let name: String = rest.chars().take_while(|sign| of_a_name(*sign)).collect();
         (rest.len() < line.len() && !name.is_empty()).then_some(name)
     };
-    let mut names: Vec<String> = Vec::new();
-    for name in lines.iter().filter_map(party) {
-        if !names.contains(&name) {
-            names.push(name);
-        }
-    }
-    names
+    let mut seen = HashSet::new();
+    let names = lines.iter().filter_map(party);
+    names.filter(|name| seen.insert(name.clone())).collect()
 }
 
 /// Where the blanks in front of a column begin, and how many they are.

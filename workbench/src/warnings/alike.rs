@@ -1,51 +1,89 @@
-//! W4: names that look alike and are two things. A slip in a name makes another atom, and the translator is right to make it.
+//! W4: names that look alike and are two things. A slip in a name makes another atom, or another operation, and the translator
+//! is right to take it so.
 
-use super::atoms;
-use crate::arguments::distance;
+use super::{atoms, operations};
 use crate::report::edits::{attempt, replaced, Edit, Help, Outcome};
 use crate::report::Diagnostic;
+use crate::slips::slips;
 use crate::subject::{Subject, Text};
 use narration::Spot;
 
-/// Names of atoms that look alike, in the order of the text.
+/// Where there are more warnings than this, no helps are looked for: each has to be tried.
+const MOST_HELPED: usize = 12;
+
+/// A name, where it is written, and what a hasty reader sees of it.
+struct Name<'s> {
+    name: &'s str,
+    spots: &'s [Spot],
+    seen: String,
+}
+
+impl<'s> Name<'s> {
+    fn of(name: &'s str, spots: &'s [Spot]) -> Name<'s> {
+        Name {
+            name,
+            spots,
+            seen: seen(name),
+        }
+    }
+}
+
+/// Names of atoms that look alike, and names of operations that do. A name that is seldom written is told once.
 pub fn of(subject: &Subject) -> Vec<Diagnostic> {
     let Some(text) = &subject.text else { return Vec::new() };
-    let atoms: Vec<(u32, Vec<Spot>)> = atoms(subject).into_iter().collect();
-    let mut warnings = Vec::new();
-    for (n, (one, spots)) in atoms.iter().enumerate() {
-        for (other, places) in &atoms[n + 1..] {
-            let (a, b) = (subject.term(*one), subject.term(*other));
-            let once = spots.len() == 1 || places.len() == 1;
-            if alike(a, b) || (once && slip(a, b)) {
-                // The one that is seldom written is likelier the slip; of two the later one.
-                let (spots, places) = (&spots[..], &places[..]);
-                let swap = spots.len() < places.len();
-                let (rare, usual) = if swap {
-                    ((a, spots), (b, places))
-                } else {
-                    ((b, places), (a, spots))
-                };
-                warnings.push(warning(text, rare, usual));
+    let atoms = atoms(subject);
+    let operations = operations(subject);
+    let atoms: Vec<Name> = (atoms.iter())
+        .map(|(row, spots)| Name::of(subject.term(*row), spots))
+        .collect();
+    let mut operations: Vec<Name> = operations.iter().map(|(name, spots)| Name::of(name, spots)).collect();
+    operations.sort_by_key(|own| own.spots.first());
+    let pairs = [alike_pairs(&atoms), alike_pairs(&operations)].concat();
+    let helped = pairs.len() <= MOST_HELPED;
+    let warning = |(rare, usual): (&Name, &Name)| warning(text, rare, usual, helped);
+    pairs.into_iter().map(warning).collect()
+}
+
+/// Each name that looks like another, with the first such one: the one that is seldom written is likelier the slip; of two the
+/// later one.
+fn alike_pairs<'n, 's>(names: &'n [Name<'s>]) -> Vec<(&'n Name<'s>, &'n Name<'s>)> {
+    let mut pairs: Vec<(&Name, &Name)> = Vec::new();
+    let mut told = vec![false; names.len()];
+    for (n, one) in names.iter().enumerate() {
+        for (m, other) in names.iter().enumerate().skip(n + 1) {
+            let (rare, usual) = if one.spots.len() < other.spots.len() {
+                (n, m)
+            } else {
+                (m, n)
+            };
+            let look = one.seen == other.seen && !primed(one.name, other.name);
+            let once = names[rare].spots.len() == 1;
+            if !told[rare] && (look || (once && slip(one.name, other.name))) {
+                told[rare] = true;
+                pairs.push((&names[rare], &names[usual]));
             }
         }
     }
-    warnings
+    pairs
 }
 
-fn warning(text: &Text, (rare, spots): (&str, &[Spot]), (usual, places): (&str, &[Spot])) -> Diagnostic {
-    let message = format!("`{rare}` and `{usual}` look alike, and are two things");
+fn warning(text: &Text, rare: &Name, usual: &Name, helped: bool) -> Diagnostic {
+    let message = format!("`{}` and `{}` look alike, and are two things", rare.name, usual.name);
     let mut warning = Diagnostic::warning("W4", message)
-        .mark(spots.first().copied(), written(spots.len()))
-        .mark(places.first().copied(), written(places.len()));
+        .mark(rare.spots.first().copied(), written(rare.spots.len()))
+        .mark(usual.spots.first().copied(), written(usual.spots.len()));
+    if !helped {
+        return warning;
+    }
     let mut lines = text.lines.clone();
     // From the right, so that the columns to the left stay what they are.
-    for spot in spots.iter().rev() {
-        lines[spot.line - 1] = replaced(&lines[spot.line - 1], spot.column, spot.length, usual);
+    for spot in rare.spots.iter().rev() {
+        lines[spot.line - 1] = replaced(&lines[spot.line - 1], spot.column, spot.length, usual.name);
     }
-    let mut changed: Vec<usize> = spots.iter().map(|spot| spot.line).collect();
+    let mut changed: Vec<usize> = rare.spots.iter().map(|spot| spot.line).collect();
     changed.dedup();
     let edit = Edit {
-        message: format!("if they are one, write `{usual}`"),
+        message: format!("if they are one, write `{}`", usual.name),
         lines,
         changed,
         added: false,
@@ -110,7 +148,7 @@ fn low(sign: char) -> char {
 /// neighbours exchanged.
 fn slip(one: &str, other: &str) -> bool {
     let shortest = one.chars().count().min(other.chars().count());
-    shortest >= 3 && ((distance(one, other) == 1 && !family(one, other)) || exchanged(one, other))
+    shortest >= 3 && ((slips(1, one, other) == Some(1) && !family(one, other)) || exchanged(one, other))
 }
 
 fn exchanged(one: &str, other: &str) -> bool {

@@ -1,14 +1,13 @@
 //! W1 and W2: what a party stored and never compared, opened or sent on.
 
 use crate::failure::Failure;
-use crate::input::Input;
 use crate::listing::{Event, Image, Program, Stored};
 use crate::playable::Playable;
 use crate::proved::{Answers, Source};
 use crate::question::{on_arrival, Arrival};
 use crate::report::edits::{all_knowing, attempt, moved, opening, Edit, Help, Outcome};
 use crate::report::{listed, short, Diagnostic};
-use crate::subject::{open, Opened, Subject, Text};
+use crate::subject::{Subject, Text};
 use narration::book::{CIPHER, PRIVATE};
 use narration::Spot;
 use std::collections::{BTreeMap, BTreeSet};
@@ -165,7 +164,7 @@ fn spot(subject: &Subject, step: u32, row: u32) -> Option<Spot> {
     written.map(|(_, spot)| *spot).min()
 }
 
-/// A change with which these rows are checked: the party knows the key of a cipher, or the step comes later.
+/// A change with which these rows are checked: the step comes later; or of a cipher among them the party knows the key.
 fn help(
     subject: &Subject,
     answers: &Answers,
@@ -175,22 +174,40 @@ fn help(
     rows: &[u32],
 ) -> Result<Option<Help>, Failure> {
     let Some(text) = &subject.text else { return Ok(None) };
-    let edits = match kind {
-        Kind::Plain | Kind::Signature => with_key(subject, answers, party, rows).into_iter().collect(),
-        Kind::Buildable | Kind::Openable => later(subject, text, step),
+    let tried = |edit: Edit, rows: &[u32], what: String| {
+        let helps = attempt(&edit.lines) == Some(Outcome::Playable) && checked(subject, &edit.lines, party, rows)?;
+        Ok(helps.then(|| Help::of(edit, Outcome::Checked(what))))
     };
-    for edit in edits {
-        if attempt(&edit.lines) == Some(Outcome::Playable) && checked(subject, &edit.lines, party, rows)? {
-            return Ok(Some(Help::of(edit, Outcome::Checked)));
+    match kind {
+        Kind::Plain | Kind::Signature => {
+            let mut ciphers = rows
+                .iter()
+                .filter(|row| subject.book.rows[**row as usize].kind == CIPHER);
+            let Some(cipher) = ciphers.next() else { return Ok(None) };
+            let Some(edit) = with_key(subject, answers, party, *cipher) else {
+                return Ok(None);
+            };
+            tried(edit, &[*cipher], format!("{} is opened", short(subject.term(*cipher))))
+        }
+        Kind::Buildable | Kind::Openable => {
+            for edit in later(subject, text, step) {
+                let what = if rows.len() == 1 {
+                    "this is checked"
+                } else {
+                    "these are checked"
+                };
+                let help = tried(edit, rows, what.to_string())?;
+                if help.is_some() {
+                    return Ok(help);
+                }
+            }
+            Ok(None)
         }
     }
-    Ok(None)
 }
 
-/// The party knows what opens the first cipher among the rows; a key that another party made is known to that one too.
-fn with_key(subject: &Subject, answers: &Answers, party: u32, rows: &[u32]) -> Option<Edit> {
-    let kind = |row: u32| subject.book.rows[row as usize].kind;
-    let cipher = rows.iter().copied().find(|row| kind(*row) == CIPHER)?;
+/// The party knows what opens a cipher; a key that another party made is known to that one too.
+fn with_key(subject: &Subject, answers: &Answers, party: u32, cipher: u32) -> Option<Edit> {
     let key = subject.book.rows[cipher as usize].parts[0];
     let parties = 0..subject.book.parties.len() as u32;
     let maker = |other: &u32| matches!(answers.source(*other, key), Source::Made { .. });
@@ -210,23 +227,12 @@ fn later(subject: &Subject, text: &Text, step: u32) -> Vec<Edit> {
     lines.map(edit).collect()
 }
 
-/// Whether the party of a changed text leaves none of the first of these rows unused.
+/// Whether the party of a changed text leaves none of these rows unused.
 fn checked(subject: &Subject, lines: &[String], party: u32, rows: &[u32]) -> Result<bool, Failure> {
-    let input = Input {
-        name: subject.name.clone(),
-        path: None,
-        bytes: lines.join("\n").into_bytes(),
-    };
-    let Opened::Subject(changed) = open(&input)? else {
+    let Some(changed) = Playable::of_lines(&subject.name, lines)? else {
         return Ok(false);
     };
-    let Ok(answers) = Answers::of(&changed)? else {
-        return Ok(false);
-    };
-    let program = &answers.programs[party as usize];
-    let left = unused(program).map(|own| changed.term(own.row));
+    let left = unused(&changed.answers.programs[party as usize]).map(|own| changed.subject.term(own.row));
     let left: Vec<&str> = left.collect();
-    let cipher = |row: &&u32| subject.book.rows[**row as usize].kind == CIPHER;
-    let asked = rows.iter().find(cipher).or(rows.first());
-    Ok(asked.is_some_and(|row| !left.contains(&subject.term(*row))))
+    Ok(rows.iter().all(|row| !left.contains(&subject.term(*row))))
 }

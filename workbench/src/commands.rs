@@ -105,11 +105,8 @@ fn answered(arguments: &[OsString]) -> Result<Output, Failure> {
             "`{name}` is no command{near}\nuse: nghi COMMAND FILE.. (`nghi --help` lists the commands)"
         )));
     };
-    let options = rest.iter().take_while(|argument| *argument != "--");
-    if options
-        .into_iter()
-        .any(|argument| argument == "--help" || argument == "-h")
-    {
+    let mut options = rest.iter().take_while(|argument| *argument != "--");
+    if options.any(|argument| argument == "--help" || argument == "-h") {
         return Ok(told(help_of(command)));
     }
     run(&Call::of(command, rest)?)

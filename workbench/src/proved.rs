@@ -131,24 +131,30 @@ pub fn rehearse(subject: &Subject, moves: &[u32]) -> Result<Vec<u32>, Refusal> {
     Ok(to_words(&done[..length]))
 }
 
+/// A small book that can be played, for tests.
+#[cfg(test)]
+pub fn example() -> (Subject, Answers) {
+    let input = crate::input::Input {
+        name: "text".to_string(),
+        path: None,
+        bytes: b"party A knows K\nparty B knows K\nB -> A: N\nA -> B: {N}K\n".to_vec(),
+    };
+    let Ok(crate::subject::Opened::Subject(subject)) = crate::subject::open(&input) else {
+        panic!("a narration");
+    };
+    let answers = Answers::of(&subject).expect("no guard").expect("it can be played");
+    (*subject, answers)
+}
+
 #[cfg(test)]
 mod tests {
     use super::*;
-    use crate::input::Input;
-    use crate::subject::{open, Opened};
 
     /// One altered word of a summary, and one row that is held in another way, break the guard.
     #[test]
     fn what_is_held_is_told_twice() {
-        let input = Input {
-            name: "text".to_string(),
-            path: None,
-            bytes: b"party A knows K\nparty B knows K\nB -> A: N\nA -> B: {N}K\n".to_vec(),
-        };
-        let Ok(Opened::Subject(subject)) = open(&input) else {
-            panic!("a narration");
-        };
-        let whole = || Answers::of(&subject).expect("no guard").expect("it can be played");
+        let (subject, _) = example();
+        let whole = || example().1;
         let status = |answers: &Answers| answers.agree(&subject.book).map_err(|failure| failure.status);
         assert_eq!(status(&whole()), Ok(()));
         for at in 3..whole().summary.0.len() {

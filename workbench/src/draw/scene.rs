@@ -410,33 +410,19 @@ fn stop(subject: &Subject, refusal: Refusal) -> Option<Stop> {
 /// A small one, for tests.
 #[cfg(test)]
 pub fn example() -> Scene {
-    let (subject, answers) = tests::example();
+    let (subject, answers) = crate::proved::example();
     Scene::of(&subject, &answers, &Order::Narration).expect("a scene")
 }
 
 #[cfg(test)]
 mod tests {
     use super::*;
-    use crate::input::Input;
-    use crate::subject::{open, Opened};
-
-    pub fn example() -> (Subject, Answers) {
-        let input = Input {
-            name: "text".to_string(),
-            path: None,
-            bytes: b"party A knows K\nparty B knows K\nB -> A: N\nA -> B: {N}K\n".to_vec(),
-        };
-        let Ok(Opened::Subject(subject)) = open(&input) else {
-            panic!("a narration");
-        };
-        let answers = Answers::of(&subject).expect("no guard").expect("it can be played");
-        (*subject, answers)
-    }
+    use crate::proved;
 
     /// One move that is left out, done twice, or done before its time breaks the guard.
     #[test]
     fn altered_moves_are_told() {
-        let (subject, answers) = example();
+        let (subject, answers) = proved::example();
         let moves = Scene::of(&subject, &answers, &Order::Round).expect("a scene").moves;
         let names = Names::of(&subject);
         for (number, program) in answers.programs.iter().enumerate() {

@@ -158,6 +158,17 @@ fn put_image(image: &Image, slots: &mut Vec<Slot>) {
     parts.into_iter().for_each(|part| put_image(part, slots));
 }
 
+/// The words that are explained are the very ones of the program.
+fn spelt(events: &[Vec<Slot>], program: &Program) -> Result<(), Failure> {
+    let words: Vec<u32> = events.iter().flatten().map(|slot| slot.word()).collect();
+    match words == part_words(program) {
+        true => Ok(()),
+        false => Err(Failure::guard(
+            "the words of a program are not what they are told to be",
+        )),
+    }
+}
+
 /// Our part of the listing, for one party.
 struct Ours<'p> {
     playable: &'p Playable,
@@ -179,17 +190,11 @@ struct Difference {
 }
 
 impl<'p> Ours<'p> {
-    /// The words that are explained here have to be the very ones of the listing.
     fn of(playable: &'p Playable, party: u32) -> Result<Ours<'p>, Failure> {
         let program = &playable.answers.programs[party as usize];
         let names = Names::of(&playable.subject);
         let events = slots(program);
-        let words: Vec<u32> = events.iter().flatten().map(|slot| slot.word()).collect();
-        if words != part_words(program) {
-            return Err(Failure::guard(
-                "the words of a program are not what they are told to be",
-            ));
-        }
+        spelt(&events, program)?;
         Ok(Ours {
             told: names.program(program)?,
             playable,
@@ -453,6 +458,32 @@ mod tests {
             }
         }
         assert!(reasons.iter().all(|count| *count > 0), "{reasons:?}");
+    }
+
+    /// One altered word of what is explained, and a difference where there is none, break the guard.
+    #[test]
+    fn an_altered_verdict_is_told() {
+        let playable = playable("example-2.narration");
+        for (party, program) in (0..).zip(&playable.answers.programs) {
+            let events = slots(program);
+            assert_eq!(spelt(&events, program), Ok(()));
+            for event in 0..events.len() {
+                for word in 0..events[event].len() {
+                    let mut altered = slots(program);
+                    altered[event][word] = Slot::Plain(altered[event][word].word() + 1);
+                    let told = spelt(&altered, program).map_err(|failure| failure.status);
+                    assert_eq!(told, Err(70), "event {event}, word {word}");
+                }
+            }
+            let ours = Ours::of(&playable, party).unwrap();
+            let words = part_words(program);
+            for place in 0..=words.len() {
+                let told = ours
+                    .difference(place, &words)
+                    .map_or_else(|failure| failure.status, |_| 0);
+                assert_eq!(told, 70, "word {place}");
+            }
+        }
     }
 
     #[test]

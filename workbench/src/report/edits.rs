@@ -45,6 +45,8 @@ pub struct Help {
     pub added: bool,
     /// The whole changed text, lines ended by line feeds.
     pub text: String,
+    /// Whether that text has also what the diagnostic tells as if it were so.
+    pub assumed: bool,
 }
 
 impl Help {
@@ -56,11 +58,17 @@ impl Help {
             text: text(&edit.lines),
             message: edit.message,
             outcome,
+            assumed: false,
         }
     }
 
     pub fn sentence(&self) -> String {
-        format!("{} (tried: then {})", self.message, self.outcome.sentence())
+        let tried = if self.assumed {
+            "tried under the same assumption"
+        } else {
+            "tried"
+        };
+        format!("{} ({tried}: then {})", self.message, self.outcome.sentence())
     }
 
     pub fn json(&self) -> Json {
@@ -72,6 +80,7 @@ impl Help {
             ("changed", self.changed.iter().map(line).collect::<Vec<_>>().into()),
             ("added", self.added.into()),
             ("text", self.text.as_str().into()),
+            ("assumed", self.assumed.into()),
         ])
     }
 }
@@ -168,12 +177,15 @@ pub fn replaced(line: &str, column: usize, length: usize, with: &str) -> String 
     format!("{front}{with}{back}")
 }
 
-/// A line with something behind what it says: in front of a comment, and of the blanks before that.
+/// What a line says: all but a comment, and the blanks before that.
+pub fn said(line: &str) -> &str {
+    let said = line.find('#').map_or(line, |at| &line[..at]);
+    said.trim_end_matches([' ', '\t'])
+}
+
+/// A line with something behind what it says.
 pub fn behind(line: &str, what: &str) -> String {
-    let said = line
-        .find('#')
-        .map_or(line, |at| &line[..at])
-        .trim_end_matches([' ', '\t']);
+    let said = said(line);
     format!("{said}{what}{}", &line[said.len()..])
 }
 

@@ -154,6 +154,7 @@ mod tests {
                 changed: vec![(1, new.clone())],
                 added: false,
                 text: new,
+                assumed: false,
             };
             let lines = [old.clone()];
             let shown = changed(&help, &lines, 1);

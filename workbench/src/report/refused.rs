@@ -1,7 +1,7 @@
 //! A book that is refused: which atom its sender lacks at which step, where that atom comes from, what the sender holds by
 //! then, and what helps. What is held is asked of the book cut to the steps before, so that it is proved as well.
 
-use super::edits;
+use super::edits::{self, Help};
 use super::why::why;
 use super::{count, listed, short, Diagnostic, Mark, Report, Verdict};
 use crate::failure::Failure;
@@ -30,25 +30,30 @@ pub fn no_book(name: &str, bytes: &[u8], refusal: Refusal) -> Report {
 }
 
 /// A book that can't be played: its refusal, and those that come behind it. What was lacking is taken as known from then on,
-/// and the proved translator is asked again.
+/// and the proved translator is asked again; what helps is tried in the same way.
 pub fn unplayable(subject: &Subject, refusal: Refusal) -> Result<Report, Failure> {
     let first = Case::of(subject, refusal)?;
     let mut diagnostics = vec![first.diagnostic()?];
     let mut lacking = vec![first.row];
-    let mut assumed: Vec<(u32, String)> = Vec::new();
+    let mut assumed: Vec<(u32, u32)> = Vec::new();
     let (mut mended, mut step) = (subject.clone(), first.step);
     let mut known = first.as_known();
     for _ in 0..MOST_REFUSALS {
-        let Some((book, party, term)) = known else { break };
-        assumed.push((party, term));
-        mended = with_book(&mended, book);
+        let Some(more) = known else { break };
+        assumed.extend(more.last());
+        mended = knowing(&mended, &more);
         let later = unplayable_still(&mended).filter(|later| later.place() >= step);
         let Some(later) = later else { break };
         let case = Case::of(&mended, later)?;
         match diagnostics.last_mut() {
             // What a step lacks is told at once.
             Some(last) if case.step == step => case.add_to(last),
-            _ => diagnostics.push(case.diagnostic()?.note(as_if(subject, &assumed))),
+            _ => {
+                let mut diagnostic = case.diagnostic()?.note(as_if(subject, &assumed));
+                let assumed = |help: Help| Help { assumed: true, ..help };
+                diagnostic.helps = case.helps(&[case.row]).into_iter().map(assumed).collect();
+                diagnostics.push(diagnostic);
+            }
         }
         if case.step == first.step {
             lacking.push(case.row);
@@ -56,10 +61,7 @@ pub fn unplayable(subject: &Subject, refusal: Refusal) -> Result<Report, Failure
         step = case.step;
         known = case.as_known();
     }
-    if let Some(text) = &subject.text {
-        let kinds = first.edits(text, &lacking);
-        diagnostics[0].helps = edits::helpful(&text.lines, kinds, first.step, first.atom(), MOST_HELPS);
-    }
+    diagnostics[0].helps = first.helps(&lacking);
     diagnostics.extend(warnings::of_names(subject));
     let lines = subject.text.as_ref().map_or_else(Vec::new, |text| text.lines.clone());
     let report = Report::new(&subject.name, lines, Verdict::Refused(refusal.number()), diagnostics);
@@ -67,10 +69,10 @@ pub fn unplayable(subject: &Subject, refusal: Refusal) -> Result<Report, Failure
 }
 
 /// What was assumed so far, by party.
-fn as_if(subject: &Subject, assumed: &[(u32, String)]) -> String {
+fn as_if(subject: &Subject, assumed: &[(u32, u32)]) -> String {
     let mut parties: BTreeMap<u32, Vec<String>> = BTreeMap::new();
-    for (party, term) in assumed {
-        parties.entry(*party).or_default().push(term.clone());
+    for (party, row) in assumed {
+        parties.entry(*party).or_default().push(short(subject.term(*row)));
     }
     let knew = |(party, terms): (&u32, &Vec<String>)| format!("{} knew {}", subject.party(*party), listed(terms));
     let told: Vec<String> = parties.iter().map(knew).collect();
@@ -90,6 +92,33 @@ fn with_book(subject: &Subject, book: Book) -> Subject {
         book,
         ..subject.clone()
     }
+}
+
+/// The subject in which parties know these rows as well, and its text, if it has one, says so. What stands in the steps stays
+/// where it is.
+fn knowing(subject: &Subject, more: &[(u32, u32)]) -> Subject {
+    let mut book = subject.book.clone();
+    for (party, row) in more {
+        let known = &mut book.parties[*party as usize].known;
+        known.push(*row);
+        known.sort_unstable();
+    }
+    let mut subject = with_book(subject, book);
+    for (party, row) in more {
+        let term = subject.term(*row).to_string();
+        let lines = subject.text.as_ref().map_or(&[][..], |text| &text.lines);
+        let edit = edits::knowing(&subject, lines, *party, &term);
+        if let (Some(edit), Some(text)) = (edit, &mut subject.text) {
+            let place = &mut text.narration.parties[*party as usize];
+            let line = place.name.line;
+            let length = term.chars().count();
+            let end = edits::said(&edit.lines[line - 1]).chars().count();
+            let column = end - length + 1;
+            place.known.push((*row, Spot { line, column, length }));
+            text.lines = edit.lines;
+        }
+    }
+    subject
 }
 
 /// A refusal: the sender of the step would have to make the atom of the row.
@@ -140,24 +169,35 @@ impl<'s> Case<'s> {
         }
     }
 
-    /// The book in which the sender knows what it lacks, and whoever made the atom knows it as well; the sender, and what it
-    /// knows then. Nothing if it can't know more.
-    fn as_known(&self) -> Option<(Book, u32, String)> {
+    /// Who would know which row, if the sender knew what it lacks: whoever made the atom, and last the sender. Nothing if one
+    /// of them can't know more.
+    fn as_known(&self) -> Option<Vec<(u32, u32)>> {
         let text = self.subject.text.as_ref();
         let needed = text.map_or(self.row, |text| self.needed_row(text, self.row));
-        let mut book = self.subject.book.clone();
-        let makers = (0..book.parties.len() as u32)
+        let parties = &self.subject.book.parties;
+        let makers = (0..parties.len() as u32)
             .filter(|party| matches!(self.before.source(*party, self.row), Source::Made { .. }))
             .map(|party| (party, self.row));
-        for (party, row) in makers.chain([(self.sender, needed)]) {
-            let known = &mut book.parties[party as usize].known;
-            if known.len() == MOST_KNOWN as usize {
-                return None;
-            }
-            let at = known.binary_search(&row).err()?;
-            known.insert(at, row);
-        }
-        Some((book, self.sender, short(self.subject.term(needed))))
+        let more: Vec<(u32, u32)> = makers.chain([(self.sender, needed)]).collect();
+        let can = |(party, row): &(u32, u32)| {
+            let known = &parties[*party as usize].known;
+            known.len() < MOST_KNOWN as usize && !known.contains(row)
+        };
+        more.iter().all(can).then_some(more)
+    }
+
+    /// What helps, where the sender lacks these atoms for the step.
+    fn helps(&self, lacking: &[u32]) -> Vec<Help> {
+        let Some(text) = &self.subject.text else {
+            return Vec::new();
+        };
+        edits::helpful(
+            &text.lines,
+            self.edits(text, lacking),
+            self.step,
+            self.atom(),
+            MOST_HELPS,
+        )
     }
 
     fn diagnostic(&self) -> Result<Diagnostic, Failure> {

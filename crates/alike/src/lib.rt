@@ -1,5 +1,7 @@
 // Whether two things that words spell are the same: terms and effects by their words, effects as multisets by counting, types and
 // environments up to the order of effects; and the names of terms and effects, and the entries of environments.
+#![tactic(auto)]
+
 ghost use Rattle.std.specs.Prelude.{◌≡◌, ◌+◌, ◌-◌, ◌≤◌, ◌<◌, length, drop, get_or};
 ghost use Rattle.std.proofs.Math.Option.{some};
 ghost use Rattle.words.specs.Choice.{pick};

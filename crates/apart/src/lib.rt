@@ -1,4 +1,6 @@
 // Whether an asked process keeps its bound names apart: all its binders are different from each other and from the environment's names.
+#![tactic(auto)]
+
 ghost use Rattle.std.specs.Prelude.{◌≡◌, ◌+◌, ◌-◌, ◌≤◌, ◌<◌, eqb, ltb, length, drop, take, get_or};
 ghost use Rattle.words.specs.Choice.{pick};
 ghost use Rattle.typing.specs.Apart.{among, keeps_apart};

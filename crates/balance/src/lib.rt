@@ -1,4 +1,6 @@
 // Whether a multiset of effects is what is left of another when some are taken away, with others added: by counting.
+#![tactic(auto)]
+
 ghost use Rattle.std.specs.Prelude.{◌≡◌, ◌+◌, ◌-◌, ◌≤◌, ◌<◌, eqb, length, drop, get_or};
 ghost use Rattle.std.proofs.Math.Option.{some};
 ghost use Rattle.words.specs.Choice.{pick};
@@ -14,7 +16,7 @@ use alike::{one, same_term};
 use spans::term_end;
 
 // Effects in the words: one, by its word and its term's place and end; or several, by their place, their number and their end.
-#[derive(Drop)]
+#[derive(Clone, Copy)]
 pub enum Effects {
     One(u32, usize, usize),
     Many(usize, usize, usize),

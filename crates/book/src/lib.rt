@@ -2,6 +2,8 @@
 // exactly what specs/Layout.antt gives its name, of a book whose header is right and a number within its section; `Section::of` and
 // `Kind::of` answer a section's and a kind's line (specs/Sections.antt, specs/Kinds.antt), `entry` and `first_part` a row of a valid
 // book.
+#![tactic(auto)]
+
 ghost use Rattle.std.specs.Prelude.{◌≡◌, ◌+◌, ◌^◌, ◌≤◌, ◌<◌};
 ghost use Rattle.book.specs.Headed.{Headed};
 ghost use Rattle.terms.specs.Kind.{is_half, other_half};

@@ -1,5 +1,7 @@
 // The line of any call: of a function's number and the bytes of its slices and numbers. `call_line` leaves exactly the line's bytes, for any
 // bytes.
+#![tactic(auto)]
+
 ghost use Rattle.std.specs.Prelude.{◌≡◌, true, ◌/◌, ◌≤◌, ◌<◌, length, take};
 ghost use Rattle.io.specs.Counts.{IsPrefixLen};
 ghost use Rattle.octets.specs.Octets.{words_in};

@@ -1,6 +1,8 @@
 // Any call without code: reads requests from standard input, each a function's number, its slices and its numbers, calls the function and
 // prints its answer on one line. What is read of a function is told by `functions`, its line by `calling`, for any bytes; here
 // they are read and printed.
+#![tactic(auto)]
+
 ghost use Rattle.std.specs.Prelude.{◌≤◌, length};
 ghost use Rattle.input.specs.Input.{Within};
 ghost use Rattle.functions.specs.Functions.{Known};

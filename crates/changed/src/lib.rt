@@ -1,4 +1,6 @@
 // Whether a type is another one with a name bound, or with a term put for its own variable.
+#![tactic(auto)]
+
 ghost use Rattle.std.specs.Prelude.{◌≡◌, [], ◌∷◌, ◌+◌, ◌-◌, ◌≤◌, ◌<◌, length, drop, get_or};
 ghost use Rattle.std.proofs.Math.Option.{some};
 ghost use Rattle.typing.specs.Term.{same_term, same_effect, change_term, change_effect, term_words};
@@ -15,7 +17,7 @@ use spans::{term_end, term_turn, type_own, type_parts};
 use words::wide;
 
 // What happens to names and variables: the name x is bound, or the term from a place to its end is put for the own variable.
-#[derive(Drop)]
+#[derive(Clone, Copy)]
 pub enum By {
     Bind(u32),
     Put(usize, usize),

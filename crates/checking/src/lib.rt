@@ -1,5 +1,7 @@
 // The check of a derivation of authenticity types: refusal 24, each line by its rule from earlier lines, and whether the last one gives what
 // is asked.
+#![tactic(auto)]
+
 ghost use Rattle.std.specs.Prelude.{◌≡◌, true, ◌^◌, ◌+◌, ◌<◌};
 ghost use Rattle.words.specs.First.{first};
 ghost use Rattle.typing.specs.Derivation.{line_word, given, passes, fails, asked as asked_for, agree, verdict};

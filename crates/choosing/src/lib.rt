@@ -1,4 +1,6 @@
 // The rules by their numbers: of what kinds each one's conclusion and premises are, and whether a line follows by the rule of a number.
+#![tactic(auto)]
+
 ghost use Rattle.std.specs.Prelude.{◌≡◌, [], ◌∷◌, ◌<◌, ◌&&◌};
 ghost use Rattle.typing.specs.Reading.{term, effects, type_at, process_at};
 ghost use Rattle.typing.specs.Derivation.{rule_of};

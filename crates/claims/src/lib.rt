@@ -1,5 +1,7 @@
 // From which step on each atom is taken: it is a party's name, known at the start, or in a message of an earlier step. `claims`
 // answers the table of these steps for a valid book, an entry for each row.
+#![tactic(auto)]
+
 ghost use Rattle.std.specs.Prelude.{◌≡◌, [], ◌∷◌, map, ◌≤◌, ◌<◌, length};
 ghost use Rattle.terms.specs.Term.{atom};
 ghost use Rattle.terms.specs.Table.{term};

@@ -2,6 +2,8 @@
 // `nghiralum_ask`, `nghiralum_judge`, `nghiralum_check` and `nghiralum_apart` answer for any bytes what the faces on words answer for the
 // words that they make, in one number, and leave the same words as bytes; a book, a schedule, a summary, a listing, what is asked or a
 // derivation that makes no whole words is refused before all else.
+#![tactic(auto)]
+
 ghost use Rattle.std.specs.Prelude.{◌≡◌};
 ghost use Rattle.translation.specs.Outcome.{came};
 ghost use Rattle.summary.specs.Reply.{reply_says};

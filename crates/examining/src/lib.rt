@@ -1,6 +1,8 @@
 // Derivations of authenticity types on bytes, low byte first: `check` is the verdict on one, and `apart` says whether a process keeps its
 // bound names apart, each of the words that the bytes make, in a room that the caller lends; bytes that make no whole words are refused
 // before all else.
+#![tactic(auto)]
+
 ghost use Rattle.std.specs.Prelude.{◌≡◌, ◌+◌, ◌/◌, ◌≤◌, length};
 ghost use Rattle.octets.specs.Octets.{words_in};
 ghost use Rattle.checking.specs.Large.{too_large};

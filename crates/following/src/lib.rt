@@ -1,6 +1,8 @@
 // Another translator's words, compared with ours. Our program is made step by step, in a buffer that has room for any step's words, and read
 // as a row of slots; theirs are followed as far as a one-to-one renaming of their placeholders can agree. `follow_words` compares any words
 // of ours with theirs from a place on, `follow_steps` all of a party's steps.
+#![tactic(auto)]
+
 ghost use Rattle.std.specs.Prelude.{◌≡◌, ◌<◌};
 ghost use Rattle.book.specs.Layout.{steps as steps_of};
 ghost use Rattle.renaming.specs.Renaming.{stands};

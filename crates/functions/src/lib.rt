@@ -1,5 +1,7 @@
 // What a request's number says: whose slices are of bytes, which function asks a question and which judges a listing, how many slices and
 // numbers follow, and how many bytes a slice has. The numbers are those of docs/CALLS.md.
+#![tactic(auto)]
+
 ghost use Rattle.std.specs.Prelude.{◌≡◌, ◌^◌, ◌≤◌, ◌<◌};
 ghost use Rattle.octets.specs.Octets.{word_at};
 ghost use Rattle.functions.specs.Functions.{on_bytes, asks, judges, slices_of, numbers_of, slice_size};

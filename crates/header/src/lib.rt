@@ -1,5 +1,7 @@
 // The header of any words: of refusals 2 and 3 each has a function that finds the first section that breaks its rule. No index leaves the
 // book and no sum wraps.
+#![tactic(auto)]
+
 ghost use Rattle.std.specs.Prelude.{◌≡◌, ◌+◌, ◌≤◌, length};
 ghost use Rattle.words.specs.First.{first};
 ghost use Rattle.book.specs.Layout.{header, sections};

@@ -2,6 +2,8 @@
 // at the start, `buildable` and `can_open` whether a row, and a key's partner, can be built; the `write_..` functions write images.
 // All of it is the meaning's own (translation/specs/Dictionary.antt), for a valid book. Where the partners' rows are is looked up in a
 // table, which `partners` makes once for the book.
+#![tactic(auto)]
+
 ghost use Rattle.std.specs.Prelude.{true, ◌≡◌, map, ◌+◌, ◌-◌, ◌≤◌, ◌<◌};
 ghost use Rattle.words.specs.Overlay.{Wrote};
 ghost use Rattle.terms.specs.Term.{partner};

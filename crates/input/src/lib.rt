@@ -1,4 +1,6 @@
 // A program's input: `fill` reads bytes and says how many came, never more than there is room for. Which bytes come is the system's.
+#![tactic(auto)]
+
 ghost use Rattle.std.specs.Prelude.{length};
 ghost use Rattle.input.specs.Input.{Within};
 

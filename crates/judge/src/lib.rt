@@ -2,6 +2,8 @@
 // refusal, refusal 22, or the verdict: ours up to a one-to-one renaming of its placeholders, or the smallest word at which no renaming can
 // agree. `judge_listing` is the same of a listing that is words and, behind them, the words that bytes make, either of which may be none: so
 // words and bytes are judged by one function, and neither is copied.
+#![tactic(auto)]
+
 ghost use Rattle.std.specs.Prelude.{◌≡◌};
 ghost use Rattle.translation.specs.Outcome.{Plays};
 ghost use Rattle.renaming.specs.Verdict.{verdict_says, judged};

@@ -1,5 +1,7 @@
 // The line that is printed of an answer: of a listing, of a refusal, and of a reading. `answer_line` and `reading_line` leave exactly
 // the line's bytes, decimal with single spaces and one newline at the end; `print` writes them out.
+#![tactic(auto)]
+
 ghost use Rattle.std.specs.Prelude.{◌≡◌, ◌+◌, ◌*◌, ◌<◌, ◌≤◌, length, take};
 ghost use Rattle.io.specs.Counts.{IsPrefixLen};
 ghost use Rattle.book.specs.Said.{refusal_says, reading_says, told_says};

@@ -2,6 +2,8 @@
 // a new run is free is seen by the range of their numbers so far and, inside it, by their own words. And what they call each of ours, which is
 // kept for the step at hand, and of the steps before for those that are stored: no other is used later. Their listing is words and, behind
 // them, the words that bytes make, either of which may be none.
+#![tactic(auto)]
+
 ghost use Rattle.std.specs.Prelude.{◌≡◌, [], false, ◌+◌, ◌-◌, ◌≤◌, ◌<◌, min, max, length, get_or, eqb};
 ghost use Rattle.words.specs.Choice.{pick};
 ghost use Rattle.words.specs.First.{first};

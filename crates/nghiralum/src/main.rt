@@ -1,5 +1,7 @@
 // The program: reads a book from the file that its argument names, or from standard input, and prints its listing or its refusal
 // on one line. `reply` leaves exactly the line's bytes, for any bytes that were read; the rest reads and prints.
+#![tactic(auto)]
+
 ghost use Rattle.std.specs.Prelude.{◌≡◌, ◌≤◌, length, take};
 ghost use Rattle.io.specs.Counts.{IsPrefixLen};
 ghost use Rattle.book.specs.Layout.{loaded_bytes};

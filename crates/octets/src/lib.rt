@@ -1,6 +1,8 @@
 // Words and bytes, low byte first. `is_uneven` is of bytes that make no whole words, `word_at` one of the words that bytes make, and `load`
 // lays them over lent words; `put_word` and `put_words` write words as bytes, each byte whose place is inside, and answer the next place,
 // also past the end.
+#![tactic(auto)]
+
 ghost use Rattle.std.specs.Prelude.{◌≡◌, [], ◌∷◌, ◌/◌, ◌≤◌, min, length, get_or, take};
 ghost use Rattle.words.specs.Overlay.{Wrote};
 ghost use Rattle.octets.specs.Octets.{word_of, words_in, uneven, bytes_of, bytes_of_all};

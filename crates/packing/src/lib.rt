@@ -1,6 +1,8 @@
 // An answer in one number, for callers in another language: the answer's number in 8 bits, its first value in 32, its second in 24. `pack`
 // is of a translation, a rehearsal or a summary, `pack_reply` of a question or of bound names, `pack_verdict` of a listing that was judged
 // and `pack_checked` of a derivation. Where a value may not fit 32 bits, the largest number that they hold is told.
+#![tactic(auto)]
+
 ghost use Rattle.std.specs.Prelude.{◌≡◌, min};
 ghost use Rattle.book.specs.Said.{told_says};
 ghost use Rattle.translation.specs.Outcome.{answer_says};

@@ -1,5 +1,7 @@
 // The parties and the steps of any words behind a header that is in order: of refusals 7 and 8 each has a function that finds the first place
 // that breaks its rule.
+#![tactic(auto)]
+
 ghost use Rattle.std.specs.Prelude.{◌≡◌, ◌+◌, ◌-◌, ◌≤◌, ◌<◌, leb, eqb};
 ghost use Rattle.words.specs.First.{any};
 ghost use Rattle.book.specs.Headed.{Headed};

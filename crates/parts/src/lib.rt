@@ -1,5 +1,7 @@
 // What a process's own words say: where its names, terms, types and effects stand, and the processes in it; whether two processes are
 // the same.
+#![tactic(auto)]
+
 ghost use Rattle.std.specs.Prelude.{◌≡◌, ◌+◌, ◌-◌, ◌≤◌, ◌<◌, [], drop, get_or};
 ghost use Rattle.typing.specs.Term.{same_term};
 ghost use Rattle.typing.specs.Types.{same_list, same_type, same_effects};

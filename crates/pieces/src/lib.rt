@@ -1,4 +1,6 @@
 // A process by its pieces: where its terms, its types, its effects and the process in it stand.
+#![tactic(auto)]
+
 ghost use Rattle.std.specs.Prelude.{◌≡◌, ◌+◌, ◌-◌, ◌≤◌, ◌<◌, length, drop, get_or};
 ghost use Rattle.typing.specs.Reading.{process_at};
 ghost use Rattle.shapes.specs.Shape.{Reads};

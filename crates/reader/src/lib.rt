@@ -1,6 +1,8 @@
 // The reader of any words. `read` answers the number and place of the first refusal of 1 to 9 that applies, or acceptance, as the
 // ordered table of book/specs/Refusals.antt has it; no index leaves the book and no sum wraps, whatever the words. The places are found in
 // header, rows, twins and parties.
+#![tactic(auto)]
+
 ghost use Rattle.std.specs.Prelude.{◌≡◌, ◌+◌, ◌*◌, ◌≤◌, min, drop};
 ghost use Rattle.book.specs.Headed.{Headed};
 ghost use Rattle.book.specs.Layout.{rows as rows_of, pool as pool_of, header, sections, rows_before};

@@ -1,6 +1,8 @@
 // Figure 3's R, opening first: what a party does with the terms that arrive at its placeholders. `receive_messages` and `receive` write the
 // CHECKs and OPENs, put what is stored behind the last in the log, and give back the dictionary afterwards. All of it is the
 // meaning's own (translation/specs/Receive.antt), for a valid book and the table of its partners.
+#![tactic(auto)]
+
 ghost use Rattle.std.specs.Prelude.{◌≡◌, ◌<◌};
 ghost use Rattle.words.specs.Overlay.{Wrote};
 ghost use Rattle.terms.specs.Table.{term};

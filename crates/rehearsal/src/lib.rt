@@ -1,5 +1,7 @@
 // The programs of a book played under a schedule. `rehearse` answers, for any words, any schedule and any lent words, the first
 // refusal of 1 to 12 that applies, or leaves the events done by each party of the plain machine; no other lent word changes.
+#![tactic(auto)]
+
 ghost use Rattle.std.specs.Prelude.{◌≡◌, [], ◌≤◌, ◌<◌, leb, length, get_or};
 ghost use Rattle.words.specs.First.{first};
 ghost use Rattle.words.specs.Run.{All, values};

@@ -1,6 +1,8 @@
 // Rehearsals and summaries into bytes, low byte first, through words between, of which there are as many as the output has room for, or as it
 // can have. `rehearse_words` and `summarize_words` answer as the faces on words do, and leave the same words as bytes; `ask_words` asks the
 // words that the bytes of a summary make.
+#![tactic(auto)]
+
 ghost use Rattle.std.specs.Prelude.{◌≡◌, ◌/◌, min, length};
 ghost use Rattle.octets.specs.Octets.{words_in};
 ghost use Rattle.translation.specs.Outcome.{came};

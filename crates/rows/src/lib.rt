@@ -1,5 +1,7 @@
 // The rows of any words behind a header that is in order: of refusals 4 and 5 each has a function that finds the first row that breaks its
 // rule. The rule of a list in the pool is one for rows, parties and steps.
+#![tactic(auto)]
+
 ghost use Rattle.std.specs.Prelude.{◌≡◌, ℕ, ◌+◌, ◌^◌, ◌≤◌, ◌<◌, leb, get_or};
 ghost use Rattle.words.specs.First.{first, any};
 ghost use Rattle.terms.specs.Table.{row_size};

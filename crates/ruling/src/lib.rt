@@ -1,4 +1,6 @@
 // Whether a line follows by its rule from the lines that it names: the rules of environments, effects, types and terms.
+#![tactic(auto)]
+
 ghost use Rattle.std.specs.Prelude.{◌≡◌, [], ◌∷◌, ◌+◌, ◌-◌, ◌≤◌, ◌<◌, length, drop, get_or, ◌&&◌};
 ghost use Rattle.std.proofs.Math.Option.{some};
 ghost use Rattle.typing.specs.Rule.{Rule};
@@ -19,7 +21,7 @@ use spans::{effects_end, environment_end, term_end, type_end};
 use words::word;
 
 // What a line names: the places of its environment, its subject, its type and its effects, and how many effects.
-#[derive(Drop)]
+#[derive(Clone, Copy)]
 pub struct Line {
     pub e: usize,
     pub s: usize,

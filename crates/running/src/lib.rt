@@ -1,4 +1,6 @@
 // Whether a line follows by its rule from the lines that it names: the rules of processes.
+#![tactic(auto)]
+
 ghost use Rattle.std.specs.Prelude.{◌≡◌, ◌&&◌, not, [], ◌∷◌, ◌+◌, ◌-◌, ◌≤◌, ◌<◌, length, drop, get_or};
 ghost use Rattle.typing.specs.Term.{mentions};
 ghost use Rattle.typing.specs.Bag.{bag};

@@ -1,6 +1,8 @@
 // A party's program, gone through word by word: what each word is says `Mode`, from what the word before it is. By that a word is compared as
 // it is, as a placeholder or as the first number of a run, and it hands out placeholders or none: the words are read as a row of slots
 // (renaming/specs/Slot.antt).
+#![tactic(auto)]
+
 ghost use Rattle.std.specs.Prelude.{◌≡◌};
 ghost use Rattle.scanning.specs.Scan.{more_pending, resumed, in_event, in_image, next_mode, class_of, run_of};
 
@@ -8,7 +10,7 @@ use book::{Code, ImageCode};
 use words::{Place, wide};
 
 // What the next word of a program is; with a number, so many images follow behind it.
-#[derive(Drop)]
+#[derive(Clone, Copy)]
 pub enum Mode {
     // An event's code.
     Event,

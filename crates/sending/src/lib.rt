@@ -1,6 +1,8 @@
 // Figure 3's S: what a party does to send a step's messages. `send` writes a NEW for each atom that has to be made, in building
 // order, then the SEND with its images, and tells how many atoms were made and where making them stops: at the first that can't
 // be made.
+#![tactic(auto)]
+
 ghost use Rattle.std.specs.Prelude.{◌≡◌, ◌≤◌, ◌<◌, length};
 ghost use Rattle.terms.specs.Table.{term, terms};
 ghost use Rattle.book.specs.Layout.{rows as rows_of, table, list_at};

@@ -1,5 +1,7 @@
 // Whether things that a line names are what a rule asks for: the same things, types that are made of others, environments with an entry
 // more. Things at one place are the same; else they are compared.
+#![tactic(auto)]
+
 ghost use Rattle.std.specs.Prelude.{◌≡◌, ◌∷◌, ◌+◌, ◌-◌, ◌≤◌, ◌<◌, length, drop, get_or};
 ghost use Rattle.std.proofs.Math.Option.{some};
 ghost use Rattle.typing.specs.Term.{same_term};

@@ -1,6 +1,8 @@
 // The program over the whole shelf of books: reads books from standard input, each with its count of words before it, and prints
 // of each the listing or the refusal, and what its rehearsal comes to under six schedules, a line for each. `lines_of` leaves exactly
 // the lines' bytes, for any bytes that were read of a book; the rest reads and prints.
+#![tactic(auto)]
+
 ghost use Rattle.std.specs.Prelude.{◌≡◌, ◌+◌, ◌*◌, ◌^◌, ◌≤◌, ◌<◌, length, take};
 ghost use Rattle.io.specs.Counts.{IsPrefixLen};
 ghost use Rattle.words.specs.Run.{values};

@@ -1,5 +1,7 @@
 // Where the things that words spell end: terms, effects, types, environments and processes of a derivation. Loops count what is still
 // to come, so that no nesting takes any stack.
+#![tactic(auto)]
+
 ghost use Rattle.std.specs.Prelude.{◌≡◌, ◌+◌, ◌-◌, ◌≤◌, ◌<◌, length, drop};
 ghost use Rattle.typing.specs.Reading.{term, effects, type_at, environment_at, process_at};
 ghost use Rattle.spans.specs.Behind.{Ends, rest_of, term_turn, type_own, type_parts, process_own, process_parts};

@@ -2,6 +2,8 @@
 // leaves the summary; no other lent word changes. `ask` answers from the words of a summary alone, whatever words they are: did the party
 // hold the row after the step? `find` says where the answer stands, by the summary's length and its first three words, wherever these lie;
 // `decide` is what the word there answers.
+#![tactic(auto)]
+
 ghost use Rattle.std.specs.Prelude.{◌≡◌, [], ◌∷◌, not, ◌+◌, ◌*◌, ◌≤◌, leb, eqb, get_or};
 ghost use Rattle.words.specs.Choice.{pick};
 ghost use Rattle.words.specs.Overlay.{Wrote};

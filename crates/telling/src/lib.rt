@@ -1,5 +1,7 @@
 // Answers that are no listings: a reply to a question, a verdict on a listing and what is found in a derivation. Each is asked of the bytes of
 // slices, as words and as bytes, and has a line; the functions of lines leave exactly its bytes.
+#![tactic(auto)]
+
 ghost use Rattle.std.specs.Prelude.{◌≡◌, ◌≤◌, length, take};
 ghost use Rattle.io.specs.Counts.{IsPrefixLen};
 ghost use Rattle.octets.specs.Octets.{words_in};

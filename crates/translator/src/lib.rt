@@ -2,6 +2,8 @@
 // leaves: the tables, the listing's heads and length, and where the programs' events stand. `translate` answers, for any words and any
 // lent words, the first refusal of 1 to 10, 13 and 12 that applies, or leaves the listing; no other lent word changes. `fit` is what a
 // translation answers for so much room; `accept` answers refusals 1 to 10 and 13, with no buffer.
+#![tactic(auto)]
+
 ghost use Rattle.std.specs.Prelude.{◌≡◌, ◌≤◌};
 ghost use Rattle.words.specs.Overlay.{Wrote};
 ghost use Rattle.book.specs.Valid.{Valid};

@@ -1,5 +1,7 @@
 // The hunt for a row that repeats an earlier one, refusal 6. Rows are chained by keys over their kind, tag and parts, so that a row is
 // compared with few others.
+#![tactic(auto)]
+
 ghost use Rattle.std.specs.Prelude.{◌≡◌, ◌<◌};
 ghost use Rattle.words.specs.First.{first};
 ghost use Rattle.book.specs.Headed.{Headed};

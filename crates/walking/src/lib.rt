@@ -2,6 +2,8 @@
 // can be asked of a party: its events' words, what it stores, where its SENDs and RECEIVEs stand, and what it holds and how. Who wants less
 // lends less: `measure` counts the words and notes the places, `write_program` writes the words, `hold` leaves what is held in the end.
 // `act` and `next_own` are the walk's parts: one step, and the way to the next.
+#![tactic(auto)]
+
 ghost use Rattle.std.specs.Prelude.{◌≡◌, ◌+◌, ◌≤◌, ◌<◌};
 ghost use Rattle.words.specs.Overlay.{Wrote};
 ghost use Rattle.book.specs.Layout.{steps as steps_of};

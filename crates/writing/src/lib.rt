@@ -1,5 +1,7 @@
 // The listing written as bytes, low byte first, with no listing of words between: each step's words go through a buffer that has room for
 // any step's. `translate_words` answers as `translator::translate` does, and leaves the same words as bytes.
+#![tactic(auto)]
+
 ghost use Rattle.std.specs.Prelude.{◌≡◌};
 ghost use Rattle.words.specs.Overlay.{Wrote};
 ghost use Rattle.octets.specs.Octets.{bytes_of_all};

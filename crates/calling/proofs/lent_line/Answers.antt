@@ -1,0 +1,32 @@
+-- `calling::lent_line` meets its contract: the words of the line are all that the lent bytes make (`loaded-words`).
+-- Assumes nothing.
+use Prim.Native.Nat.{◌≤◌}
+use mathlib.Core.Path.{refl, ◌∙◌, ap}
+use native.Mathlib.Omega.{arith}
+use lib.ListN.{length, length-take}
+use borrow.Author.Rules.{rules}
+use Rattle.octets.specs.Octets.Laws.{words-length, loaded-many}
+use Rattle.translation.specs.Outcome.{came}
+use Rattle.line.specs.Line.{line_of}
+use Rattle.telling.specs.Loaded.{loaded-words}
+use Rattle.calling.proofs.lent_line.Goals as goal
+
+pub slice_bounds-words-end : goal.slice_bounds-words-end
+slice_bounds-words-end c = omega (arith, few (search))
+
+pub slice_bounds-answer_line-end : goal.slice_bounds-answer_line-end
+slice_bounds-answer_line-end c = simp length-take (omega (arith, few (search)))
+
+-- and is as many words as the bytes make
+pub answer_line-requires : goal.answer_line-requires
+answer_line-requires c = let lent = c.args.lent.now in
+    let all = loaded-words lent refl c.load-n.ensures c.requires.0 in
+    let many = ap length all ∙ words-length lent in
+    (omega arith, omega (arith, c.requires.1), rw many c.requires.2)
+
+pub returns : goal.returns
+returns c = let args = c.args in
+    let (counts, line) = c.answer_line.ensures in
+    let lent = args.lent.now in
+    let all = loaded-words lent refl c.load-n.ensures c.requires.0 in
+    (counts, line ∙ ap (λ ws. line_of (came args.answer ws)) all)

@@ -1,0 +1,48 @@
+-- `calling::loaded_line` meets its contract: what is called are the words that the bytes of each slice make, all of
+-- them (`loaded-words`). Assumes nothing.
+use Prim.Native.Nat.{◌≤◌}
+use mathlib.Core.Path.{refl, sym, ◌∙◌}
+use native.Mathlib.Omega.{arith}
+use lib.Seq.{length-take-le}
+use borrow.Author.Rules.{rules}
+use Rattle.octets.specs.Octets.Laws.{loaded-many}
+use Rattle.telling.specs.Loaded.{loaded-words}
+use Rattle.calling.specs.Call.Laws.{front-few, words-loaded}
+use Rattle.calling.proofs.loaded_line.Goals as goal
+
+pub slice_bounds-a-end : goal.slice_bounds-a-end
+slice_bounds-a-end c = omega (arith, first-few (search))
+
+pub slice_bounds-words_line-end : goal.slice_bounds-words_line-end
+slice_bounds-words_line-end c = sym (length-take-le _ _ (array-share-prefix-a (search)))
+
+pub slice_bounds-b-end : goal.slice_bounds-b-end
+slice_bounds-b-end c = omega (arith, second-few (search))
+
+pub slice_bounds-words_line-end-2 : goal.slice_bounds-words_line-end-2
+slice_bounds-words_line-end-2 c = sym (length-take-le _ _ (array-borrow-prefix-b (search)))
+
+pub slice_bounds-c-end : goal.slice_bounds-c-end
+slice_bounds-c-end c = omega (arith, third-few (search))
+
+pub slice_bounds-words_line-end-3 : goal.slice_bounds-words_line-end-3
+slice_bounds-words_line-end-3 c = sym (length-take-le _ _ (array-borrow-prefix-c (search)))
+
+pub words_line-requires : goal.words_line-requires
+words_line-requires c = let (known, _, _, _, room) = c.requires in (
+  known,
+  front-few _ _ (second-few (search)),
+  front-few _ _ (third-few (search)),
+  room,
+)
+
+-- each slice's words are those of its own bytes
+pub returns : goal.returns
+returns c = let args = c.args in
+    let (counts, line) = c.words_line.ensures in
+    let (_, few, few2, few3, _) = c.requires in
+    let a = loaded-words _ refl c.load-l.ensures few in
+    let b = loaded-words _ refl c.load-m.ensures few2 in
+    let c = loaded-words _ refl c.load-n.ensures few3 in
+    let all = words-loaded args.function args.first.now args.second.now args.third.now in
+    (counts, line ∙ all a b c)

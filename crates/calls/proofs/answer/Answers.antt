@@ -1,0 +1,36 @@
+-- `calls::answer` meets its contract: no more bytes came of a slice than there was room for. Assumes nothing.
+use Prim.Native.Nat.{◌≤◌}
+use mathlib.Core.Path.{sym}
+use native.Mathlib.Omega.{arith}
+use lib.Seq.{length-take-le}
+use borrow.Author.Rules.{rules}
+use Rattle.input.specs.Input.Laws.{within-bytes}
+use Rattle.calling.specs.Call.Laws.{front-few}
+use Rattle.calls.proofs.answer.Goals as goal
+
+pub slice_bounds-first-end : goal.slice_bounds-first-end
+slice_bounds-first-end c = omega (arith, first-few (search))
+
+pub slice_bounds-call_line-end-2 : goal.slice_bounds-call_line-end-2
+slice_bounds-call_line-end-2 c = sym (length-take-le _ _ (array-share-prefix-first (search)))
+
+pub slice_bounds-second-end : goal.slice_bounds-second-end
+slice_bounds-second-end c = omega (arith, second-few (search))
+
+pub slice_bounds-call_line-end-3 : goal.slice_bounds-call_line-end-3
+slice_bounds-call_line-end-3 c = sym (length-take-le _ _ (array-borrow-prefix-second (search)))
+
+pub slice_bounds-third-end : goal.slice_bounds-third-end
+slice_bounds-third-end c = omega (arith, third-few (search))
+
+pub slice_bounds-call_line-end-4 : goal.slice_bounds-call_line-end-4
+slice_bounds-call_line-end-4 c = sym (length-take-le _ _ (array-borrow-prefix-third (search)))
+
+pub call_line-end-requires : goal.call_line-end-requires
+call_line-end-requires c = (
+  c.requires,
+  front-few _ _ (first-few (search)),
+  front-few _ _ (second-few (search)),
+  front-few _ _ (third-few (search)),
+  search rules,
+)

@@ -1,0 +1,25 @@
+-- `checking::too_large` meets its contract: no line before i states too many effects. Assumes nothing.
+use Prim.Native.Nat.{◌-◌}
+use mathlib.Core.Path.{◌∙◌}
+use borrow.Author.Rules.{rules}
+use native.Mathlib.Omega.{arith}
+use Rattle.checking.specs.Large.Laws.{lines-word, count_word, large-lines, Scan, scan-begin, scan-found, scan-again, scan-done}
+use Rattle.checking.proofs.too_large.Goals as goal
+
+pub returns-then-lines-gt-LINES : goal.returns-then-lines-gt-LINES
+returns-then-lines-gt-LINES c = large-lines _ _ (lines-word _ _ c.word-lines.ensures) c.if-lines-gt-LINES.true
+
+pub loop-i-init : goal.loop-i-init
+loop-i-init c = scan-begin _ _ (c.wide-n.ensures.0 ∙ lines-word _ _ c.word-lines.ensures) (omega arith)
+
+-- the first line that states too many
+pub returns-then-effects-gt-EFFECTS : goal.returns-then-effects-gt-EFFECTS
+returns-then-effects-gt-EFFECTS c = scan-found _ _ _ c.loop-i.invariant c.loop-i-test.true _ (count_word _ _ _ c.word-effects.ensures)
+    c.if-effects-gt-EFFECTS.true
+
+pub loop-i-preserved : goal.loop-i-preserved
+loop-i-preserved c = scan-again _ _ _ c.loop-i.invariant c.loop-i-test.true _ (count_word _ _ _ c.word-effects.ensures)
+    c.if-effects-gt-EFFECTS.false
+
+pub returns : goal.returns
+returns c = search scan-done

@@ -1,0 +1,37 @@
+-- `choosing::is_there` meets its contract: the environment, and what else a line of that kind names. Assumes nothing.
+use Prim.Native.Nat.{ℕ}
+use borrow.Author.Rules.{rules}
+use mathlib.Core.Bool.{Bool}
+use mathlib.Core.Path.{◌≡◌, refl}
+use Rattle.choosing.specs.Choose.{is_there}
+use Rattle.choosing.specs.Choose.Tests.{besides, reads_end, there-none, there-at, there-other}
+use Rattle.choosing.proofs.is_there.Goals as goal
+use Rattle.choosing.proofs.is_there.Goals.{Else-environment_end-eq0}
+
+-- a line of the kind of number m, behind the test of its environment
+module _ (c : Else-environment_end-eq0) where
+  of-kind : (m : ℕ) (b : Bool) → c.args.kind ≡ m → b ≡ besides m c.args.w.now c.args.l
+      → b ≡ is_there c.args.kind c.args.w.now c.args.l
+  of-kind m b e t =
+      there-at _ _ _ _ _ c.environment_end.ensures c.if-environment_end-eq0.false m e t
+
+pub returns-then-environment_end-eq0 : goal.returns-then-environment_end-eq0
+returns-then-environment_end-eq0 c = search there-none
+
+pub returns-then-kind-eq1 : goal.returns-then-kind-eq1
+returns-then-kind-eq1 c = of-kind (goal.at.returns-then-kind-eq1 c).Else-environment_end-eq0 1 _ (search) refl
+
+pub returns-then-kind-eq2 : goal.returns-then-kind-eq2
+returns-then-kind-eq2 c = of-kind (goal.at.returns-then-kind-eq2 c).Else-environment_end-eq0 2 _ (search) (reads_end _ _ _ _ c.type_end.ensures)
+
+pub returns-then-kind-eq3 : goal.returns-then-kind-eq3
+returns-then-kind-eq3 c = of-kind (goal.at.returns-then-kind-eq3 c).Else-environment_end-eq0 3 _ (search) c.effects_there.ensures
+
+pub returns-then-kind-eq4 : goal.returns-then-kind-eq4
+returns-then-kind-eq4 c = of-kind (goal.at.returns-then-kind-eq4 c).Else-environment_end-eq0 4 _ (search) c.term_there.ensures
+
+pub returns-then-kind-eq5 : goal.returns-then-kind-eq5
+returns-then-kind-eq5 c = of-kind (goal.at.returns-then-kind-eq5 c).Else-environment_end-eq0 5 _ (search) c.process_there.ensures
+
+pub returns : goal.returns
+returns c = search there-other

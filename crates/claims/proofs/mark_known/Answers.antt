@@ -1,0 +1,45 @@
+-- `claims::mark_known` meets its contract: row by row, the known rows passed are marked. Assumes nothing.
+use Rattle.claims.proofs.Passed.{Knows, knows_start, known-inside, known-low, knows_on, knows-end}
+use mathlib.Core.Path.{refl}
+use Rattle.claims.specs.Marked.{Ready}
+use Rattle.book.specs.Headed.Laws.{valid-headed}
+use Prim.Native.Nat.{◌-◌}
+use borrow.Author.Rules.{rules}
+use native.Mathlib.Omega.{arith}
+use Rattle.claims.proofs.mark_known.Goals as goal
+
+pub party_first-first-requires : goal.party_first-first-requires
+party_first-first-requires c = search (valid-headed, rules)
+
+pub party_count-n-requires : goal.party_count-n-requires
+party_count-n-requires c = search (valid-headed, rules)
+
+-- no row is marked before the first
+pub loop-j-init : goal.loop-j-init
+loop-j-init c = let (valid, ready, inside) = c.requires in
+    (knows_start {l = c.args.since.now} ready.sized, ready)
+
+pub pooled-requires : goal.pooled-requires
+pooled-requires c = search (valid-headed, known-inside, rules)
+
+-- what a party knows is a row
+pub mark-requires : goal.mark-requires
+mark-requires c = (
+  search rules,
+  search rules,
+  let (valid, ready, inside) = c.requires in
+      known-low c.party_first-first.ensures.0 c.party_count-n.ensures.0 valid inside
+      c.loop-j-test.true c.pooled.ensures,
+  omega arith,
+)
+
+-- the next row is marked, and with 1
+pub loop-j-preserved : goal.loop-j-preserved
+loop-j-preserved c = (
+  knows_on c.loop-j-test.true c.pooled.ensures c.loop-j.invariant.0
+      c.mark.ensures.0 refl,
+  c.mark.ensures.1,
+)
+
+pub returns : goal.returns
+returns c = search (knows-end, rules)

@@ -1,0 +1,34 @@
+-- `editor::translate` meets its contract: bytes that make whole words are loaded, and so many of them are enough
+-- (`long-book`). Assumes nothing.
+use Prim.Native.Nat.{◌≤◌}
+use mathlib.Core.Path.{refl, sym, ap, ◌∙◌}
+use mathlib.Core.List.{List}
+use Prim.Native.Nat.{ℕ}
+use native.Mathlib.Omega.{arith}
+use lib.ListN.{length-take}
+use borrow.Author.Rules.{rules}
+use Rattle.octets.specs.Octets.{words_in}
+use Rattle.octets.specs.Octets.Laws.{loaded-many, loaded-front}
+use Rattle.book.specs.Layout.{loaded}
+use Rattle.writing.specs.Translated.{translated}
+use Rattle.editor.specs.Bytes.Laws.{of-whole, of-odd, long-book}
+use Rattle.editor.proofs.translate.Goals as goal
+
+-- the bytes are no multiple of four
+pub returns-then-is_uneven : goal.returns-then-is_uneven
+returns-then-is_uneven c = sym (of-odd c.args.book.now c.args.out.now (sym c.is_uneven.ensures ∙ c.if-is_uneven.true))
+
+pub slice_bounds-words-end : goal.slice_bounds-words-end
+slice_bounds-words-end c = omega (arith, few (search))
+
+pub slice_bounds-translate_words-end : goal.slice_bounds-translate_words-end
+slice_bounds-translate_words-end c = simp length-take (omega (arith, few (search)))
+
+-- they are, and the words that were loaded are as good as all
+pub returns : goal.returns
+returns c = let bytes = c.args.book.now in
+    let out = c.args.out.now in
+    c.translate_words.ensures
+    ∙ ap (λ (b : List ℕ). translated b out) (loaded-front bytes refl c.load-n.ensures (omega arith))
+    ∙ long-book (words_in bytes) (words_in bytes) out
+    ∙ sym (of-whole bytes out (sym c.is_uneven.ensures ∙ c.if-is_uneven.false))

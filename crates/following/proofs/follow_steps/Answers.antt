@@ -1,0 +1,66 @@
+-- `following::follow_steps` meets its contract: the steps before the party's next one agree (`Stepped`), and each turn
+-- compares one step.
+-- Assumes nothing.
+use Prim.Native.Nat.{◌-◌, ◌<◌}
+use mathlib.Core.Bool.{true}
+use mathlib.Core.Path.{◌≡◌, refl, sym, ◌∙◌}
+use native.Mathlib.Omega.{arith}
+use borrow.Author.Rules.{rules}
+use borrow.Author.Tests.{not-true, not-false}
+use Rattle.book.specs.Layout.{steps}
+use Rattle.book.specs.Headed.Laws.{valid-headed, few-steps}
+use Rattle.naming.specs.Mirror.{theirs}
+use Rattle.following.specs.Stepping.{Stepped}
+use Rattle.following.specs.Stepping.Step.{stepped_start, stepped-skip, steps-broken, steps_all}
+use Rattle.following.proofs.follow_steps.Goals as goal
+use Rattle.following.proofs.follow_steps.Goals.{In-loop-i}
+
+-- the loop runs while there are steps
+module _ (c : In-loop-i) where
+  more : c.loop-i.i < steps c.args.book.now
+  more = omega arith
+
+  few : c.loop-i.i < 64
+  few = omega (arith, few-steps, more)
+
+pub steps-n-requires : goal.steps-n-requires
+steps-n-requires c = search valid-headed
+
+-- before its first step the party holds what it knows
+pub loop-i-init : goal.loop-i-init
+loop-i-init c = (
+  stepped_start c.requires.0.valid (search rules) c.start-entries.ensures c.next_own-i.ensures
+      c.requires.1,
+  refl,
+)
+
+pub follow_step-reached-requires : goal.follow_step-reached-requires
+follow_step-reached-requires c = (more (goal.at.follow_step-reached-requires c).In-loop-i, (start (goal.at.follow_step-reached-requires c).In-loop-i).pre.0.partners, (at-loop (goal.at.follow_step-reached-requires c).In-loop-i).loop.inv.0)
+
+-- the step doesn't agree
+pub returns-then-not-reached : goal.returns-then-not-reached
+returns-then-not-reached c = let then1 : in-steps tie.Then1 = c in (
+  steps-broken c.follow_step-reached.ensures (not-true _ then1.if1.taken),
+  c.follow_step-reached.ensures.buffers,
+)
+
+pub overflow_add-i : goal.overflow_add-i
+overflow_add-i c = omega (arith, few (goal.at.overflow_add-i c).In-loop-i)
+
+-- behind the step there are steps, or their end
+pub next_own-i-requires-in-loop-i : goal.next_own-i-requires-in-loop-i
+next_own-i-requires-in-loop-i c = let in-loop = followed-in (goal.at.next_own-i-requires-in-loop-i c).After-follow_step-reached in
+    ((start in-loop).pre.0.valid, omega (arith, more in-loop))
+
+-- it agrees
+pub loop-i-preserved : goal.loop-i-preserved
+loop-i-preserved c = let whole = not-false _ c.if-not-reached.false in
+    (stepped-skip c.next_own-i-in-loop-i.ensures (c.follow_step-reached.ensures.all whole), whole)
+
+-- there is no step left
+pub returns : goal.returns
+returns c = (
+  steps_all c.steps-n.ensures c.loop-i-test.false c.loop-i.invariant.0
+      c.loop-i.invariant.1,
+  c.loop-i.invariant.0.buffers,
+)

@@ -1,0 +1,18 @@
+-- `following::follow_words` meets its contract: ours are compared up to a word (`UpTo`), and each turn goes a word on.
+-- Assumes nothing.
+use Prim.Native.Nat.{◌+◌, ◌-◌, ◌<◌}
+use mathlib.Core.Path.{refl, sym, ◌∙◌}
+use lib.ListN.{length}
+use borrow.Author.Rules.{rules}
+use borrow.Author.Tests.{not-true, not-false}
+use native.Mathlib.Omega.{arith}
+use Rattle.naming.specs.Mirror.{theirs}
+use Rattle.following.specs.Agreeing.{UpTo}
+use Rattle.following.specs.Agreeing.Following.{up_start, up-ready, up-off, up-there, up_fits, up-on, up-end}
+use Rattle.following.proofs.follow_words.Given as goal
+
+abbrev pub invariant-loop-k : goal.invariant-loop-k
+invariant-loop-k l = UpTo (theirs l.words l.bytes) l.ours l.place l.k l.at l.mode l.begin l.filled l.table l.log l.n l.called l.range.low l.range.high
+
+abbrev pub decreases-loop-k : goal.decreases-loop-k
+decreases-loop-k l = l.count - l.k

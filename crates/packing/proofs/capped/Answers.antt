@@ -1,0 +1,16 @@
+-- `packing::capped` meets its contract: by the number of values, each of which is capped. Assumes nothing.
+use mathlib.Core.List.{[], ◌∷◌}
+use mathlib.Core.Path.{sym, ap, ap₂, ◌∙◌}
+use borrow.Author.Rules.{rules}
+use Rattle.book.specs.Said.{said, told_says}
+use Rattle.packing.specs.Packed.{capped as capped_of}
+use Rattle.packing.proofs.capped.Goals as goal
+
+pub returns-in-One : goal.returns-in-One
+returns-in-One c = ap (λ v. said c.told-1.given.0.0 (v ∷ [])) c.cap.ensures
+    ∙ sym (ap (λ t. capped_of (told_says t)) c.told-1.given.1)
+
+pub returns-in-Two : goal.returns-in-Two
+returns-in-Two c = ap₂ (λ v w. said c.told-in-Two-1.given.0.0 (v ∷ w ∷ [])) c.cap-in-Two.ensures
+    c.cap-in-Two-2.ensures
+    ∙ sym (ap (λ t. capped_of (told_says t)) c.told-in-Two-1.given.1)

@@ -1,0 +1,54 @@
+-- `packing::pack_told` meets its contract: by the number of values, each of which fits its bits. Assumes nothing.
+use Prim.Native.Nat.{ℕ, ◌<◌}
+use mathlib.Core.List.{[], ◌∷◌}
+use mathlib.Core.Path.{refl, sym, ap, ◌∙◌}
+use native.Mathlib.Omega.{arith}
+use borrow.Author.Rules.{rules}
+use Rattle.book.specs.Said.{said, told_says}
+use Rattle.packing.specs.Packed.{pack, Packs}
+use Rattle.packing.proofs.pack_told.Goals as goal
+use Rattle.packing.proofs.pack_told.Goals.{In-One-2, In-Two-2}
+
+-- the bounds of one value, and of two
+one-bounds : {n v : ℕ} → Packs (said n (v ∷ [])) → (n < 256) × (v < 4294967296)
+one-bounds (Packs.one ln lv) = (ln, lv)
+
+two-bounds : {n v w : ℕ} → Packs (said n (v ∷ w ∷ [])) → (n < 256) × (v < 4294967296) × (w < 16777216)
+two-bounds (Packs.two ln lv lw) = (ln, lv, lw)
+
+-- the values of one
+module _ (c : In-One-2) where
+  one : (c.told-1.given.0.0 < 256) × (c.told-1.given.0.1.0 < 4294967296)
+  one = one-bounds (rw c.told-1.given.1 at c.requires)
+
+-- and of two
+module _ (c : In-Two-2) where
+  two : (c.told-in-Two-1.given.0.0 < 256) × (c.told-in-Two-1.given.0.1.0 < 4294967296)
+      × (c.told-in-Two-1.given.0.1.1.0 < 16777216)
+  two = two-bounds (rw c.told-in-Two-1.given.1 at c.requires)
+
+pub overflow_mul-result : goal.overflow_mul-result
+overflow_mul-result c = omega (arith, one (goal.at.overflow_mul-result c).In-One-2)
+
+pub overflow_add-result : goal.overflow_add-result
+overflow_add-result c = omega (arith, one (goal.at.overflow_add-result c).In-One-2)
+
+pub overflow_mul-result-in-Two : goal.overflow_mul-result-in-Two
+overflow_mul-result-in-Two c = omega (arith, two (goal.at.overflow_mul-result-in-Two c).In-Two-2)
+
+pub overflow_add-result-in-Two : goal.overflow_add-result-in-Two
+overflow_add-result-in-Two c = omega (arith, two (goal.at.overflow_add-result-in-Two c).In-Two-2)
+
+pub overflow_mul-result-in-Two-2 : goal.overflow_mul-result-in-Two-2
+overflow_mul-result-in-Two-2 c = omega (arith, two (goal.at.overflow_mul-result-in-Two-2 c).In-Two-2)
+
+pub overflow_add-result-in-Two-2 : goal.overflow_add-result-in-Two-2
+overflow_add-result-in-Two-2 c = omega (arith, two (goal.at.overflow_add-result-in-Two-2 c).In-Two-2)
+
+pub returns-in-One : goal.returns-in-One
+unfolding pack
+returns-in-One c = omega arith ∙ sym (ap (λ t. pack (told_says t)) c.told-1.given.1)
+
+pub returns-in-Two : goal.returns-in-Two
+unfolding pack
+returns-in-Two c = refl ∙ sym (ap (λ t. pack (told_says t)) c.told-in-Two-1.given.1)

@@ -1,0 +1,14 @@
+-- `packing::told_finding` meets its contract: by the finding, whose number and values are told as they stand. Assumes
+-- nothing.
+use mathlib.Core.Path.{sym, ap}
+use borrow.Author.Rules.{rules}
+use Rattle.examining.specs.Checked.{found_says}
+use Rattle.packing.proofs.told_finding.Goals as goal
+
+-- a bad line
+pub returns-in-Bad : goal.returns-in-Bad
+returns-in-Bad c = ap found_says (sym c.finding-1.given.1)
+
+-- a count
+pub returns-in-Refused : goal.returns-in-Refused
+returns-in-Refused c = ap found_says (sym c.finding-in-Refused-1.given.1)

@@ -1,0 +1,62 @@
+-- `receiving::begin` meets its contract: a row that is opened goes on with what its contents leave, and a row that is
+-- settled leaves nothing. Assumes nothing.
+use mathlib.Core.Path.{sym, ◌∙◌}
+use native.Mathlib.Omega.{arith}
+use borrow.Author.Rules.{rules}
+use Rattle.book.specs.Headed.Laws.{valid-headed}
+use Rattle.receiving.proofs.Beginning.{begun-cipher, begun-key, begun-low, begun-ready, begun_opened, begun-settled}
+use Rattle.receiving.proofs.begin.Goals as goal
+use Rattle.receiving.proofs.begin.Goals.{After-opens}
+
+-- where the row was tested
+module _ (c : After-opens) where
+
+pub opens-requires : goal.opens-requires
+opens-requires c = (search rules, search rules, search rules)
+
+-- the row opens, so it is a cipher
+pub put_open-last-requires : goal.put_open-last-requires
+put_open-last-requires c = let ready = c.requires in
+    (ready.valid, ready.partners, ready.row, begun-cipher ready c.opens.ensures c.if-opens.true)
+
+pub row_first-first-requires : goal.row_first-first-requires
+row_first-first-requires c = search (valid-headed, rules)
+
+pub row_count-left-requires : goal.row_count-left-requires
+row_count-left-requires c = search (valid-headed, rules)
+
+-- and has a key
+pub overflow_sub-left : goal.overflow_sub-left
+overflow_sub-left c = begun-key c.requires c.opens.ensures c.if-opens.true c.row_count-left.ensures.0
+
+-- there is room for its contents' placeholders
+pub overflow_add-next : goal.overflow_add-next
+overflow_add-next c = let low = begun-low c.requires c.opens.ensures c.if-opens.true
+    c.row_first-first.ensures.0 c.row_count-left.ensures.0 c.narrow.ensures in
+    omega (arith, low)
+
+pub settle_run-requires : goal.settle_run-requires
+settle_run-requires c = begun-ready c.requires c.opens.ensures c.if-opens.true c.row_first-first.ensures.0
+    c.row_count-left.ensures.0 c.narrow.ensures c.put_open-last.result
+
+-- what its contents leave
+pub returns-then-opens : goal.returns-then-opens
+returns-then-opens c = begun_opened (start (goal.at.returns-then-opens c).After-opens).pre c.opens.ensures c.if-opens.true
+    c.row_first-first.ensures.0 c.row_count-left.ensures.0 c.narrow.ensures
+    c.put_open-last.ensures c.settle_run.ensures
+
+-- it doesn't open
+pub settle-settled-requires : goal.settle-settled-requires
+settle-settled-requires c = let ready = c.requires in
+    record {
+      valid = ready.valid;
+      row = ready.row;
+      low = ready.low;
+      timely = ready.timely;
+      shut = sym c.opens.ensures ∙ c.if-opens.false;
+      size = ready.size;
+    }
+
+-- and nothing is left
+pub returns : goal.returns
+returns c = begun-settled c.requires c.opens.ensures c.settle-settled.ensures (omega arith)

@@ -1,0 +1,12 @@
+-- `ruling::by_empty` meets its contract: there is no entry. Assumes nothing.
+use borrow.Author.Rules.{rules}
+use mathlib.Core.Path.{◌∙◌, ap}
+use lib.Dec.{eqb}
+use Rattle.ruling.specs.Line.{says_environment}
+use Rattle.shapes.specs.Shape.Laws.{is_none}
+use Rattle.ruling.specs.Rules.First.{empty}
+use Rattle.ruling.proofs.by_empty.Goals as goal
+
+pub returns : goal.returns
+unfolding says_environment
+returns c = empty _ _ (ap (λ n. eqb n 1) c.word.ensures ∙ is_none _ _ c.requires.environment)

@@ -1,0 +1,28 @@
+-- `running::by_out` meets its contract: the process by its pieces, and its premises. Assumes nothing.
+use borrow.Author.Rules.{rules}
+use Rattle.ruling.specs.Line.{says_process, says_term}
+use Rattle.shapes.specs.Shape.{made_type}
+use Rattle.running.specs.Rules.Laws.{out, out-other}
+use Rattle.running.specs.Rules.Pieces.{OutAt, out_at, other_word}
+use Rattle.running.proofs.by_out.Goals as goal
+use Rattle.running.proofs.by_out.Goals.{Else-c-ne2}
+
+-- the process by its pieces
+module _ (c : Else-c-ne2) where
+  pieces : OutAt c.args.w.now c.args.i.s c.pieces_of-p.result
+  pieces = search out_at
+
+pub returns-then-c-ne2 : goal.returns-then-c-ne2
+returns-then-c-ne2 c = search (out-other, other_word)
+
+pub term_premise-a-requires : goal.term_premise-a-requires
+term_premise-a-requires c = let made = pieces (goal.at.term_premise-a-requires c).Else-c-ne2 in search rules
+
+pub term_premise-b-requires : goal.term_premise-b-requires
+term_premise-b-requires c = let made = pieces (goal.at.term_premise-b-requires c).Else-c-ne2 in search rules
+
+pub process_premise-d-requires : goal.process_premise-d-requires
+process_premise-d-requires c = let made = pieces (goal.at.process_premise-d-requires c).Else-c-ne2 in search rules
+
+pub returns : goal.returns
+returns c = let made = pieces (goal.at.returns c).Else-c-ne2 in search out

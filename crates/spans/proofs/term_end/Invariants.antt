@@ -1,0 +1,15 @@
+-- `spans::term_end` meets its contract: what is read from the place a ends where what is still due from the place i
+-- on does.
+-- Assumes nothing.
+use Prim.Native.Nat.{◌-◌}
+use lib.ListN.{length}
+use borrow.Author.Rules.{rules}
+use native.Mathlib.Omega.{arith}
+use Rattle.spans.specs.Behind.Laws.{Terms, terms-begin, terms-past, terms-none, terms-short, terms-again, terms-done}
+use Rattle.spans.proofs.term_end.Given as goal
+
+abbrev pub invariant-loop-due : goal.invariant-loop-due
+invariant-loop-due l = Terms l.w l.a l.i l.due
+
+abbrev pub decreases-loop-due : goal.decreases-loop-due
+decreases-loop-due l = length l.w - l.i

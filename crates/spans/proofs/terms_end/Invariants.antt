@@ -1,0 +1,13 @@
+-- `spans::terms_end` meets its contract: of k things from the place a, j are behind the place i. Assumes nothing.
+use Prim.Native.Nat.{◌-◌}
+use borrow.Author.Rules.{rules}
+use native.Mathlib.Omega.{arith}
+use Rattle.spans.specs.Behind.{skip_term}
+use Rattle.spans.specs.Behind.Times.{Walk, walk-begin, walk_none, walk-again, walk-done}
+use Rattle.spans.proofs.terms_end.Given as goal
+
+abbrev pub invariant-loop-j : goal.invariant-loop-j
+invariant-loop-j l = Walk skip_term l.w l.a l.k l.i l.j
+
+abbrev pub decreases-loop-j : goal.decreases-loop-j
+decreases-loop-j l = l.k - l.j

@@ -1,0 +1,16 @@
+-- `spans::type_end` meets its contract: what is read from the place a ends where what is still due from the place i
+-- on does.
+-- Assumes nothing.
+use Prim.Native.Nat.{◌-◌}
+use lib.ListN.{length}
+use borrow.Author.Rules.{rules}
+use native.Mathlib.Omega.{arith}
+use Rattle.spans.specs.Behind.Laws.{ends_at}
+use Rattle.spans.specs.Behind.Types.{Walk, walk-begin, walk-past, walk_none, walk-again, walk-done}
+use Rattle.spans.proofs.type_end.Given as goal
+
+abbrev pub invariant-loop-due : goal.invariant-loop-due
+invariant-loop-due l = Walk l.w l.a l.i l.due
+
+abbrev pub decreases-loop-due : goal.decreases-loop-due
+decreases-loop-due l = length l.w - l.i

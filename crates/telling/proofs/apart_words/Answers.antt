@@ -1,0 +1,26 @@
+-- `telling::apart_words` meets its contract: what is asked are all the words that the bytes make (`loaded-words`). Assumes
+-- nothing.
+use Prim.Native.Nat.{◌≤◌}
+use mathlib.Core.Path.{refl, sym, ap, ◌∙◌}
+use native.Mathlib.Omega.{arith}
+use lib.Seq.{length-take-le}
+use borrow.Author.Rules.{rules}
+use Rattle.octets.specs.Octets.Laws.{loaded-many}
+use Rattle.typing.specs.Apart.{keeps_apart}
+use Rattle.examining.specs.Checked.Laws.{said-apart, said-not-apart}
+use Rattle.telling.specs.Loaded.{loaded-words}
+use Rattle.telling.proofs.apart_words.Goals as goal
+
+pub slice_bounds-a-end : goal.slice_bounds-a-end
+slice_bounds-a-end c = omega (arith, few (search))
+
+pub slice_bounds-keeps_apart-end : goal.slice_bounds-keeps_apart-end
+slice_bounds-keeps_apart-end c = sym (length-take-le _ _ (array-share-prefix-a (search)))
+
+pub returns-then-keeps_apart : goal.returns-then-keeps_apart
+returns-then-keeps_apart c = let all = loaded-words c.args.asked.now refl c.load-n.ensures c.requires in
+    said-apart (c.keeps_apart.ensures ∙ ap keeps_apart all) c.if-keeps_apart.true
+
+pub returns : goal.returns
+returns c = let all = loaded-words c.args.asked.now refl c.load-n.ensures c.requires in
+    said-not-apart (c.keeps_apart.ensures ∙ ap keeps_apart all) c.if-keeps_apart.false

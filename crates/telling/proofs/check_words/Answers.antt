@@ -1,0 +1,29 @@
+-- `telling::check_words` meets its contract: what is checked are all the words that the bytes of both make
+-- (`loaded-words`). Assumes nothing.
+use Prim.Native.Nat.{◌≤◌}
+use mathlib.Core.Path.{refl, sym, ap, ◌∙◌}
+use native.Mathlib.Omega.{arith}
+use lib.Seq.{length-take-le}
+use borrow.Author.Rules.{rules}
+use Rattle.octets.specs.Octets.Laws.{loaded-many}
+use Rattle.examining.specs.Checked.{verdict_said}
+use Rattle.telling.specs.Loaded.{loaded-words, checks-loaded}
+use Rattle.telling.proofs.check_words.Goals as goal
+
+pub slice_bounds-a-end : goal.slice_bounds-a-end
+slice_bounds-a-end c = omega (arith, asked-few (search))
+
+pub slice_bounds-check-end : goal.slice_bounds-check-end
+slice_bounds-check-end c = sym (length-take-le _ _ (array-share-prefix-a (search)))
+
+pub slice_bounds-d-end : goal.slice_bounds-d-end
+slice_bounds-d-end c = omega (arith, derivation-few (search))
+
+pub slice_bounds-check-end-2 : goal.slice_bounds-check-end-2
+slice_bounds-check-end-2 c = sym (length-take-le _ _ (array-share-prefix-d (search)))
+
+pub returns : goal.returns
+returns c = let args = c.args in
+    let a = loaded-words args.asked.now refl c.load-m.ensures c.requires.0 in
+    let b = loaded-words args.derivation.now refl c.load-n.ensures c.requires.1 in
+    ap verdict_said c.check.ensures ∙ checks-loaded args.asked.now args.derivation.now a b

@@ -1,0 +1,28 @@
+-- `telling::judge_words` meets its contract: what is judged are all the words that the bytes of the listing make, against
+-- all those of the book (`loaded-words`). Assumes nothing.
+use Prim.Native.Nat.{◌≤◌}
+use mathlib.Core.Path.{refl, sym, ◌∙◌}
+use native.Mathlib.Omega.{arith}
+use lib.Seq.{length-take-le}
+use borrow.Author.Rules.{rules}
+use Rattle.octets.specs.Octets.Laws.{loaded-many}
+use Rattle.telling.specs.Loaded.{loaded-words, judges-loaded}
+use Rattle.telling.proofs.judge_words.Goals as goal
+
+pub slice_bounds-words-end : goal.slice_bounds-words-end
+slice_bounds-words-end c = omega (arith, book-few (search))
+
+pub slice_bounds-judge-end : goal.slice_bounds-judge-end
+slice_bounds-judge-end c = sym (length-take-le _ _ (array-share-prefix-words (search)))
+
+pub slice_bounds-theirs-end : goal.slice_bounds-theirs-end
+slice_bounds-theirs-end c = omega (arith, listing-few (search))
+
+pub slice_bounds-judge-end-2 : goal.slice_bounds-judge-end-2
+slice_bounds-judge-end-2 c = sym (length-take-le _ _ (array-share-prefix-theirs (search)))
+
+pub returns : goal.returns
+returns c = let args = c.args in
+    let a = loaded-words args.book.now refl c.load-n.ensures c.requires.0 in
+    let b = loaded-words args.listing.now refl c.load-m.ensures c.requires.1 in
+    c.judge.ensures ∙ judges-loaded args.party args.book.now args.listing.now a b

@@ -1,0 +1,31 @@
+-- `translator::survey_valid` meets its contract: what `write_heads` laid into the lists is read from them, and where
+-- the walks stop decides refusals 10 and 13. Assumes nothing.
+use mathlib.Core.Path.{◌≡◌, refl, sym, ap, ◌∙◌}
+use borrow.Author.Rules.{rules}
+use Rattle.book.specs.Said.{Said}
+use Rattle.book.specs.Stop.Laws.{stop-number}
+use Rattle.translator.specs.Among.Laws.{among-nobody, among-refusable}
+use Rattle.translator.proofs.Came.{stop-accept}
+use Rattle.translator.proofs.Listing.{heads-found}
+use Rattle.translator.proofs.survey_valid.Goals as goal
+
+pub reading_of-reading-requires : goal.reading_of-reading-requires
+reading_of-reading-requires c = search among-refusable
+
+-- where no walk stops no step is refused, and the heads, the length and the places are the book's
+pub returns : goal.returns
+returns c = let (laid, lists) = c.write_heads-all.ensures in
+    let told = c.reading_of-reading.ensures in
+    let same = sym (stop-number _) ∙ sym (ap (λ (s : Said). s.number) told) in
+    record {
+      says = told ∙ stop-accept c.requires laid.stops;
+      writable = λ z. record {
+        valid = c.requires;
+        claims = c.claims-since.ensures;
+        partners = c.partners-partners.ensures;
+        nobody = among-nobody laid.stops (same ∙ z);
+      };
+      heads = λ z. heads-found c.requires refl (laid.wrote (same ∙ z));
+      ends = λ z. laid.ends (same ∙ z);
+      placed = λ z. laid.placed (same ∙ z);
+    }

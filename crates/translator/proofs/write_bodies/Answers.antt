@@ -1,0 +1,38 @@
+-- `translator::write_bodies` meets its contract: the programs of the parties passed are written, and each turn adds
+-- one (`bodies-on`). Assumes nothing.
+use Prim.Native.Nat.{◌-◌, ◌<◌}
+use native.Mathlib.Omega.{arith}
+use borrow.Author.Rules.{rules}
+use Rattle.words.specs.Overlay.Laws.{wrote-length}
+use Rattle.book.specs.Layout.{parties}
+use Rattle.book.specs.Headed.Laws.{valid-headed}
+use Rattle.translator.proofs.Laid.{Laid, bodies-start, bodies-low, bodies-on, bodies-end}
+use Rattle.translator.proofs.write_bodies.Goals as goal
+
+pub parties-n-requires : goal.parties-n-requires
+parties-n-requires c = search valid-headed
+
+pub loop-party-init : goal.loop-party-init
+loop-party-init c = search bodies-start
+
+-- no step is refused for anybody, so none for this party
+pub write_program-next-requires : goal.write_program-next-requires
+write_program-next-requires c = let (writable, low) = c.requires in
+    let l : c.loop-party.party < parties c.args.book.now = omega arith in (
+      record {
+        valid = writable.valid;
+        claims = writable.claims;
+        partners = writable.partners;
+        party = l;
+        within = omega arith;
+        low = bodies-low writable.valid c.parties-n.ensures c.loop-party-test.true low
+            c.loop-party.invariant;
+      },
+      writable.nobody _ l,
+    )
+
+pub loop-party-preserved : goal.loop-party-preserved
+loop-party-preserved c = search bodies-on
+
+pub returns : goal.returns
+returns c = search bodies-end

@@ -1,0 +1,12 @@
+-- `twins::chain` meets its contract: each row, from the last on, comes in front of its chain (`chained-on`). Assumes
+-- nothing.
+use Rattle.std.proofs.Common.{◌≤◌, refl, arith, rules}
+use Rattle.twins.specs.Keys.{ChainedFrom}
+use Rattle.twins.specs.Keys.Laws.{chained-on, chained-done}
+use Rattle.twins.proofs.chain.Given as goal
+
+abbrev pub invariant-loop-row : goal.invariant-loop-row
+invariant-loop-row l = ChainedFrom l.book l.row l.keys l.heads l.nexts
+
+abbrev pub decreases-loop-row : goal.decreases-loop-row
+decreases-loop-row l = l.row

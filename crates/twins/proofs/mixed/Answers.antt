@@ -1,0 +1,16 @@
+-- `twins::mixed` meets its contract: the sums are the definition's own. Assumes nothing.
+use Rattle.std.proofs.Common.{rules}
+use Rattle.twins.specs.Keys.{mixed}
+use Rattle.twins.proofs.mixed.Goals as goal
+
+pub returns : goal.returns
+unfolding mixed
+returns c = rw (
+  c.wrapping_add_u32.ensures,
+  c.wrapping_add_u32-all.ensures,
+  c.wrapping_add_u32-most.ensures,
+  c.wrapping_add_u32-sixteen.ensures,
+  c.wrapping_add_u32-eight.ensures,
+  c.wrapping_add_u32-four.ensures,
+  c.wrapping_add_u32-two.ensures,
+)

@@ -1,0 +1,13 @@
+-- `twins::repeated` meets its contract: no row that the loop has passed repeats an earlier one. Assumes nothing.
+use Rattle.std.proofs.Common.{◌-◌, arith, rules}
+use Rattle.book.specs.Rules.{repeats}
+use Rattle.twins.specs.Keys.Laws.{chained-start}
+use Rattle.header.specs.Scans.{Scanning}
+use Rattle.header.specs.Scans.Laws.{scan_begins, scan-goes, stops_at, ends_at}
+use Rattle.twins.proofs.repeated.Given as goal
+
+abbrev pub invariant-loop-row : goal.invariant-loop-row
+invariant-loop-row l = Scanning (repeats l.book) l.n l.row
+
+abbrev pub decreases-loop-row : goal.decreases-loop-row
+decreases-loop-row l = l.n - l.row

@@ -1,0 +1,34 @@
+-- `twins::row_key` meets its contract: the parts are mixed in one after another (`mixing-on`). Assumes nothing.
+use Rattle.std.proofs.Common.{◌-◌, ◌≤◌, arith, rules}
+use Rattle.twins.specs.Keys.Laws.{Mixing, mixing-starts, mixing-on, mixing-ends}
+use Rattle.rows.specs.Parts.{Parts}
+use Rattle.rows.specs.Parts.Laws.{parts-of}
+use Rattle.twins.proofs.row_key.Goals as goal
+use Rattle.twins.proofs.row_key.Goals.{After-row_count-n}
+
+-- the row's parts, as its first and its count say
+module _ (c : After-row_count-n) where
+  parts : Parts c.args.book.now c.args.row c.row_first-first.result c.row_count-n.result
+  parts = search parts-of
+
+-- before the first part, kind and tag
+pub loop-j-init : goal.loop-j-init
+loop-j-init c = (
+  omega arith,
+  mixing-starts _ _ _ _ _ _ _ c.row_kind-kind.ensures c.row_tag-tag.ensures (first (goal.at.loop-j-init c).After-row_count-n).row_first.ensures.0
+      c.row_count-n.ensures.0 c.mixed-key.ensures,
+)
+
+pub pooled-requires : goal.pooled-requires
+pooled-requires c = (search rules, omega (arith, parts (goal.at.pooled-requires c).After-row_count-n))
+
+-- one part more
+pub loop-j-preserved : goal.loop-j-preserved
+loop-j-preserved c = let (within, so_far) = c.loop-j.invariant in (
+  omega arith,
+  mixing-on _ _ _ _ _ _ _ _ c.loop-j-test.true so_far c.pooled.ensures c.mixed-key-in-loop-j.ensures,
+)
+
+-- no part is left
+pub returns : goal.returns
+returns c = mixing-ends _ _ _ _ _ _ c.loop-j-test.false c.loop-j.invariant.1

@@ -1,0 +1,21 @@
+-- `walking::measure` meets its contract: nothing is lent, so that the places at which the walk ends are lengths.
+-- Assumes nothing.
+use native.Mathlib.Omega.{arith}
+use borrow.Author.Rules.{rules}
+use Rattle.walking.proofs.Lengths.{FewPlaces, few-places}
+use Rattle.walking.proofs.Whole.{measured}
+use Rattle.walking.proofs.measure.Goals as goal
+
+-- what the party knows is entered
+pub walk-passed-requires : goal.walk-passed-requires
+walk-passed-requires c = (c.requires, record { holds = c.start-entries.ensures; size = search rules })
+
+pub overflow_add-result : goal.overflow_add-result
+overflow_add-result c = omega (arith, few (search))
+
+pub overflow_add-result-2 : goal.overflow_add-result-2
+overflow_add-result-2 c = omega (arith, few (search))
+
+-- the words are those of the events, two of END's, and three for each triple
+pub returns : goal.returns
+returns c = measured c.requires.valid c.requires.party c.walk-passed.ensures

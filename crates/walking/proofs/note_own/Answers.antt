@@ -1,0 +1,13 @@
+-- `walking::note_own` meets its contract: the step is the party's, and its place is written, or it is another's. Assumes
+-- nothing.
+use borrow.Author.Rules.{rules}
+use Rattle.walking.specs.Noted.Laws.{noted_other, noted-there}
+use Rattle.walking.proofs.note_own.Goals as goal
+
+-- the step is another's
+pub returns-then-who-party : goal.returns-then-who-party
+returns-then-who-party c = noted_other _ _ c.if-who-party.true
+
+-- the step is the party's
+pub returns : goal.returns
+returns c = noted-there c.if-who-party.false c.wide.ensures.0 c.put.ensures

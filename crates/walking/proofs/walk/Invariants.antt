@@ -1,0 +1,24 @@
+-- `walking::walk` meets its contract: the party came through the steps before its next one and has not stopped; a
+-- step at which it stops is the last. Assumes nothing.
+use Prim.Native.Nat.{ℕ, ◌+◌, ◌-◌, ◌≤◌, ◌<◌}
+use mathlib.Core.List.{List}
+use mathlib.Core.Path.{refl}
+use native.Mathlib.Omega.{arith}
+use borrow.Author.Rules.{rules}
+use Rattle.words.specs.Overlay.Laws.{wrote-length}
+use Rattle.book.specs.Layout.{steps}
+use Rattle.book.specs.Valid.{Valid}
+use Rattle.book.specs.Headed.Laws.{few-steps}
+use Rattle.translation.specs.Long.{most_events}
+use Rattle.receiving.specs.Receiving.{standing}
+use Rattle.walking.specs.Walking.{WalkReady}
+use Rattle.walking.proofs.Walked.{Walked, walked_start, in-book, walked-ready, walked-few, acted-log, acted-out, noted-sends, noted-receives, walked-stops, walked_on, walked-ends}
+use Rattle.walking.proofs.walk.Given as goal
+
+abbrev pub invariant-loop-i : goal.invariant-loop-i
+invariant-loop-i l = WalkReady l.book l.since l.partners l.party l.upto l.at
+    × Walked l.book l.party l.i l.initial.log l.log l.at l.initial.out l.out (standing l.i l.entries l.next l.kept l.last)
+    l.events l.initial.sends l.sends l.initial.receives l.receives
+
+abbrev pub decreases-loop-i : goal.decreases-loop-i
+decreases-loop-i l = l.upto - l.i

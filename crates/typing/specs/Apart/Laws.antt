@@ -20,6 +20,7 @@ among-member x (y ∷ l) e = or_cases (eqb x y) (among x l) e (λ h. Memᴰ.head
 
 member-among : (x : ℕ) (l : List ℕ) → Memᴰ x l → among x l ≡ true
 unfolding among
+member-among x [] m = elim m [ ]
 member-among x (y ∷ l) (Memᴰ.head e) = or_left (eqb x y) (among x l) (eq-eqb x y e)
 member-among x (y ∷ l) (Memᴰ.tail m) = or_right (eqb x y) (among x l) (member-among x l m)
 

@@ -37,6 +37,7 @@ stands-member a (b ∷ E) e = go (same_entry a b) (λ h. stands-member a E h) e
 
 pub member-stands : (a : Entry) (E : Environment) → Memᴰ a E → stands a E ≡ true
 unfolding stands choose
+member-stands a [] m = elim m [ ]
 member-stands a (b ∷ E) (Memᴰ.head e) = choose_yes (same_entry a b) true (stands a E) e
 member-stands a (b ∷ E) (Memᴰ.tail m) = go (same_entry a b) (member-stands a E m)
   where

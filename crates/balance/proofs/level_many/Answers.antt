@@ -1,4 +1,5 @@
 -- `balance::level_many` meets its contract: every one of the first j effects is level. Assumes nothing.
+use Rattle.std.proofs.Common.{ap, not}
 use Prim.Native.Nat.{◌-◌, ◌<◌}
 use lib.ListN.{length}
 use borrow.Author.Rules.{rules}
@@ -38,11 +39,11 @@ level-requires c = let (r, a, b, d, reads) = c.requires in
 
 pub returns-then-not-level : goal.returns-then-not-level
 returns-then-not-level c = walk-fails _ _ _ _ _ _ _ c.loop-j.invariant c.loop-j-test.true _ c.term_end-e.ensures _
-    c.level.ensures c.if-not-level.true
+    c.level.ensures (ap not c.if-not-level.true)
 
 pub loop-j-preserved : goal.loop-j-preserved
 loop-j-preserved c = walk-again _ _ _ _ _ _ _ c.loop-j.invariant c.loop-j-test.true _ c.term_end-e.ensures _
-    c.level.ensures c.if-not-level.false
+    c.level.ensures (ap not c.if-not-level.false)
 
 pub returns : goal.returns
 returns c = walk-done _ _ _ _ _ _ _ c.loop-j.invariant c.loop-j-test.false

@@ -10,12 +10,17 @@ use Rattle.translation.specs.Outcome.{came}
 use Rattle.line.specs.Line.{line_of}
 use Rattle.telling.specs.Loaded.{loaded-words}
 use Rattle.calling.proofs.lent_line.Goals as goal
+use Rattle.calling.proofs.lent_line.Goals.{After-load-n}
+
+-- what was loaded has room
+few : (c : After-load-n) → c.load-n.result ≤ 16384
+few c = loaded-many c.args.lent.now refl c.load-n.ensures
 
 pub slice_bounds-words-end : goal.slice_bounds-words-end
-slice_bounds-words-end c = omega (arith, few (search))
+slice_bounds-words-end c = omega (arith, few (goal.at.slice_bounds-words-end c).After-load-n)
 
 pub slice_bounds-answer_line-end : goal.slice_bounds-answer_line-end
-slice_bounds-answer_line-end c = simp length-take (omega (arith, few (search)))
+slice_bounds-answer_line-end c = simp length-take (omega (arith, few (goal.at.slice_bounds-answer_line-end c).After-load-n))
 
 -- and is as many words as the bytes make
 pub answer_line-requires : goal.answer_line-requires

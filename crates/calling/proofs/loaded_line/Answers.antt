@@ -9,21 +9,34 @@ use Rattle.octets.specs.Octets.Laws.{loaded-many}
 use Rattle.telling.specs.Loaded.{loaded-words}
 use Rattle.calling.specs.Call.Laws.{front-few, words-loaded}
 use Rattle.calling.proofs.loaded_line.Goals as goal
+use Rattle.calling.proofs.loaded_line.Goals.{After-load-l, After-load-m, After-load-n}
+
+-- what was loaded has room: of the first slice,
+first-few : (c : After-load-l) → c.load-l.result ≤ 16384
+first-few c = loaded-many _ refl c.load-l.ensures
+
+-- of the second,
+second-few : (c : After-load-m) → c.load-m.result ≤ 16384
+second-few c = loaded-many _ refl c.load-m.ensures
+
+-- and of the third
+third-few : (c : After-load-n) → c.load-n.result ≤ 16384
+third-few c = loaded-many _ refl c.load-n.ensures
 
 pub slice_bounds-a-end : goal.slice_bounds-a-end
-slice_bounds-a-end c = omega (arith, first-few (search))
+slice_bounds-a-end c = omega (arith, first-few (goal.at.slice_bounds-a-end c).After-load-l)
 
 pub slice_bounds-words_line-end : goal.slice_bounds-words_line-end
 slice_bounds-words_line-end c = sym (length-take-le _ _ (array-share-prefix-a (search)))
 
 pub slice_bounds-b-end : goal.slice_bounds-b-end
-slice_bounds-b-end c = omega (arith, second-few (search))
+slice_bounds-b-end c = omega (arith, second-few (goal.at.slice_bounds-b-end c).After-load-m)
 
 pub slice_bounds-words_line-end-2 : goal.slice_bounds-words_line-end-2
 slice_bounds-words_line-end-2 c = sym (length-take-le _ _ (array-borrow-prefix-b (search)))
 
 pub slice_bounds-c-end : goal.slice_bounds-c-end
-slice_bounds-c-end c = omega (arith, third-few (search))
+slice_bounds-c-end c = omega (arith, third-few (goal.at.slice_bounds-c-end c).After-load-n)
 
 pub slice_bounds-words_line-end-3 : goal.slice_bounds-words_line-end-3
 slice_bounds-words_line-end-3 c = sym (length-take-le _ _ (array-borrow-prefix-c (search)))
@@ -31,8 +44,8 @@ slice_bounds-words_line-end-3 c = sym (length-take-le _ _ (array-borrow-prefix-c
 pub words_line-requires : goal.words_line-requires
 words_line-requires c = let (known, _, _, _, room) = c.requires in (
   known,
-  front-few _ _ (second-few (search)),
-  front-few _ _ (third-few (search)),
+  front-few _ _ (second-few (goal.at.words_line-requires c).After-load-m),
+  front-few _ _ (third-few (goal.at.words_line-requires c).After-load-n),
   room,
 )
 

@@ -1,5 +1,6 @@
 -- `changed::same_changed` meets its contract: what is still to come is the same, changed, exactly if the types are.
 -- Assumes nothing.
+use Rattle.std.proofs.Common.{ap, not}
 use Prim.Native.Nat.{◌+◌, ◌-◌, ◌≤◌, ◌<◌}
 use lib.ListN.{length}
 use borrow.Author.Rules.{rules}
@@ -63,7 +64,7 @@ pub returns-then-not-same_changed_own : goal.returns-then-not-same_changed_own
 returns-then-not-same_changed_own c = pairing-effects _ _ _ _ _ _ _ _ _ c.loop-due.invariant c.loop-due-test.true _
     c.type_own-own.ensures
     _ c.type_own-other.ensures c.if-w-i.false _ c.same_changed_own.ensures
-    c.if-not-same_changed_own.true
+    (ap not c.if-not-same_changed_own.true)
 
 pub offset_bounds-w-i-in-loop-due : goal.offset_bounds-w-i-in-loop-due
 offset_bounds-w-i-in-loop-due c = let l = left (goal.at.offset_bounds-w-i-in-loop-due c).In-loop-due in search rules
@@ -83,7 +84,7 @@ pub loop-due-preserved : goal.loop-due-preserved
 loop-due-preserved c = pairing-again _ _ _ _ _ _ _ _ _ c.loop-due.invariant c.loop-due-test.true _
     c.type_own-own.ensures _
     c.type_own-other.ensures c.if-w-i.false _ c.same_changed_own.ensures
-    c.if-not-same_changed_own.false _ c.type_parts.ensures.0 c.type_parts.ensures.1
+    (ap not c.if-not-same_changed_own.false) _ c.type_parts.ensures.0 c.type_parts.ensures.1
 
 pub returns : goal.returns
 returns c = pairing-done _ _ _ _ _ _ _ _ _ c.loop-due.invariant c.loop-due-test.false

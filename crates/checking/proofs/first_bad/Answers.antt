@@ -1,4 +1,5 @@
 -- `checking::first_bad` meets its contract: the lines before i pass. Assumes nothing.
+use Rattle.std.proofs.Common.{ap, not}
 use Prim.Native.Nat.{◌-◌}
 use borrow.Author.Tests.{not-true, not-false}
 use native.Mathlib.Omega.{arith}
@@ -12,10 +13,10 @@ pub line_passes-requires : goal.line_passes-requires
 line_passes-requires c = (omega (arith, c.requires), c.loop-i.invariant.before)
 
 pub returns-then-not-line_passes : goal.returns-then-not-line_passes
-returns-then-not-line_passes c = scanned-bad _ _ _ c.loop-i.invariant c.loop-i-test.true _ c.line_passes.ensures (not-true _ c.if-not-line_passes.true)
+returns-then-not-line_passes c = scanned-bad _ _ _ c.loop-i.invariant c.loop-i-test.true _ c.line_passes.ensures (not-true _ (ap not c.if-not-line_passes.true))
 
 pub loop-i-preserved : goal.loop-i-preserved
-loop-i-preserved c = scanned-next _ _ _ c.loop-i.invariant c.loop-i-test.true _ c.line_passes.ensures (not-false _ c.if-not-line_passes.false)
+loop-i-preserved c = scanned-next _ _ _ c.loop-i.invariant c.loop-i-test.true _ c.line_passes.ensures (not-false _ (ap not c.if-not-line_passes.false))
 
 pub returns : goal.returns
 returns c = search scanned-all

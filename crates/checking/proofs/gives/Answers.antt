@@ -1,5 +1,6 @@
 -- `checking::gives` meets its contract: what is asked, where it is spelled, against the line's own environment, process and effects.
 -- Assumes nothing.
+use Rattle.std.proofs.Common.{ap, not}
 use borrow.Author.Rules.{rules}
 use mathlib.Core.Path.{sym, ◌∙◌}
 use borrow.Author.Tests.{not-true, not-false}
@@ -45,7 +46,7 @@ returns-then-not-same_environment c = given-environment _ _ c.requires.1
     c.line_at_lem.ensures _ _ _
     (asked_is _ _ c.environment_end-p.ensures c.if-p-eq0.false _ c.process_end-end.ensures
     c.if-end-eq0.false c.if-end-asked.false)
-    _ c.same_environment.ensures (not-true _ c.if-not-same_environment.true)
+    _ c.same_environment.ensures (not-true _ (ap not c.if-not-same_environment.true))
 
 pub same_process-requires : goal.same_process-requires
 same_process-requires c = (
@@ -61,4 +62,4 @@ returns c = given-process _ _ c.requires.1
     c.line_at_lem.ensures _ _ _
     (asked_is _ _ c.environment_end-p.ensures c.if-p-eq0.false _ c.process_end-end.ensures
     c.if-end-eq0.false c.if-end-asked.false)
-    c.if-l-ne0.false _ c.same_environment.ensures (not-false _ c.if-not-same_environment.false) _ c.same_process.ensures
+    c.if-l-ne0.false _ c.same_environment.ensures (not-false _ (ap not c.if-not-same_environment.false)) _ c.same_process.ensures

@@ -13,6 +13,11 @@ use Rattle.book.specs.Layout.{loaded}
 use Rattle.renaming.specs.Verdict.{judged}
 use Rattle.editor.specs.Bytes.Judged.{of-whole-judged, of-odd-judged, of-odd-listing, long-judged-book}
 use Rattle.editor.proofs.judge.Goals as goal
+use Rattle.editor.proofs.judge.Goals.{After-load-n}
+
+-- what was loaded has room
+few : (c : After-load-n) → c.load-n.result ≤ loaded
+few c = loaded-many c.args.book.now refl c.load-n.ensures
 
 -- the book's bytes are no multiple of four
 pub returns-then-is_uneven : goal.returns-then-is_uneven
@@ -27,10 +32,10 @@ returns-then-is_uneven-2 c = let a = c.args in
     (sym c.is_uneven-2.ensures ∙ c.if-is_uneven-2.true))
 
 pub slice_bounds-words-end : goal.slice_bounds-words-end
-slice_bounds-words-end c = omega (arith, few (search))
+slice_bounds-words-end c = omega (arith, few (goal.at.slice_bounds-words-end c).After-load-n)
 
 pub slice_bounds-judge_listing-end : goal.slice_bounds-judge_listing-end
-slice_bounds-judge_listing-end c = simp length-take (omega (arith, few (search)))
+slice_bounds-judge_listing-end c = simp length-take (omega (arith, few (goal.at.slice_bounds-judge_listing-end c).After-load-n))
 
 -- they are, and the words that were loaded are as good as all
 pub returns : goal.returns

@@ -12,6 +12,14 @@ use Rattle.book.specs.Layout.{loaded}
 use Rattle.relaying.specs.Relayed.{rehearsed}
 use Rattle.editor.specs.Bytes.Laws.{of-wholes, of-odd-book, of-odd-schedule, long-played-book, long-schedule}
 use Rattle.editor.proofs.rehearse.Goals as goal
+use Rattle.editor.proofs.rehearse.Goals.{After-load-m, After-load-n}
+
+-- what was loaded has room
+few : (c : After-load-n) → c.load-n.result ≤ loaded
+few c = loaded-many c.args.book.now refl c.load-n.ensures
+
+few-moves : (c : After-load-m) → c.load-m.result ≤ 4097
+few-moves c = loaded-many c.args.schedule.now refl c.load-m.ensures
 
 -- the book's bytes are no multiple of four
 pub returns-then-is_uneven : goal.returns-then-is_uneven
@@ -24,16 +32,16 @@ returns-then-is_uneven-2 c = sym (of-odd-schedule c.args.book.now c.args.schedul
     (sym c.is_uneven.ensures ∙ c.if-is_uneven.false) (sym c.is_uneven-2.ensures ∙ c.if-is_uneven-2.true))
 
 pub slice_bounds-words-end : goal.slice_bounds-words-end
-slice_bounds-words-end c = omega (arith, few (search))
+slice_bounds-words-end c = omega (arith, few (goal.at.slice_bounds-words-end c).After-load-n)
 
 pub slice_bounds-rehearse_words-end : goal.slice_bounds-rehearse_words-end
-slice_bounds-rehearse_words-end c = simp length-take (omega (arith, few (search)))
+slice_bounds-rehearse_words-end c = simp length-take (omega (arith, few (goal.at.slice_bounds-rehearse_words-end c).After-load-n))
 
 pub slice_bounds-moves-end : goal.slice_bounds-moves-end
-slice_bounds-moves-end c = omega (arith, few-moves (search))
+slice_bounds-moves-end c = omega (arith, few-moves (goal.at.slice_bounds-moves-end c).After-load-m)
 
 pub slice_bounds-rehearse_words-end-2 : goal.slice_bounds-rehearse_words-end-2
-slice_bounds-rehearse_words-end-2 c = simp length-take (omega (arith, few-moves (search)))
+slice_bounds-rehearse_words-end-2 c = simp length-take (omega (arith, few-moves (goal.at.slice_bounds-rehearse_words-end-2 c).After-load-m))
 
 -- both are, and the words that were loaded are as good as all
 pub returns : goal.returns

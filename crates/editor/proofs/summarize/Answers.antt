@@ -13,6 +13,11 @@ use Rattle.book.specs.Layout.{loaded}
 use Rattle.relaying.specs.Relayed.{summarized_on}
 use Rattle.editor.specs.Bytes.Laws.{of-whole-summarized, of-odd-summarized, long-summarized-book}
 use Rattle.editor.proofs.summarize.Goals as goal
+use Rattle.editor.proofs.summarize.Goals.{After-load-n}
+
+-- what was loaded has room
+few : (c : After-load-n) → c.load-n.result ≤ loaded
+few c = loaded-many c.args.book.now refl c.load-n.ensures
 
 -- the bytes are no multiple of four
 pub returns-then-is_uneven : goal.returns-then-is_uneven
@@ -20,10 +25,10 @@ returns-then-is_uneven c = sym (of-odd-summarized c.args.book.now c.args.out.now
     (sym c.is_uneven.ensures ∙ c.if-is_uneven.true))
 
 pub slice_bounds-words-end : goal.slice_bounds-words-end
-slice_bounds-words-end c = omega (arith, few (search))
+slice_bounds-words-end c = omega (arith, few (goal.at.slice_bounds-words-end c).After-load-n)
 
 pub slice_bounds-summarize_words-end : goal.slice_bounds-summarize_words-end
-slice_bounds-summarize_words-end c = simp length-take (omega (arith, few (search)))
+slice_bounds-summarize_words-end c = simp length-take (omega (arith, few (goal.at.slice_bounds-summarize_words-end c).After-load-n))
 
 -- they are, and the words that were loaded are as good as all
 pub returns : goal.returns

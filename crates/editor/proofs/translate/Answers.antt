@@ -13,16 +13,21 @@ use Rattle.book.specs.Layout.{loaded}
 use Rattle.writing.specs.Translated.{translated}
 use Rattle.editor.specs.Bytes.Laws.{of-whole, of-odd, long-book}
 use Rattle.editor.proofs.translate.Goals as goal
+use Rattle.editor.proofs.translate.Goals.{After-load-n}
+
+-- what was loaded has room
+few : (c : After-load-n) → c.load-n.result ≤ loaded
+few c = loaded-many c.args.book.now refl c.load-n.ensures
 
 -- the bytes are no multiple of four
 pub returns-then-is_uneven : goal.returns-then-is_uneven
 returns-then-is_uneven c = sym (of-odd c.args.book.now c.args.out.now (sym c.is_uneven.ensures ∙ c.if-is_uneven.true))
 
 pub slice_bounds-words-end : goal.slice_bounds-words-end
-slice_bounds-words-end c = omega (arith, few (search))
+slice_bounds-words-end c = omega (arith, few (goal.at.slice_bounds-words-end c).After-load-n)
 
 pub slice_bounds-translate_words-end : goal.slice_bounds-translate_words-end
-slice_bounds-translate_words-end c = simp length-take (omega (arith, few (search)))
+slice_bounds-translate_words-end c = simp length-take (omega (arith, few (goal.at.slice_bounds-translate_words-end c).After-load-n))
 
 -- they are, and the words that were loaded are as good as all
 pub returns : goal.returns

@@ -10,33 +10,51 @@ use Rattle.words.specs.Overlay.Laws.{wrote-length}
 use Rattle.octets.specs.Octets.Laws.{words-length}
 use Rattle.examining.specs.Checked.Laws.{laid-many, front-inside, checked-loaded}
 use Rattle.examining.proofs.check_in.Goals as goal
+use Rattle.examining.proofs.check_in.Goals.{After-load-m, After-load-n}
+
+-- as many words as the derivation's bytes make
+first-many : (c : After-load-n) → c.load-n.result ≡ length (first-start c).args.derivation.now / 4
+first-many c =
+    let ds = (first-start c).args.derivation.now in
+    laid-many ds c.load-n.ensures (omega (arith, (first-start c).pre)) (omega arith) ∙ words-length ds
+
+-- and as those of what is asked
+second-many : (c : After-load-m) → c.load-m.result ≡ length (second-start c).args.asked.now / 4
+second-many c =
+    let start = second-start c in
+    let xs = start.args.asked.now in
+    let n = first-many first in
+    let same = wrote-length c.load-n.ensures in
+    laid-many xs c.load-m.ensures (simp (length-take, length-drop) (omega (arith, start.pre)))
+    (simp (length-take, length-drop) (omega arith))
+    ∙ words-length xs
 
 pub offset_bounds-room-n : goal.offset_bounds-room-n
-offset_bounds-room-n c = let n = first-many (search) in search rules
+offset_bounds-room-n c = let n = first-many (goal.at.offset_bounds-room-n c).After-load-n in search rules
 
 pub slice_bounds-load-count : goal.slice_bounds-load-count
-slice_bounds-load-count c = let n = first-many (search) in search rules
+slice_bounds-load-count c = let n = first-many (goal.at.slice_bounds-load-count c).After-load-n in search rules
 
 pub slice_bounds-load-start : goal.slice_bounds-load-start
-slice_bounds-load-start c = let n = first-many (search) in search rules
+slice_bounds-load-start c = let n = first-many (goal.at.slice_bounds-load-start c).After-load-n in search rules
 
 pub slice_bounds-load-end : goal.slice_bounds-load-end
-slice_bounds-load-end c = let n = first-many (search) in search rules
+slice_bounds-load-end c = let n = first-many (goal.at.slice_bounds-load-end c).After-load-n in search rules
 
 pub overflow_add-end : goal.overflow_add-end
-overflow_add-end c = let n = first-many (search) in let m = second-many (search) in search rules
+overflow_add-end c = let n = first-many (goal.at.overflow_add-end c).After-load-n in let m = second-many (goal.at.overflow_add-end c).After-load-m in search rules
 
 pub offset_bounds-words-n : goal.offset_bounds-words-n
-offset_bounds-words-n c = let n = first-many (search) in search rules
+offset_bounds-words-n c = let n = first-many (goal.at.offset_bounds-words-n c).After-load-n in search rules
 
 pub slice_bounds-check-count : goal.slice_bounds-check-count
-slice_bounds-check-count c = let n = first-many (search) in search rules
+slice_bounds-check-count c = let n = first-many (goal.at.slice_bounds-check-count c).After-load-n in search rules
 
 pub slice_bounds-check-start : goal.slice_bounds-check-start
-slice_bounds-check-start c = let n = first-many (search) in let m = second-many (search) in search rules
+slice_bounds-check-start c = let n = first-many (goal.at.slice_bounds-check-start c).After-load-n in let m = second-many (goal.at.slice_bounds-check-start c).After-load-m in search rules
 
 pub slice_bounds-check-end : goal.slice_bounds-check-end
-slice_bounds-check-end c = let n = first-many (search) in let m = second-many (search) in search rules
+slice_bounds-check-end c = let n = first-many (goal.at.slice_bounds-check-end c).After-load-n in let m = second-many (goal.at.slice_bounds-check-end c).After-load-m in search rules
 
 -- the derivation lies inside
 pub slice_bounds-check-end-2 : goal.slice_bounds-check-end-2

@@ -1,6 +1,7 @@
 -- `following::follow_step` meets its contract: the step's words agree, and what they call what it stored is kept
 -- (`stepped-on`), or they don't
 -- (`stepped-broken`). Assumes nothing.
+use Rattle.std.proofs.Common.{ap, not}
 use mathlib.Core.Path.{refl}
 use native.Mathlib.Omega.{arith}
 use borrow.Author.Rules.{rules}
@@ -39,7 +40,7 @@ keep_names-requires c = let after-follow-words = whole-followed (goal.at.keep_na
     let after-act = followed-acted after-follow-words in
     let start = acted-start after-act in
     stepped-keep start.pre.0 start.pre.2 after-act.act.ensures after-follow-words.follow-words.ensures
-    (not-false _ c.if-not-far.false)
+    (not-false _ (ap not c.if-not-far.false))
 
 -- they agree
 pub returns : goal.returns

@@ -1,6 +1,7 @@
 -- `following::follow_steps` meets its contract: the steps before the party's next one agree (`Stepped`), and each turn
 -- compares one step.
 -- Assumes nothing.
+use Rattle.std.proofs.Common.{ap, not}
 use Prim.Native.Nat.{◌-◌, ◌<◌}
 use mathlib.Core.Bool.{true}
 use mathlib.Core.Path.{◌≡◌, refl, sym, ◌∙◌}
@@ -54,7 +55,7 @@ next_own-i-requires-in-loop-i c = let in-loop = followed-in (goal.at.next_own-i-
 
 -- it agrees
 pub loop-i-preserved : goal.loop-i-preserved
-loop-i-preserved c = let whole = not-false _ c.if-not-reached.false in
+loop-i-preserved c = let whole = not-false _ (ap not c.if-not-reached.false) in
     (stepped-skip c.next_own-i-in-loop-i.ensures (c.follow_step-reached.ensures.all whole), whole)
 
 -- there is no step left

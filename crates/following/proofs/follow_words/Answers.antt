@@ -1,5 +1,6 @@
 -- `following::follow_words` meets its contract: ours are compared up to a word (`UpTo`), and each turn goes a word on.
 -- Assumes nothing.
+use Rattle.std.proofs.Common.{ap, not}
 use Prim.Native.Nat.{◌+◌, ◌-◌, ◌<◌}
 use mathlib.Core.Path.{refl, sym, ◌∙◌}
 use lib.ListN.{length}
@@ -35,14 +36,14 @@ returns-then-not-agreed c = let then1 : in_words tie.Then1 = c in
 
 pub fill-filled-requires : goal.fill-filled-requires
 fill-filled-requires c = up_fits (at-loop (goal.at.fill-filled-requires c).In-loop-k).loop.inv (more (goal.at.fill-filled-requires c).In-loop-k) c.word-v.ensures c.agree-agreed.ensures
-    (not-false _ c.if-not-agreed.false)
+    (not-false _ (ap not c.if-not-agreed.false))
     c.their-y.ensures (omega arith) c.run_of-run.ensures
 
 -- a word stands at the place, so there is a place behind it
 pub overflow_add-at : goal.overflow_add-at
 overflow_add-at c = let there = up-there (at-loop (goal.at.overflow_add-at c).In-loop-k).loop.inv (more (goal.at.overflow_add-at c).In-loop-k) c.word-v.ensures
     c.agree-agreed.ensures
-    (not-false _ c.if-not-agreed.false) in
+    (not-false _ (ap not c.if-not-agreed.false)) in
     omega arith
 
 pub overflow_add-k-in-loop-k : goal.overflow_add-k-in-loop-k
@@ -50,7 +51,7 @@ overflow_add-k-in-loop-k c = omega (arith, next (goal.at.overflow_add-k-in-loop-
 
 pub loop-k-preserved : goal.loop-k-preserved
 loop-k-preserved c = up-on (at-loop (goal.at.loop-k-preserved c).In-loop-k).loop.inv (more (goal.at.loop-k-preserved c).In-loop-k) c.word-v.ensures c.agree-agreed.ensures
-    (not-false _ c.if-not-agreed.false)
+    (not-false _ (ap not c.if-not-agreed.false))
     c.their-y.ensures c.run_of-run.ensures c.next-mode.ensures
     c.fill-filled.ensures
     c.widened-range.ensures

@@ -1,5 +1,6 @@
 -- `judge::follow_program` meets its contract: the steps don't all agree, or END is compared behind them. Assumes
 -- nothing.
+use Rattle.std.proofs.Common.{ap, not}
 use mathlib.Core.Path.{refl, sym, ◌∙◌}
 use native.Mathlib.Omega.{arith}
 use borrow.Author.Rules.{rules}
@@ -19,7 +20,7 @@ pub narrow-requires : goal.narrow-requires
 narrow-requires c = let after-follow-steps = whole-followed (goal.at.narrow-requires c).Else-not-reached in
     let start = followed-start after-follow-steps in
     end-narrow start.pre.0.valid start.pre.0.party after-follow-steps.follow-steps.ensures.0
-    (not-false _ c.if-not-reached.false)
+    (not-false _ (ap not c.if-not-reached.false))
     after-follow-steps.follow-steps.ensures.1
 
 pub put_all-end-requires : goal.put_all-end-requires

@@ -1,4 +1,5 @@
 -- `judge::judge_program` meets its contract: by how far the program agrees, and where their words end. Assumes nothing.
+use Rattle.std.proofs.Common.{ap, not}
 use mathlib.Core.Path.{refl}
 use borrow.Author.Rules.{rules}
 use borrow.Author.Tests.{not-true, not-false}
@@ -21,7 +22,7 @@ returns-then-at-size c = let then2 : tie.Then2 = c in
     let after-follow-program = whole-followed (goal.at.returns-then-at-size c).Else-not-far in
     let start = followed-start after-follow-program in
     judged-longer start.pre.0 start.pre.1.party after-follow-program.follow-program.ensures
-    (not-false _ c.if-not-far.false)
+    (not-false _ (ap not c.if-not-far.false))
     c.size.ensures then2.if2.true
 
 -- all agree
@@ -30,5 +31,5 @@ returns c = let else2 : tie.Else2 = c in
     let after-follow-program = whole-followed (goal.at.returns c).Else-not-far in
     let start = followed-start after-follow-program in
     judged-same start.pre.0 start.pre.1.party after-follow-program.follow-program.ensures
-    (not-false _ c.if-not-far.false)
+    (not-false _ (ap not c.if-not-far.false))
     c.size.ensures else2.if2.false

@@ -1,4 +1,5 @@
 -- `parts::same_own` meets its contract: names, terms, types and effects, one after another. Assumes nothing.
+use Rattle.std.proofs.Common.{ap, not}
 use borrow.Author.Rules.{rules}
 use native.Mathlib.Omega.{arith}
 use Rattle.parts.specs.Place.Lists.{names-left, names-right, terms-there, types-there, lists-there, names-differ, terms-differ, types-differ, lists-last}
@@ -13,7 +14,7 @@ same_run-requires c = let (p, q, same) = c.requires in (
 pub returns-then-not-same_run : goal.returns-then-not-same_run
 returns-then-not-same_run c = let (p, q, same) = c.requires in
     names-differ _ _ _ _ _ _ p q same _ _ _ c.Counts-of.ensures _ c.same_run.ensures
-    c.if-not-same_run.true
+    (ap not c.if-not-same_run.true)
 
 pub same_terms-requires : goal.same_terms-requires
 same_terms-requires c = let (p, q, same) = c.requires in
@@ -22,7 +23,7 @@ same_terms-requires c = let (p, q, same) = c.requires in
 pub returns-then-not-same_terms : goal.returns-then-not-same_terms
 returns-then-not-same_terms c = let (p, q, same) = c.requires in
     terms-differ _ _ _ _ _ _ p q same _ _ _ c.Counts-of.ensures _ c.same_run.ensures
-    c.if-not-same_run.false _ c.same_terms.ensures c.if-not-same_terms.true
+    (ap not c.if-not-same_run.false) _ c.same_terms.ensures (ap not c.if-not-same_terms.true)
 
 pub same_types-requires : goal.same_types-requires
 same_types-requires c = let (p, q, same) = c.requires in
@@ -31,8 +32,8 @@ same_types-requires c = let (p, q, same) = c.requires in
 pub returns-then-not-same_types : goal.returns-then-not-same_types
 returns-then-not-same_types c = let (p, q, same) = c.requires in
     types-differ _ _ _ _ _ _ p q same _ _ _ c.Counts-of.ensures _ c.same_run.ensures
-    c.if-not-same_run.false _ c.same_terms.ensures c.if-not-same_terms.false _
-    c.same_types.ensures c.if-not-same_types.true
+    (ap not c.if-not-same_run.false) _ c.same_terms.ensures (ap not c.if-not-same_terms.false) _
+    c.same_types.ensures (ap not c.if-not-same_types.true)
 
 pub same_lists-requires : goal.same_lists-requires
 same_lists-requires c = let (p, q, same) = c.requires in
@@ -41,5 +42,5 @@ same_lists-requires c = let (p, q, same) = c.requires in
 pub returns : goal.returns
 returns c = let (p, q, same) = c.requires in
     lists-last _ _ _ _ _ _ p q same _ _ _ c.Counts-of.ensures _ c.same_run.ensures
-    c.if-not-same_run.false _ c.same_terms.ensures c.if-not-same_terms.false _
-    c.same_types.ensures c.if-not-same_types.false _ c.same_lists.ensures
+    (ap not c.if-not-same_run.false) _ c.same_terms.ensures (ap not c.if-not-same_terms.false) _
+    c.same_types.ensures (ap not c.if-not-same_types.false) _ c.same_lists.ensures

@@ -1,4 +1,5 @@
 -- `parts::same_terms` meets its contract: n of them are passed, and were the same. Assumes nothing.
+use Rattle.std.proofs.Common.{ap, not}
 use Prim.Native.Nat.{◌-◌}
 use borrow.Author.Rules.{rules}
 use native.Mathlib.Omega.{arith}
@@ -23,13 +24,13 @@ pub returns-then-not-same_term : goal.returns-then-not-same_term
 unfolding term_in
 returns-then-not-same_term c = pairing-differ term (Term.bound 0) same_term _ _ _ _ _ _ _ _ _ _ c.loop-n.invariant c.loop-n-test.true _
     c.term_end-own.ensures _ c.term_end-other.ensures _ c.same_term.ensures
-    c.if-not-same_term.true
+    (ap not c.if-not-same_term.true)
 
 pub loop-n-preserved : goal.loop-n-preserved
 unfolding term_in
 loop-n-preserved c = pairing-again term (Term.bound 0) same_term _ _ _ _ _ _ _ _ _ _ c.loop-n.invariant c.loop-n-test.true _
     c.term_end-own.ensures _ c.term_end-other.ensures _ c.same_term.ensures
-    c.if-not-same_term.false
+    (ap not c.if-not-same_term.false)
 
 pub returns : goal.returns
 returns c = pairing-done term (Term.bound 0) same_term _ _ _ _ _ _ _ _ _ _ c.loop-n.invariant c.loop-n-test.false

@@ -1,4 +1,5 @@
 -- `parts::same_types` meets its contract: n of them are passed, and were the same. Assumes nothing.
+use Rattle.std.proofs.Common.{ap, not}
 use Prim.Native.Nat.{◌-◌}
 use borrow.Author.Rules.{rules}
 use native.Mathlib.Omega.{arith}
@@ -23,13 +24,13 @@ pub returns-then-not-same_type : goal.returns-then-not-same_type
 unfolding type_in
 returns-then-not-same_type c = pairing-differ type_at Ty.Un same_type _ _ _ _ _ _ _ _ _ _ c.loop-n.invariant c.loop-n-test.true _
     c.type_end-own.ensures _ c.type_end-other.ensures _ c.same_type.ensures
-    c.if-not-same_type.true
+    (ap not c.if-not-same_type.true)
 
 pub loop-n-preserved : goal.loop-n-preserved
 unfolding type_in
 loop-n-preserved c = pairing-again type_at Ty.Un same_type _ _ _ _ _ _ _ _ _ _ c.loop-n.invariant c.loop-n-test.true _
     c.type_end-own.ensures _ c.type_end-other.ensures _ c.same_type.ensures
-    c.if-not-same_type.false
+    (ap not c.if-not-same_type.false)
 
 pub returns : goal.returns
 returns c = pairing-done type_at Ty.Un same_type _ _ _ _ _ _ _ _ _ _ c.loop-n.invariant c.loop-n-test.false

@@ -6,6 +6,13 @@ use Rattle.book.specs.Headed.Laws.{valid-headed, few-parties, few-steps}
 use Rattle.rehearsal.proofs.Bounds.{party-sends}
 use Rattle.rehearsal.proofs.Waiting.{other-receiver, other_place, by-send}
 use Rattle.rehearsal.proofs.waits_for.Goals as goal
+use Rattle.rehearsal.proofs.waits_for.Goals.{After-step_sender}
+
+-- the step's sender is one of at most sixteen parties
+few-senders : (c : After-step_sender) → c.step_sender.result < 16
+few-senders c =
+    let party = party-sends c.args.book.now c.args.step (search) (search) in
+    omega (arith, few-parties)
 
 pub step_receiver-requires : goal.step_receiver-requires
 step_receiver-requires c = search (valid-headed, rules)
@@ -26,7 +33,7 @@ pub step_sender-requires : goal.step_sender-requires
 step_sender-requires c = search (valid-headed, rules)
 
 pub bounds-done-wide-2 : goal.bounds-done-wide-2
-bounds-done-wide-2 c = omega (arith, few-senders (search))
+bounds-done-wide-2 c = omega (arith, few-senders (goal.at.bounds-done-wide-2 c).After-step_sender)
 
 pub bounds-sends-wide : goal.bounds-sends-wide
 bounds-sends-wide c = omega (arith, few-steps)

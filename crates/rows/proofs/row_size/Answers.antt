@@ -10,19 +10,28 @@ use Rattle.rows.specs.Parts.{Parts}
 use Rattle.rows.specs.Parts.Laws.{parts-of}
 use Rattle.rows.proofs.Sizes.{size_so_far, size-begins, size_step, size-ends, size-known}
 use Rattle.rows.proofs.row_size.Goals as goal
-use Rattle.rows.proofs.row_size.Goals.{After-row_count-n, After-wide}
+use Rattle.rows.proofs.row_size.Goals.{After-pooled, After-row_count-n, After-wide}
 
 -- the row's parts, as its first and its count say
 module _ (c : After-row_count-n) where
   parts : Parts c.args.book.now c.args.row c.row_first-first.result c.row_count-n.result
   parts = search parts-of
 
+-- the part that was read is an earlier row
+earlier : (c : After-pooled) → c.pooled.result < c.args.row
+earlier c =
+    let parts : Parts c.args.book.now c.args.row c.row_first-first.result c.row_count-n.result = search parts-of in
+    let e = parts.earlier _ c.loop-j-test.true in
+    omega arith
+
 -- so its size stands in `sizes`, and is at most 1,024
 module _ (c : After-wide) where
   small : get_or c.args.sizes.now c.wide.result 0 ≤ 1024
   small =
       let (headed, keep, inside, sizes, fits) = c.requires in
-      size-known _ c.args.sizes.now _ _ _ sizes fits c.wide.ensures.0 (earlier (search))
+      let parts : Parts c.args.book.now c.args.row c.row_first-first.result c.row_count-n.result = search parts-of in
+      let e = parts.earlier _ c.loop-j-test.true in
+      size-known _ c.args.sizes.now _ _ _ sizes fits c.wide.ensures.0 (omega arith)
 
 -- before the first part, what the kind adds
 pub loop-j-init : goal.loop-j-init
@@ -36,10 +45,10 @@ pub pooled-requires : goal.pooled-requires
 pooled-requires c = (search rules, omega (arith, parts (goal.at.pooled-requires c).After-row_count-n))
 
 pub offset_bounds-sizes-wide : goal.offset_bounds-sizes-wide
-offset_bounds-sizes-wide c = omega (arith, earlier (search))
+offset_bounds-sizes-wide c = omega (arith, earlier (goal.at.offset_bounds-sizes-wide c).After-pooled)
 
 pub bounds-sizes-wide : goal.bounds-sizes-wide
-bounds-sizes-wide c = omega (arith, earlier (search))
+bounds-sizes-wide c = omega (arith, earlier (goal.at.bounds-sizes-wide c).After-pooled)
 
 pub overflow_add-size : goal.overflow_add-size
 overflow_add-size c = omega (arith, small (goal.at.overflow_add-size c).After-wide, parts (goal.at.overflow_add-size c).After-row_count-n)

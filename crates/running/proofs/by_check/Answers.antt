@@ -47,10 +47,10 @@ pub term_premise-b-requires : goal.term_premise-b-requires
 term_premise-b-requires c = let made = pieces (goal.at.term_premise-b-requires c).After-wide-many in search rules
 
 pub process_premise-d-requires : goal.process_premise-d-requires
-process_premise-d-requires c = ((start (search)).pre.0.environment, (start (search)).pre.3, (pieces (goal.at.process_premise-d-requires c).After-wide-many).p)
+process_premise-d-requires c = (c.requires.0.environment, c.requires.3, (pieces (goal.at.process_premise-d-requires c).After-wide-many).p)
 
 pub same_as-e-requires : goal.same_as-e-requires
-same_as-e-requires c = ((start (search)).pre.1.type, Prim.tt)
+same_as-e-requires c = (c.requires.1.type, Prim.tt)
 
 pub overflow_add-k-2 : goal.overflow_add-k-2
 overflow_add-k-2 c = let begun = start (search) in omega (arith, shape.type-inside _ _ begun.pre.2.type)
@@ -59,13 +59,13 @@ pub balanced-f-requires : goal.balanced-f-requires
 balanced-f-requires c = let made = pieces (goal.at.balanced-f-requires c).After-wide-many in (
   search rules,
   search rules,
-  shape.nonce-reads _ _ (start (search)).pre.2.type (nonce-there (goal.at.balanced-f-requires c).After-wide-many) _ (many-there (goal.at.balanced-f-requires c).After-wide-many) _ c.type_end-last.ensures,
+  shape.nonce-reads _ _ c.requires.2.type (nonce-there (goal.at.balanced-f-requires c).After-wide-many) _ (many-there (goal.at.balanced-f-requires c).After-wide-many) _ c.type_end-last.ensures,
   (omega arith, omega arith, search (shape.reads_at term)),
 )
 
 pub returns : goal.returns
 unfolding says_process says_term made_type
-returns c = let nonce = shape.nonce-is _ _ (start (search)).pre.2.type (nonce-there (goal.at.returns c).After-wide-many) _ (many-there (goal.at.returns c).After-wide-many) in
+returns c = let nonce = shape.nonce-is _ _ c.requires.2.type (nonce-there (goal.at.returns c).After-wide-many) _ (many-there (goal.at.returns c).After-wide-many) in
     check _ _ _ _ _ _ _ _ _ _ _ _ _ _ _ _ (pieces (goal.at.returns c).After-wide-many).is nonce _ _ _ _ _ _ c.term_premise-a.ensures
     c.term_premise-b.ensures c.process_premise-d.ensures c.same_as-e.ensures
     (stated _ _ _ _ _ _ (less-nonce _ _ _ _ _ _ _ _ _) _ c.balanced-f.ensures) c.all5.ensures

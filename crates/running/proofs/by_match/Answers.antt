@@ -41,28 +41,28 @@ pub term_premise-b-requires : goal.term_premise-b-requires
 term_premise-b-requires c = let made = pieces (goal.at.term_premise-b-requires c).After-word-y in search rules
 
 pub entered-d-requires : goal.entered-d-requires
-entered-d-requires c = ((start (search)).pre.0.environment, (start (search)).pre.3, (pieces (goal.at.entered-d-requires c).After-word-y).t, (pieces (goal.at.entered-d-requires c).After-word-y).p)
+entered-d-requires c = (c.requires.0.environment, c.requires.3, (pieces (goal.at.entered-d-requires c).After-word-y).t, (pieces (goal.at.entered-d-requires c).After-word-y).p)
 
 pub overflow_add-j-2 : goal.overflow_add-j-2
 overflow_add-j-2 c = let begun = start (search) in omega (arith, shape.type-inside _ _ begun.pre.1.type)
 
 pub types_alike-e-requires : goal.types_alike-e-requires
-types_alike-e-requires c = (shape.pair-first _ _ (start (search)).pre.1.type (pair-there (goal.at.types_alike-e-requires c).After-word-y), (start (search)).pre.2.type)
+types_alike-e-requires c = (shape.pair-first _ _ c.requires.1.type (pair-there (goal.at.types_alike-e-requires c).After-word-y), c.requires.2.type)
 
 pub same_changed-f-requires : goal.same_changed-f-requires
-same_changed-f-requires c = let second = shape.pair-second _ _ (start (search)).pre.1.type (pair-there (goal.at.same_changed-f-requires c).After-word-y) _ c.type_end-second.ensures in
+same_changed-f-requires c = let second = shape.pair-second _ _ c.requires.1.type (pair-there (goal.at.same_changed-f-requires c).After-word-y) _ c.type_end-second.ensures in
     let made = pieces (goal.at.same_changed-f-requires c).After-word-y in
     (search (shape.reads_at type_at), search (shape.reads_at type_at), search (shape.reads_at term))
 
 pub unchanged-g-requires : goal.unchanged-g-requires
-unchanged-g-requires c = ((start (search)).pre.0, (start (search)).pre.3)
+unchanged-g-requires c = (c.requires.0, c.requires.3)
 
 pub fresh-h-requires : goal.fresh-h-requires
-fresh-h-requires c = (start (search)).pre.0
+fresh-h-requires c = c.requires.0
 
 pub returns : goal.returns
 unfolding says_process says_term made_type change_by
-returns c = let types = shape.pair_parts _ _ (start (search)).pre.1.type (pair-there (goal.at.returns c).After-word-y) _ c.type_end-second.ensures in
+returns c = let types = shape.pair_parts _ _ c.requires.1.type (pair-there (goal.at.returns c).After-word-y) _ c.type_end-second.ensures in
     match _ _ _ _ _ _ _ _ _ _ _ _ _ _ _ _ _ _ _ (pieces (goal.at.returns c).After-word-y).is types _ _ _ _ _ _ _ _ c.term_premise-a.ensures
     c.term_premise-b.ensures c.entered-d.ensures c.types_alike-e.ensures
     c.same_changed-f.ensures c.unchanged-g.ensures c.fresh-h.ensures c.all7.ensures

@@ -29,7 +29,7 @@ pub same_as-f-requires : goal.same_as-f-requires
 same_as-f-requires c = let made = pieces (goal.at.same_as-f-requires c).After-word-y in search rules
 
 pub fresh-n-requires : goal.fresh-n-requires
-fresh-n-requires c = (start (search)).pre.0
+fresh-n-requires c = c.requires.0
 
 pub returns : goal.returns
 returns c = let made = pieces (goal.at.returns c).After-word-y in search split-Un

@@ -1,4 +1,5 @@
 -- `running::extended_twice` meets its contract: the word, the name, the type, and the older entries. Assumes nothing.
+use Rattle.std.proofs.Common.{ap, not}
 use Prim.Native.Nat.{◌+◌, ◌<◌}
 use lib.ListN.{length}
 use borrow.Author.Rules.{rules}
@@ -6,7 +7,10 @@ use native.Mathlib.Omega.{arith}
 use Rattle.shapes.specs.Shape.{made_type}
 use Rattle.shapes.specs.Shape.Laws.{environment-inside, no-entry, entry-name, entry-type, entry-name-other, entry-type-other, entry-older, entry-same}
 use Rattle.running.proofs.extended_twice.Goals as goal
-use Rattle.running.proofs.extended_twice.Goals.{Else-w-a-ne2}
+use Rattle.running.proofs.extended_twice.Goals.{Else-w-a-ne2, Start}
+
+inside : (c : Start) → c.args.a < length c.args.w.now
+inside c = environment-inside _ _ c.requires.0
 
 -- the entry's name is inside
 module _ (c : Else-w-a-ne2) where
@@ -14,10 +18,10 @@ module _ (c : Else-w-a-ne2) where
   name = entry-name _ _ c.requires.0 c.if-w-a-ne2.false
 
 pub offset_bounds-w-a : goal.offset_bounds-w-a
-offset_bounds-w-a c = let l = inside (search) in search rules
+offset_bounds-w-a c = let l = inside (goal.at.offset_bounds-w-a c).Start in search rules
 
 pub bounds-w-a : goal.bounds-w-a
-bounds-w-a c = omega (arith, inside (search))
+bounds-w-a c = omega (arith, inside (goal.at.bounds-w-a c).Start)
 
 pub returns-then-w-a-ne2 : goal.returns-then-w-a-ne2
 returns-then-w-a-ne2 c = no-entry _ _ c.requires.0 _ _ c.if-w-a-ne2.true
@@ -42,7 +46,7 @@ types_alike-requires c = (entry-type _ _ c.requires.0 c.if-w-a-ne2.false, c.requ
 
 pub returns-then-not-types_alike : goal.returns-then-not-types_alike
 returns-then-not-types_alike c = entry-type-other _ _ c.requires.0 c.if-w-a-ne2.false _ _ _ _ c.types_alike.ensures
-    c.if-not-types_alike.true
+    (ap not c.if-not-types_alike.true)
 
 pub overflow_add-a-3 : goal.overflow_add-a-3
 overflow_add-a-3 c = omega (arith, name (goal.at.overflow_add-a-3 c).Else-w-a-ne2)
@@ -57,4 +61,4 @@ extended-requires c = (
 pub returns : goal.returns
 unfolding made_type
 returns c = entry-same _ _ c.requires.0 c.if-w-a-ne2.false _ c.type_end-older.ensures _ _ _ c.if-w-a.false _
-    c.types_alike.ensures c.if-not-types_alike.false _ c.extended.ensures
+    c.types_alike.ensures (ap not c.if-not-types_alike.false) _ c.extended.ensures

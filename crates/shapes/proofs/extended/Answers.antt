@@ -1,11 +1,15 @@
 -- `shapes::extended` meets its contract: the word, the name, the type, and the older entries. Assumes nothing.
+use Rattle.std.proofs.Common.{ap, not}
 use Prim.Native.Nat.{◌+◌, ◌<◌}
 use lib.ListN.{length}
 use borrow.Author.Rules.{rules}
 use native.Mathlib.Omega.{arith}
 use Rattle.shapes.specs.Shape.Laws.{environment-inside, no-entry, entry-name, entry-type, entry-name-other, entry-type-other, entry-older, entry-same}
 use Rattle.shapes.proofs.extended.Goals as goal
-use Rattle.shapes.proofs.extended.Goals.{Else-w-a-ne2}
+use Rattle.shapes.proofs.extended.Goals.{Else-w-a-ne2, Start}
+
+inside : (c : Start) → c.args.a < length c.args.w.now
+inside c = environment-inside _ _ c.requires.0
 
 -- the entry's name is inside
 module _ (c : Else-w-a-ne2) where
@@ -13,10 +17,10 @@ module _ (c : Else-w-a-ne2) where
   name = entry-name _ _ c.requires.0 c.if-w-a-ne2.false
 
 pub offset_bounds-w-a : goal.offset_bounds-w-a
-offset_bounds-w-a c = let l = inside (search) in search rules
+offset_bounds-w-a c = let l = inside (goal.at.offset_bounds-w-a c).Start in search rules
 
 pub bounds-w-a : goal.bounds-w-a
-bounds-w-a c = omega (arith, inside (search))
+bounds-w-a c = omega (arith, inside (goal.at.bounds-w-a c).Start)
 
 pub returns-then-w-a-ne2 : goal.returns-then-w-a-ne2
 returns-then-w-a-ne2 c = no-entry _ _ c.requires.0 _ _ c.if-w-a-ne2.true
@@ -40,7 +44,7 @@ pub same_as-requires : goal.same_as-requires
 same_as-requires c = (entry-type _ _ c.requires.0 c.if-w-a-ne2.false, c.requires.1)
 
 pub returns-then-not-same_as : goal.returns-then-not-same_as
-returns-then-not-same_as c = entry-type-other _ _ c.requires.0 c.if-w-a-ne2.false _ _ _ _ c.same_as.ensures c.if-not-same_as.true
+returns-then-not-same_as c = entry-type-other _ _ c.requires.0 c.if-w-a-ne2.false _ _ _ _ c.same_as.ensures (ap not c.if-not-same_as.true)
 
 pub overflow_add-a-3 : goal.overflow_add-a-3
 overflow_add-a-3 c = omega (arith, name (goal.at.overflow_add-a-3 c).Else-w-a-ne2)
@@ -50,4 +54,4 @@ environments_alike-requires c = (entry-older _ _ c.requires.0 c.if-w-a-ne2.false
 
 pub returns : goal.returns
 returns c = entry-same _ _ c.requires.0 c.if-w-a-ne2.false _ c.type_end-older.ensures _ _ _ c.if-w-a.false _
-    c.same_as.ensures c.if-not-same_as.false _ c.environments_alike.ensures
+    c.same_as.ensures (ap not c.if-not-same_as.false) _ c.environments_alike.ensures

@@ -5,7 +5,10 @@ use borrow.Author.Rules.{rules}
 use native.Mathlib.Omega.{arith}
 use Rattle.shapes.specs.Shape.Laws.{type-inside, nonce-other, nonce-count, nonce-reads, nonce-same}
 use Rattle.shapes.proofs.is_nonce.Goals as goal
-use Rattle.shapes.proofs.is_nonce.Goals.{Else-w-a-ne5}
+use Rattle.shapes.proofs.is_nonce.Goals.{Else-w-a-ne5, Start}
+
+inside : (c : Start) → c.args.a < length c.args.w.now
+inside c = type-inside _ _ c.requires.0
 
 -- the count is inside
 module _ (c : Else-w-a-ne5) where
@@ -13,10 +16,10 @@ module _ (c : Else-w-a-ne5) where
   count = nonce-count _ _ c.requires.0 c.if-w-a-ne5.false
 
 pub offset_bounds-w-a : goal.offset_bounds-w-a
-offset_bounds-w-a c = let l = inside (search) in search rules
+offset_bounds-w-a c = let l = inside (goal.at.offset_bounds-w-a c).Start in search rules
 
 pub bounds-w-a : goal.bounds-w-a
-bounds-w-a c = omega (arith, inside (search))
+bounds-w-a c = omega (arith, inside (goal.at.bounds-w-a c).Start)
 
 pub returns-then-w-a-ne5 : goal.returns-then-w-a-ne5
 returns-then-w-a-ne5 c = nonce-other _ _ c.requires.0 _ c.if-w-a-ne5.true

@@ -6,12 +6,16 @@ use native.Mathlib.Omega.{arith}
 use Rattle.shapes.specs.Shape.Laws.{type-inside, made-Un, same-there, made-same, channel-there, made-channel, symkey-there, made-symkey, nonce-there}
 use Rattle.shapes.specs.Shape.Laws.{made-nonce, pair-there, made_pair}
 use Rattle.shapes.proofs.same_as.Goals as goal
+use Rattle.shapes.proofs.same_as.Goals.{Start}
+
+inside : (c : Start) → c.args.a < length c.args.w.now
+inside c = type-inside _ _ c.requires.0
 
 pub offset_bounds-w-a : goal.offset_bounds-w-a
-offset_bounds-w-a c = let l = inside (search) in search rules
+offset_bounds-w-a c = let l = inside (goal.at.offset_bounds-w-a c).Start in search rules
 
 pub bounds-w-a : goal.bounds-w-a
-bounds-w-a c = omega (arith, inside (search))
+bounds-w-a c = omega (arith, inside (goal.at.bounds-w-a c).Start)
 
 pub types_alike-requires : goal.types_alike-requires
 types_alike-requires c = (c.requires.0, same-there _ 0 _ _ c.made-1.given.1 c.requires.1)

@@ -10,9 +10,14 @@ use Rattle.typing.specs.Apart.{keeps_apart}
 use Rattle.examining.specs.Checked.Laws.{said-apart, said-not-apart}
 use Rattle.telling.specs.Loaded.{loaded-words}
 use Rattle.telling.proofs.apart_words.Goals as goal
+use Rattle.telling.proofs.apart_words.Goals.{After-load-n}
+
+-- what was loaded has room
+few : (c : After-load-n) → c.load-n.result ≤ 16384
+few c = loaded-many _ refl c.load-n.ensures
 
 pub slice_bounds-a-end : goal.slice_bounds-a-end
-slice_bounds-a-end c = omega (arith, few (search))
+slice_bounds-a-end c = omega (arith, few (goal.at.slice_bounds-a-end c).After-load-n)
 
 pub slice_bounds-keeps_apart-end : goal.slice_bounds-keeps_apart-end
 slice_bounds-keeps_apart-end c = sym (length-take-le _ _ (array-share-prefix-a (search)))

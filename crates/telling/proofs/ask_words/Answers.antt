@@ -9,12 +9,17 @@ use Rattle.octets.specs.Octets.Laws.{loaded-many}
 use Rattle.summary.specs.Summary.{asked}
 use Rattle.telling.specs.Loaded.{loaded-words}
 use Rattle.telling.proofs.ask_words.Goals as goal
+use Rattle.telling.proofs.ask_words.Goals.{After-load-n}
+
+-- what was loaded has room
+few : (c : After-load-n) → c.load-n.result ≤ 16384
+few c = loaded-many c.args.summary.now refl c.load-n.ensures
 
 pub slice_bounds-words-end : goal.slice_bounds-words-end
-slice_bounds-words-end c = omega (arith, few (search))
+slice_bounds-words-end c = omega (arith, few (goal.at.slice_bounds-words-end c).After-load-n)
 
 pub slice_bounds-ask-end : goal.slice_bounds-ask-end
-slice_bounds-ask-end c = simp length-take (omega (arith, few (search)))
+slice_bounds-ask-end c = simp length-take (omega (arith, few (goal.at.slice_bounds-ask-end c).After-load-n))
 
 pub returns : goal.returns
 returns c = let args = c.args in

@@ -9,15 +9,24 @@ use Rattle.octets.specs.Octets.Laws.{loaded-many}
 use Rattle.examining.specs.Checked.{verdict_said}
 use Rattle.telling.specs.Loaded.{loaded-words, checks-loaded}
 use Rattle.telling.proofs.check_words.Goals as goal
+use Rattle.telling.proofs.check_words.Goals.{After-load-m, After-load-n}
+
+-- what was loaded has room: of what is asked,
+asked-few : (c : After-load-m) → c.load-m.result ≤ 16384
+asked-few c = loaded-many _ refl c.load-m.ensures
+
+-- and of the derivation
+derivation-few : (c : After-load-n) → c.load-n.result ≤ 16384
+derivation-few c = loaded-many _ refl c.load-n.ensures
 
 pub slice_bounds-a-end : goal.slice_bounds-a-end
-slice_bounds-a-end c = omega (arith, asked-few (search))
+slice_bounds-a-end c = omega (arith, asked-few (goal.at.slice_bounds-a-end c).After-load-m)
 
 pub slice_bounds-check-end : goal.slice_bounds-check-end
 slice_bounds-check-end c = sym (length-take-le _ _ (array-share-prefix-a (search)))
 
 pub slice_bounds-d-end : goal.slice_bounds-d-end
-slice_bounds-d-end c = omega (arith, derivation-few (search))
+slice_bounds-d-end c = omega (arith, derivation-few (goal.at.slice_bounds-d-end c).After-load-n)
 
 pub slice_bounds-check-end-2 : goal.slice_bounds-check-end-2
 slice_bounds-check-end-2 c = sym (length-take-le _ _ (array-share-prefix-d (search)))

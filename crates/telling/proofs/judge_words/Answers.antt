@@ -8,15 +8,24 @@ use borrow.Author.Rules.{rules}
 use Rattle.octets.specs.Octets.Laws.{loaded-many}
 use Rattle.telling.specs.Loaded.{loaded-words, judges-loaded}
 use Rattle.telling.proofs.judge_words.Goals as goal
+use Rattle.telling.proofs.judge_words.Goals.{After-load-m, After-load-n}
+
+-- what was loaded has room: of the book,
+book-few : (c : After-load-n) → c.load-n.result ≤ 16384
+book-few c = loaded-many _ refl c.load-n.ensures
+
+-- and of the listing
+listing-few : (c : After-load-m) → c.load-m.result ≤ 16384
+listing-few c = loaded-many _ refl c.load-m.ensures
 
 pub slice_bounds-words-end : goal.slice_bounds-words-end
-slice_bounds-words-end c = omega (arith, book-few (search))
+slice_bounds-words-end c = omega (arith, book-few (goal.at.slice_bounds-words-end c).After-load-n)
 
 pub slice_bounds-judge-end : goal.slice_bounds-judge-end
 slice_bounds-judge-end c = sym (length-take-le _ _ (array-share-prefix-words (search)))
 
 pub slice_bounds-theirs-end : goal.slice_bounds-theirs-end
-slice_bounds-theirs-end c = omega (arith, listing-few (search))
+slice_bounds-theirs-end c = omega (arith, listing-few (goal.at.slice_bounds-theirs-end c).After-load-m)
 
 pub slice_bounds-judge-end-2 : goal.slice_bounds-judge-end-2
 slice_bounds-judge-end-2 c = sym (length-take-le _ _ (array-share-prefix-theirs (search)))

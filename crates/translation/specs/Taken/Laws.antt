@@ -125,8 +125,10 @@ member-at (x ∷ l) (suc j) h = Memᴰ.tail (member-at l j (omega arith))
 at-member : {r : ℕ} (l : List ℕ) → Memᴰ r l → (j : ℕ) × (j < length l) × (get_or l j 0 ≡ r)
 at-member [] m = absurd (Memᴰ.not-nil m)
 at-member {r} (x ∷ l) m =
-    let rest = at-member l in
-    ⊎_elim (λ e. (0, omega arith, sym e)) (λ n. let z = rest n in let k = z.1 in (suc z.0, omega arith, z.2)) (Memᴰ.cases_cons m)
+    elim (Memᴰ.cases_cons m) [
+      | inl e ↦ (0, omega arith, sym e)
+      | inr n ↦ let z : (j : ℕ) × (j < length l) × (get_or l j 0 ≡ r) = at-member l n in (suc z.0, omega arith, z.2)
+    ]
 
 -- ---- what can be made
 module _ (N : Narration) (s q : ℕ) where

@@ -1,5 +1,6 @@
 -- `twins::twin` meets its contract: no row passed agrees, since it is in another chain or differs in key, head or part;
 -- the row that is returned is alike in all of them. Assumes nothing.
+use Rattle.std.proofs.Common.{not}
 use Rattle.std.proofs.Common.{◌-◌, ◌%◌, refl, ap, ◌∙◌, inl, inr, arith, rules}
 use Rattle.words.specs.First.Laws.{first-at, first-end}
 use Rattle.twins.specs.Keys.{chains}
@@ -28,7 +29,7 @@ row_first-other-requires c = (search rules, omega arith)
 
 -- behind the two tests the rows are alike, but for their parts
 pub parts-init : goal.parts-init
-parts-init c =                 same-begins c.rows.invariant.0 _ _ c.heads_differ.ensures c.if-not-heads_differ.true _
+parts-init c =                 same-begins c.rows.invariant.0 _ _ c.heads_differ.ensures (ap not c.if-not-heads_differ.true) _
     c.row_first-other.ensures.0
 
 -- both rows keep their rules, so that their parts lie in the pool

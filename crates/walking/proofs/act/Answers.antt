@@ -8,7 +8,12 @@ use Rattle.translation.specs.Long.{step_size}
 use Rattle.receiving.specs.Receiving.{standing}
 use Rattle.walking.proofs.Acting.{sender-party, send-ready, few-made, step-ready, Took, took, acts-send, acts-receive, acts-idle}
 use Rattle.walking.proofs.act.Goals as goal
-use Rattle.walking.proofs.act.Goals.{After-receive_messages-there}
+use Rattle.walking.proofs.act.Goals.{After-receive_messages-there, After-send-sent}
+
+few : (c : After-send-sent) → c.send-sent.result.made ≤ step_size
+few c =
+    few-made c.requires c.step_first-first.ensures.0 c.step_count-n.ensures.0
+    c.send-sent.ensures
 
 -- what the messages took, wherever they have been received
 module _ (c : After-receive_messages-there) where
@@ -42,7 +47,7 @@ pub send-sent-requires : goal.send-sent-requires
 send-sent-requires c = send-ready c.requires c.step_first-first.ensures.0 c.step_count-n.ensures.0
 
 pub overflow_add-result : goal.overflow_add-result
-overflow_add-result c = omega (arith, few (search))
+overflow_add-result c = omega (arith, few (goal.at.overflow_add-result c).After-send-sent)
 
 pub returns-then-step_sender-party : goal.returns-then-step_sender-party
 returns-then-step_sender-party c = acts-send c.requires c.step_first-first.ensures.0 c.step_count-n.ensures.0

@@ -9,6 +9,11 @@ use Rattle.book.specs.Headed.Laws.{valid-headed}
 use Rattle.walking.proofs.Lengths.{few-triples}
 use Rattle.walking.proofs.Whole.{programmed}
 use Rattle.walking.proofs.write_program.Goals as goal
+use Rattle.walking.proofs.write_program.Goals.{After-walk-events}
+
+-- the triples are few, wherever the walk has ended
+few : (c : After-walk-events) → c.walk-events.result.kept ≤ 3072
+few c = search few-triples
 
 pub steps-requires : goal.steps-requires
 steps-requires c = search valid-headed
@@ -19,7 +24,7 @@ walk-events-requires c = let known = c.start-entries.ensures in
     (rw c.steps.ensures c.requires.0, record { holds = known; size = search rules })
 
 pub narrow-requires : goal.narrow-requires
-narrow-requires c = omega (arith, few (search))
+narrow-requires c = omega (arith, few (goal.at.narrow-requires c).After-walk-events)
 
 -- and the log is as long as it was
 pub put_all-requires : goal.put_all-requires

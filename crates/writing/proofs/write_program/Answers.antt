@@ -7,9 +7,14 @@ use borrow.Author.Rules.{rules}
 use Rattle.words.specs.Overlay.Laws.{wrote-length}
 use Rattle.writing.proofs.Parts.{few-triples, programmed}
 use Rattle.writing.proofs.write_program.Goals as goal
+use Rattle.writing.proofs.write_program.Goals.{After-write_events-events}
+
+-- the triples are few
+few : (c : After-write_events-events) → c.write_events-events.result.kept ≤ 3072
+few c = few-triples c.requires c.write_events-events.ensures
 
 pub narrow-requires : goal.narrow-requires
-narrow-requires c = omega (arith, few (search))
+narrow-requires c = omega (arith, few (goal.at.narrow-requires c).After-write_events-events)
 
 pub put_words-triples-requires : goal.put_words-triples-requires
 put_words-triples-requires c = search (wrote-length, rules)

@@ -10,19 +10,19 @@ use Rattle.calls.proofs.answer.Goals as goal
 use Rattle.calls.proofs.answer.Goals.{In-Bytes-2, In-Bytes-read_nth-2-2, In-Bytes-read_nth-3}
 
 -- of the first,
-first-few : (c : In-Bytes-2) → c.l-1.given.0.0 ≤ 65536
+first-few : (c : In-Bytes-2) → c.in-Bytes.l ≤ 65536
 first-few c =
-    within-bytes c.l-1.given.1 c.read_nth.ensures
+    within-bytes c.in-Bytes.is c.read_nth.ensures
 
 -- of the second,
-second-few : (c : In-Bytes-read_nth-3) → c.m-1.given.0.0 ≤ 65536
+second-few : (c : In-Bytes-read_nth-3) → c.in-Bytes-read_nth.m ≤ 65536
 second-few c =
-    within-bytes c.m-1.given.1 c.read_nth-2.ensures
+    within-bytes c.in-Bytes-read_nth.is c.read_nth-2.ensures
 
 -- and of the third
-third-few : (c : In-Bytes-read_nth-2-2) → c.n-1.given.0.0 ≤ 65536
+third-few : (c : In-Bytes-read_nth-2-2) → c.in-Bytes-read_nth-2.n ≤ 65536
 third-few c =
-    within-bytes c.n-1.given.1 c.read_nth-3.ensures
+    within-bytes c.in-Bytes-read_nth-2.is c.read_nth-3.ensures
 
 pub slice_bounds-first-end : goal.slice_bounds-first-end
 slice_bounds-first-end c = omega (arith, first-few (goal.at.slice_bounds-first-end c).In-Bytes-2)

@@ -17,4 +17,4 @@ fits-c-requires c = (search rules, omega arith)
 
 pub returns : goal.returns
 unfolding fits_all
-returns c = c.all3.ensures ∙ three-tests c.fits-b.ensures c.fits-c.ensures c.fits4.ensures
+returns c = c.all3.ensures ∙ three-tests c.fits-a.ensures c.fits-b.ensures c.fits-c.ensures

@@ -27,7 +27,7 @@ returns-then-kind_at-ne5 c = given-other _ _ c.requires.1 _ _ _
 pub returns-then-l-ne0 : goal.returns-then-l-ne0
 returns-then-l-ne0 c = given-effects _ _ c.requires.1
     (sym (kind-is _ _ _ _ c.rule_at.ensures c.kind_at.ensures) ∙ c.if-kind_at-ne5.false) _
-    c.line_at_lem.ensures _ _ _
+    c.line_at-l.ensures _ _ _
     (asked_is _ _ c.environment_end-p.ensures c.if-p-eq0.false _ c.process_end-end.ensures
     c.if-end-eq0.false c.if-end-asked.false)
     c.if-l-ne0.true
@@ -36,14 +36,14 @@ pub same_environment-requires : goal.same_environment-requires
 same_environment-requires c = (
   line-environment _ _ c.requires.1
       (sym (kind-is _ _ _ _ c.rule_at.ensures c.kind_at.ensures) ∙ c.if-kind_at-ne5.false) _
-      c.line_at_lem.ensures _ c.environment_end-e.ensures,
+      c.line_at-l.ensures _ c.environment_end-e.ensures,
   ends_at _ _ _ _ c.environment_end-p.ensures c.if-p-eq0.false,
 )
 
 pub returns-then-not-same_environment : goal.returns-then-not-same_environment
 returns-then-not-same_environment c = given-environment _ _ c.requires.1
     (sym (kind-is _ _ _ _ c.rule_at.ensures c.kind_at.ensures) ∙ c.if-kind_at-ne5.false) _
-    c.line_at_lem.ensures _ _ _
+    c.line_at-l.ensures _ _ _
     (asked_is _ _ c.environment_end-p.ensures c.if-p-eq0.false _ c.process_end-end.ensures
     c.if-end-eq0.false c.if-end-asked.false)
     _ c.same_environment.ensures (not-true _ (ap not c.if-not-same_environment.true))
@@ -52,14 +52,14 @@ pub same_process-requires : goal.same_process-requires
 same_process-requires c = (
   line-process _ _ c.requires.1
       (sym (kind-is _ _ _ _ c.rule_at.ensures c.kind_at.ensures) ∙ c.if-kind_at-ne5.false) _
-      c.line_at_lem.ensures _ c.process_end-f.ensures,
+      c.line_at-l.ensures _ c.process_end-f.ensures,
   ends_at _ _ _ _ c.process_end-end.ensures c.if-end-eq0.false,
 )
 
 pub returns : goal.returns
 returns c = given-process _ _ c.requires.1
     (sym (kind-is _ _ _ _ c.rule_at.ensures c.kind_at.ensures) ∙ c.if-kind_at-ne5.false) _
-    c.line_at_lem.ensures _ _ _
+    c.line_at-l.ensures _ _ _
     (asked_is _ _ c.environment_end-p.ensures c.if-p-eq0.false _ c.process_end-end.ensures
     c.if-end-eq0.false c.if-end-asked.false)
     c.if-l-ne0.false _ c.same_environment.ensures (not-false _ (ap not c.if-not-same_environment.false)) _ c.same_process.ensures

@@ -11,7 +11,7 @@ use Rattle.checking.specs.Lines.Laws.{ruled-range, line-not-there, line-unfit, t
 use Rattle.checking.proofs.line_passes.Goals as goal
 
 pub returns-then-not-is_there : goal.returns-then-not-is_there
-returns-then-not-is_there c =                     line-not-there _ _ _ _ _ _ c.rule_at-n.ensures c.line_at_lem.ensures c.kind_at.ensures
+returns-then-not-is_there c =                     line-not-there _ _ _ _ _ _ c.rule_at-n.ensures c.line_at-own.ensures c.kind_at.ensures
     c.is_there.ensures (not-true _ (ap not c.if-not-is_there.true))
 
 pub returns-then-not-all_fit : goal.returns-then-not-all_fit
@@ -31,10 +31,10 @@ by_number-requires c =                                                          
     let fit = sym c.all_fit.ensures ∙ not-false _ (ap not c.if-not-all_fit.false) in
     let named : Named _ _ _ _ _ _ _ = record {
       rule = c.rule_at-n.ensures;
-      line = c.line_at_lem.ensures;
+      line = c.line_at-own.ensures;
       first = c.line_at-j.ensures ∙ ap (line_of _) c.line_word.ensures.0;
-      (goal.at.by_number-requires c).After-line_at-j = c.line_at-k.ensures ∙ ap (line_of _) c.line_word-2.ensures.0;
-      (goal.at.by_number-requires c).After-line_at-k = c.line_at-l.ensures ∙ ap (line_of _) c.line_word-3.ensures.0;
+      second = c.line_at-k.ensures ∙ ap (line_of _) c.line_word-2.ensures.0;
+      third = c.line_at-l.ensures ∙ ap (line_of _) c.line_word-3.ensures.0;
     } in
     let range = ruled-range _ _ _ there in
     (range.0, range.1, line-ready _ _ c.requires.1 _ _ _ _ _ named there fit)
@@ -44,9 +44,9 @@ returns c =                                                             let ther
     let fit = sym c.all_fit.ensures ∙ not-false _ (ap not c.if-not-all_fit.false) in
     let named : Named _ _ _ _ _ _ _ = record {
       rule = c.rule_at-n.ensures;
-      line = c.line_at_lem.ensures;
+      line = c.line_at-own.ensures;
       first = c.line_at-j.ensures ∙ ap (line_of _) c.line_word.ensures.0;
-      (goal.at.returns c).After-line_at-j = c.line_at-k.ensures ∙ ap (line_of _) c.line_word-2.ensures.0;
-      (goal.at.returns c).After-line_at-k = c.line_at-l.ensures ∙ ap (line_of _) c.line_word-3.ensures.0;
+      second = c.line_at-k.ensures ∙ ap (line_of _) c.line_word-2.ensures.0;
+      third = c.line_at-l.ensures ∙ ap (line_of _) c.line_word-3.ensures.0;
     } in
     line-by _ _ c.requires.1 _ _ _ _ _ named there fit _ c.by_number.ensures

@@ -21,10 +21,10 @@ returns-then-room-needed c = let a = c.args in
 pub returns-then-apart_in : goal.returns-then-apart_in
 returns-then-apart_in c = let a = c.args in
     let enough = apart-enough a.asked.now a.room.now (sym c.is_uneven.ensures ∙ c.if-is_uneven.false) in
-    replied-yes c.if-apart_in.true ∙ c.Apart-in.ensures ∙ sym (enough (omega (arith, c.if-room-needed.false)))
+    replied-yes c.if-apart_in.true ∙ c.apart_in.ensures ∙ sym (enough (omega (arith, c.if-room-needed.false)))
 
 -- or not
 pub returns : goal.returns
 returns c = let a = c.args in
     let enough = apart-enough a.asked.now a.room.now (sym c.is_uneven.ensures ∙ c.if-is_uneven.false) in
-    replied-no c.if-apart_in.false ∙ c.Apart-in.ensures ∙ sym (enough (omega (arith, c.if-room-needed.false)))
+    replied-no c.if-apart_in.false ∙ c.apart_in.ensures ∙ sym (enough (omega (arith, c.if-room-needed.false)))

@@ -40,7 +40,7 @@ slice_bounds-follow_words-end c = let after-put2 = all-put2 (goal.at.slice_bound
     end-few start.pre.0.valid start.pre.0.party after-follow-steps.follow-steps.ensures.0
     (not-false _ else1.if1.left)
     after-follow-steps.follow-steps.ensures.1 after-narrow.narrow.ensures after-put2.put2.ensures
-    c.put_all_lem.ensures
+    c.put_all-end.ensures
 
 pub slice_bounds-follow_words-end-2 : goal.slice_bounds-follow_words-end-2
 slice_bounds-follow_words-end-2 c = let after-put2 = all-put2 (goal.at.slice_bounds-follow_words-end-2 c).After-put_all-end in
@@ -51,7 +51,7 @@ slice_bounds-follow_words-end-2 c = let after-put2 = all-put2 (goal.at.slice_bou
     end-sized start.pre.0.valid start.pre.0.party after-follow-steps.follow-steps.ensures.0
     (not-false _ else1.if1.left)
     after-follow-steps.follow-steps.ensures.1 after-narrow.narrow.ensures after-put2.put2.ensures
-    c.put_all_lem.ensures
+    c.put_all-end.ensures
 
 -- END can be compared
 pub follow_words-requires : goal.follow_words-requires
@@ -63,7 +63,7 @@ follow_words-requires c = let after-put2 = all-put2 (goal.at.follow_words-requir
     end-compare start.pre.0.valid start.pre.0.party after-follow-steps.follow-steps.ensures.0
     (not-false _ else1.if1.left)
     after-follow-steps.follow-steps.ensures.1 after-narrow.narrow.ensures after-put2.put2.ensures
-    c.put_all_lem.ensures
+    c.put_all-end.ensures
 
 -- END is compared
 pub returns : goal.returns

@@ -12,7 +12,7 @@ use Rattle.judge.proofs.judge_listing.Goals.{In-Accepted}
 -- the survey accepts
 module _ (c : In-Accepted) where
   accepted : (reading_says c.survey-all.result.reading).number ≡ 0
-  accepted = ap (λ x. (reading_says x).number) c.enum_told-1.given.1
+  accepted = ap (λ x. (reading_says x).number) c.in-Accepted.is
 
 pub parties-requires : goal.parties-requires
 parties-requires c = valid-headed _ ((after-survey (goal.at.parties-requires c).In-Accepted).survey.ensures.writable (accepted (goal.at.parties-requires c).In-Accepted)).valid
@@ -36,5 +36,5 @@ judge_program-requires c = let told = (after-survey (goal.at.judge_program-requi
 
 -- the survey's refusal
 pub returns-in-Refused : goal.returns-in-Refused
-returns-in-Refused c = refused-judged c.args.book.now c.args.party _ c.reading-1.given.0.0
-    (sym (ap reading_says c.reading-1.given.1) ∙ c.survey-all.ensures.says)
+returns-in-Refused c = refused-judged c.args.book.now c.args.party _ c.in-Refused.why
+    (sym (ap reading_says c.in-Refused.is) ∙ c.survey-all.ensures.says)

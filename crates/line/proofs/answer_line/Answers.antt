@@ -11,8 +11,8 @@ use Rattle.line.proofs.answer_line.Goals.{In-Written-2}
 
 -- what was written lies in the lent words
 module _ (c : In-Written-2) where
-  inside : c.answer-1.given.0.0 ≤ length c.args.lent.now
-  inside = inside-written c.answer-1.given.1 c.requires.2
+  inside : c.in-Written.n ≤ length c.args.lent.now
+  inside = inside-written c.in-Written.is c.requires.2
 
 pub slice_bounds-listing_line-end : goal.slice_bounds-listing_line-end
 slice_bounds-listing_line-end c = simp length-take (omega (arith, inside (goal.at.slice_bounds-listing_line-end c).In-Written-2))

@@ -6,5 +6,5 @@ use Rattle.nghiralum.proofs.run.Goals as goal
 
 -- as many bytes as `reply` answers for were asked for, and no more came than there was room for
 pub reply-end-requires : goal.reply-end-requires
-reply-end-requires c = let few = within-bytes c.input-1.given.1 c.fill-input.ensures in
+reply-end-requires c = let few = within-bytes c.in-Bytes.is c.fill-input.ensures in
     (omega arith, omega arith, search rules)

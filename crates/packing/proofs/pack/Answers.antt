@@ -9,15 +9,15 @@ use Rattle.packing.proofs.pack.Goals as goal
 
 -- a length
 pub pack_told-requires : goal.pack_told-requires
-pack_told-requires c = small-packs (rw c.answer-1.given.1 at c.requires)
+pack_told-requires c = small-packs (rw c.in-Written.is at c.requires)
 
 -- a refusal
 pub pack_told-requires-in-Refused : goal.pack_told-requires-in-Refused
-pack_told-requires-in-Refused c = rw c.told_of.ensures (small-packs (rw c.answer-in-Refused-1.given.1 at c.requires))
+pack_told-requires-in-Refused c = rw c.told_of.ensures (small-packs (rw c.in-Refused.is at c.requires))
 
 pub returns-in-Written : goal.returns-in-Written
-returns-in-Written c = c.pack_told.ensures ∙ sym (ap (λ a. pack_of (answer_says a)) c.answer-1.given.1)
+returns-in-Written c = c.pack_told.ensures ∙ sym (ap (λ a. pack_of (answer_says a)) c.in-Written.is)
 
 pub returns-in-Refused : goal.returns-in-Refused
 returns-in-Refused c = c.pack_told-in-Refused.ensures ∙ ap pack_of c.told_of.ensures
-    ∙ sym (ap (λ a. pack_of (answer_says a)) c.answer-in-Refused-1.given.1)
+    ∙ sym (ap (λ a. pack_of (answer_says a)) c.in-Refused.is)

@@ -9,24 +9,24 @@ use Rattle.packing.proofs.pack_reply.Goals as goal
 
 -- yes
 pub pack_told-requires : goal.pack_told-requires
-pack_told-requires c = small-packs (rw c.enum_told-1.given.1 at c.requires)
+pack_told-requires c = small-packs (rw c.in-Yes.is at c.requires)
 
 -- no
 pub pack_told-requires-in-No : goal.pack_told-requires-in-No
-pack_told-requires-in-No c = small-packs (rw c.enum_told-in-No-1.given.1 at c.requires)
+pack_told-requires-in-No c = small-packs (rw c.in-No.is at c.requires)
 
 -- a refusal
 pub pack_told-requires-in-Refused : goal.pack_told-requires-in-Refused
 pack_told-requires-in-Refused c = rw (c.capped.ensures, c.told_of.ensures)
-    (small-packs (rw c.reply-1.given.1 at c.requires))
+    (small-packs (rw c.in-Refused.is at c.requires))
 
 pub returns-in-Yes : goal.returns-in-Yes
-returns-in-Yes c = c.pack_told.ensures ∙ sym (ap (λ r. pack_of (capped_of (reply_says r))) c.enum_told-1.given.1)
+returns-in-Yes c = c.pack_told.ensures ∙ sym (ap (λ r. pack_of (capped_of (reply_says r))) c.in-Yes.is)
 
 pub returns-in-No : goal.returns-in-No
-returns-in-No c = c.pack_told-in-No.ensures ∙ sym (ap (λ r. pack_of (capped_of (reply_says r))) c.enum_told-in-No-1.given.1)
+returns-in-No c = c.pack_told-in-No.ensures ∙ sym (ap (λ r. pack_of (capped_of (reply_says r))) c.in-No.is)
 
 pub returns-in-Refused : goal.returns-in-Refused
 returns-in-Refused c = c.pack_told-in-Refused.ensures ∙ ap pack_of c.capped.ensures
     ∙ ap (λ s. pack_of (capped_of s)) c.told_of.ensures
-    ∙ sym (ap (λ r. pack_of (capped_of (reply_says r))) c.reply-1.given.1)
+    ∙ sym (ap (λ r. pack_of (capped_of (reply_says r))) c.in-Refused.is)

@@ -18,14 +18,14 @@ two-bounds (Packs.two ln lv lw) = (ln, lv, lw)
 
 -- the values of one
 module _ (c : In-One-2) where
-  one : (c.told-1.given.0.0 < 256) × (c.told-1.given.0.1.0 < 4294967296)
-  one = one-bounds (rw c.told-1.given.1 at c.requires)
+  one : (c.in-One.number < 256) × (c.in-One.first < 4294967296)
+  one = one-bounds (rw c.in-One.is at c.requires)
 
 -- and of two
 module _ (c : In-Two-2) where
-  two : (c.told-in-Two-1.given.0.0 < 256) × (c.told-in-Two-1.given.0.1.0 < 4294967296)
-      × (c.told-in-Two-1.given.0.1.1.0 < 16777216)
-  two = two-bounds (rw c.told-in-Two-1.given.1 at c.requires)
+  two : (c.in-Two.number < 256) × (c.in-Two.first < 4294967296)
+      × (c.in-Two.second < 16777216)
+  two = two-bounds (rw c.in-Two.is at c.requires)
 
 pub overflow_mul-result : goal.overflow_mul-result
 overflow_mul-result c = omega (arith, one (goal.at.overflow_mul-result c).In-One-2)
@@ -47,8 +47,8 @@ overflow_add-result-in-Two-2 c = omega (arith, two (goal.at.overflow_add-result-
 
 pub returns-in-One : goal.returns-in-One
 unfolding pack
-returns-in-One c = omega arith ∙ sym (ap (λ t. pack (told_says t)) c.told-1.given.1)
+returns-in-One c = omega arith ∙ sym (ap (λ t. pack (told_says t)) c.in-One.is)
 
 pub returns-in-Two : goal.returns-in-Two
 unfolding pack
-returns-in-Two c = refl ∙ sym (ap (λ t. pack (told_says t)) c.told-in-Two-1.given.1)
+returns-in-Two c = refl ∙ sym (ap (λ t. pack (told_says t)) c.in-Two.is)

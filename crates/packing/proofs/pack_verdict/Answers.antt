@@ -9,22 +9,22 @@ use Rattle.packing.proofs.pack_verdict.Goals as goal
 
 -- the same
 pub pack_told-requires : goal.pack_told-requires
-pack_told-requires c = rw c.enum_told-1.given.1 at c.requires
+pack_told-requires c = rw c.in-Same.is at c.requires
 
 -- a difference
 pub pack_told-requires-in-Differs : goal.pack_told-requires-in-Differs
-pack_told-requires-in-Differs c = rw c.verdict-1.given.1 at c.requires
+pack_told-requires-in-Differs c = rw c.in-Differs.is at c.requires
 
 -- a refusal
 pub pack_told-requires-in-Refused : goal.pack_told-requires-in-Refused
-pack_told-requires-in-Refused c = rw c.told_of.ensures (rw c.verdict-in-Refused-1.given.1 at c.requires)
+pack_told-requires-in-Refused c = rw c.told_of.ensures (rw c.in-Refused.is at c.requires)
 
 pub returns-in-Same : goal.returns-in-Same
-returns-in-Same c = c.pack_told.ensures ∙ sym (ap (λ r. pack_of (verdict_says r)) c.enum_told-1.given.1)
+returns-in-Same c = c.pack_told.ensures ∙ sym (ap (λ r. pack_of (verdict_says r)) c.in-Same.is)
 
 pub returns-in-Differs : goal.returns-in-Differs
-returns-in-Differs c = c.pack_told-in-Differs.ensures ∙ sym (ap (λ r. pack_of (verdict_says r)) c.verdict-1.given.1)
+returns-in-Differs c = c.pack_told-in-Differs.ensures ∙ sym (ap (λ r. pack_of (verdict_says r)) c.in-Differs.is)
 
 pub returns-in-Refused : goal.returns-in-Refused
 returns-in-Refused c = c.pack_told-in-Refused.ensures ∙ ap pack_of c.told_of.ensures
-    ∙ sym (ap (λ r. pack_of (verdict_says r)) c.verdict-in-Refused-1.given.1)
+    ∙ sym (ap (λ r. pack_of (verdict_says r)) c.in-Refused.is)

@@ -7,8 +7,8 @@ use Rattle.packing.proofs.told_finding.Goals as goal
 
 -- a bad line
 pub returns-in-Bad : goal.returns-in-Bad
-returns-in-Bad c = ap found_says (sym c.finding-1.given.1)
+returns-in-Bad c = ap found_says (sym c.in-Bad.is)
 
 -- a count
 pub returns-in-Refused : goal.returns-in-Refused
-returns-in-Refused c = ap found_says (sym c.finding-in-Refused-1.given.1)
+returns-in-Refused c = ap found_says (sym c.in-Refused.is)

@@ -17,19 +17,19 @@ overflow_add-terms c = omega (arith, spelled-word)
 pub overflow_add-terms-2 : goal.overflow_add-terms-2
 overflow_add-terms-2 c = omega (arith, spelled-word)
 
-pub terms_end-types-requires : goal.terms_end-types-requires
-terms_end-types-requires c = found-names _ _ c.requires _ _ _ c.Counts-of.ensures
-
-pub types_end-list-requires : goal.types_end-list-requires
-types_end-list-requires c = found-terms-inside _ _ c.requires _ _ _ c.Counts-of.ensures _ c.terms_end-types.ensures
-
 pub returns-then-c-ne11 : goal.returns-then-c-ne11
 returns-then-c-ne11 c = search places-no-list
 
-pub list_end-next-requires : goal.list_end-next-requires
-list_end-next-requires c = found-types-inside _ _ c.requires _ _ _ c.Counts-of.ensures _
-    c.terms_end-types.ensures _
-    c.types_end-list.ensures
-
 pub returns : goal.returns
 returns c = search places-list
+
+pub terms_end-types-requires : goal.terms_end-types-requires
+terms_end-types-requires c = found-names _ _ c.requires _ _ _ c.counts_of-counts.ensures
+
+pub types_end-list-requires : goal.types_end-list-requires
+types_end-list-requires c = found-terms-inside _ _ c.requires _ _ _ c.counts_of-counts.ensures _ c.terms_end-types.ensures
+
+pub list_end-next-requires : goal.list_end-next-requires
+list_end-next-requires c = found-types-inside _ _ c.requires _ _ _ c.counts_of-counts.ensures _
+    c.terms_end-types.ensures _
+    c.types_end-list.ensures

@@ -6,7 +6,7 @@ use Rattle.rehearsal.proofs.rehearse.Goals as goal
 
 -- the survey accepts
 pub rehearse_accepted-requires : goal.rehearse_accepted-requires
-rehearse_accepted-requires c = accepted c.survey-all.ensures c.enum_told-1.given.1
+rehearse_accepted-requires c = accepted c.survey-all.ensures c.in-Accepted.is
 
 pub returns-in-Refused : goal.returns-in-Refused
 returns-in-Refused c = search refused

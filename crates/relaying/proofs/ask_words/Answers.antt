@@ -23,8 +23,8 @@ module _ (c : After-find-found) where
       })
 
 pub returns-in-Refused : goal.returns-in-Refused
-returns-in-Refused c = replied-refused _ _ _ _ _ (decides (goal.at.returns-in-Refused c).After-find-found) c.found-1.given.1
+returns-in-Refused c = replied-refused _ _ _ _ _ (decides (goal.at.returns-in-Refused c).After-find-found) c.in-Refused.is
 
 pub returns-in-At : goal.returns-in-At
-returns-in-At c = replied-at _ _ _ _ _ (decides (goal.at.returns-in-At c).After-find-found) _ _ _ c.found-in-At-1.given.1 c.word_at-in-At.ensures
+returns-in-At c = replied-at _ _ _ _ _ (decides (goal.at.returns-in-At c).After-find-found) _ _ _ c.in-At.is c.word_at-in-At.ensures
     c.decide.ensures

@@ -29,7 +29,7 @@ put_words-requires c = let book = c.args.book.now in
     laid-there in
     let many = through-many (rehearsal_says book moves done) (events_done book moves) done _
     c.rehearse-answer.result out same
-    laid-there c.answer-in-Written-1.given.1 (rehearsal-fits book moves done) in
+    laid-there c.in-Written.is (rehearsal-fits book moves done) in
     omega arith
 
 -- the rehearsal's refusal
@@ -41,7 +41,7 @@ returns-in-Refused c = let book = c.args.book.now in
     through-refused (rehearsal_says book moves done) (events_done book moves) done _
     c.rehearse-answer.result out
     (between-rehearsal book moves done out c.requires) (as-laid book moves done c.rehearse-answer.ensures)
-    c.answer-1.given.1
+    c.in-Refused.is
 
 -- and they are the events done
 pub returns-in-Written : goal.returns-in-Written
@@ -52,4 +52,4 @@ returns-in-Written c = let book = c.args.book.now in
     through-written (rehearsal_says book moves done) (events_done book moves) done _
     c.rehearse-answer.result out
     (between-rehearsal book moves done out c.requires) (as-laid book moves done c.rehearse-answer.ensures)
-    c.answer-in-Written-1.given.1 (rehearsal-fits book moves done) c.put_words.ensures
+    c.in-Written.is (rehearsal-fits book moves done) c.put_words.ensures

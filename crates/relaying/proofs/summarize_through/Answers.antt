@@ -27,7 +27,7 @@ put_words-requires c = let book = c.args.book.now in
     laid-there in
     let many = through-many (summary_says book told) (summary book) told _
     c.write_summary-answer.result out same
-    laid-there c.answer-in-Written-1.given.1 (summary-fits book told) in
+    laid-there c.in-Written.is (summary-fits book told) in
     omega arith
 
 -- the book's refusal, or 12
@@ -38,7 +38,7 @@ returns-in-Refused c = let book = c.args.book.now in
     through-refused (summary_says book told) (summary book) told _
     c.write_summary-answer.result out
     (between-summary book told out c.requires) (as-laid book told c.write_summary-answer.ensures)
-    c.answer-1.given.1
+    c.in-Refused.is
 
 -- and they are the summary
 pub returns-in-Written : goal.returns-in-Written
@@ -48,4 +48,4 @@ returns-in-Written c = let book = c.args.book.now in
     through-written (summary_says book told) (summary book) told _
     c.write_summary-answer.result out
     (between-summary book told out c.requires) (as-laid book told c.write_summary-answer.ensures)
-    c.answer-in-Written-1.given.1 (summary-fits book told) c.put_words.ensures
+    c.in-Written.is (summary-fits book told) c.put_words.ensures

@@ -18,35 +18,35 @@ pub bounds-w-a : goal.bounds-w-a
 bounds-w-a c = omega (arith, inside (goal.at.bounds-w-a c).Start)
 
 pub types_alike-requires : goal.types_alike-requires
-types_alike-requires c = (c.requires.0, same-there _ 0 _ _ c.made-1.given.1 c.requires.1)
+types_alike-requires c = (c.requires.0, same-there _ 0 _ _ c.in-Same.is c.requires.1)
 
 pub wraps-requires : goal.wraps-requires
-wraps-requires c = (c.requires.0, channel-there _ 0 _ _ c.made-in-Channel-1.given.1 c.requires.1, omega arith, omega arith)
+wraps-requires c = (c.requires.0, channel-there _ 0 _ _ c.in-Channel.is c.requires.1, omega arith, omega arith)
 
 pub wraps-requires-in-Symkey : goal.wraps-requires-in-Symkey
-wraps-requires-in-Symkey c = (c.requires.0, symkey-there _ 0 _ _ c.made-in-Symkey-1.given.1 c.requires.1, omega arith, omega arith)
+wraps-requires-in-Symkey c = (c.requires.0, symkey-there _ 0 _ _ c.in-Symkey.is c.requires.1, omega arith, omega arith)
 
 pub is_nonce-requires : goal.is_nonce-requires
-is_nonce-requires c = (c.requires.0, nonce-there _ 0 _ _ _ _ c.made-in-Nonce-1.given.1 c.requires.1)
+is_nonce-requires c = (c.requires.0, nonce-there _ 0 _ _ _ _ c.in-Nonce.is c.requires.1)
 
 pub is_pair-requires : goal.is_pair-requires
-is_pair-requires c = let (first, second) = pair-there _ 0 _ _ _ _ c.made-in-Pair-1.given.1 c.requires.1 in
+is_pair-requires c = let (first, second) = pair-there _ 0 _ _ _ _ c.in-Pair.is c.requires.1 in
     (c.requires.0, first, second)
 
 pub returns-in-Un : goal.returns-in-Un
-returns-in-Un c = made-Un _ _ _ c.enum_told-1.given.1 c.requires.0
+returns-in-Un c = made-Un _ _ _ c.in-Un.is c.requires.0
 
 pub returns-in-Same : goal.returns-in-Same
-returns-in-Same c = made-same _ _ _ _ c.made-1.given.1 _ c.types_alike.ensures
+returns-in-Same c = made-same _ _ _ _ c.in-Same.is _ c.types_alike.ensures
 
 pub returns-in-Channel : goal.returns-in-Channel
-returns-in-Channel c = made-channel _ _ _ _ c.made-in-Channel-1.given.1 _ c.wraps.ensures
+returns-in-Channel c = made-channel _ _ _ _ c.in-Channel.is _ c.wraps.ensures
 
 pub returns-in-Symkey : goal.returns-in-Symkey
-returns-in-Symkey c = made-symkey _ _ _ _ c.made-in-Symkey-1.given.1 _ c.wraps-in-Symkey.ensures
+returns-in-Symkey c = made-symkey _ _ _ _ c.in-Symkey.is _ c.wraps-in-Symkey.ensures
 
 pub returns-in-Nonce : goal.returns-in-Nonce
-returns-in-Nonce c = made-nonce _ _ _ _ _ _ c.made-in-Nonce-1.given.1 _ c.is_nonce.ensures
+returns-in-Nonce c = made-nonce _ _ _ _ _ _ c.in-Nonce.is _ c.is_nonce.ensures
 
 pub returns-in-Pair : goal.returns-in-Pair
-returns-in-Pair c = made_pair _ _ _ _ _ _ c.made-in-Pair-1.given.1 _ c.is_pair.ensures
+returns-in-Pair c = made_pair _ _ _ _ _ _ c.in-Pair.is _ c.is_pair.ensures

@@ -9,6 +9,6 @@ use Rattle.shelf.proofs.seven_lines.Goals as goal
 pub returns : goal.returns
 returns c = let (line, _) = c.put_translation-first.ensures in
     let (four, _) = c.put_played-second.ensures in
-    let (two, _) = c.Put-refused.ensures in
+    let (two, _) = c.put_refused.ensures in
     let (parties, _) = c.seats_of-parties.ensures in
     (counts-within _ _ (omega arith), seven-put c.args.book.now parties line four two)

@@ -9,10 +9,10 @@ use Rattle.summary.proofs.write_summary.Goals as goal
 
 -- the survey accepts
 pub summarize_accepted-requires : goal.summarize_accepted-requires
-summarize_accepted-requires c = let accepted = ap (λ x. (reading_says x).number) c.enum_told-1.given.1 in
+summarize_accepted-requires c = let accepted = ap (λ x. (reading_says x).number) c.in-Accepted.is in
     (surveyed-plays c.survey-all.ensures accepted, c.survey-all.ensures.writable accepted)
 
 -- the survey's refusal
 pub returns-in-Refused : goal.returns-in-Refused
-returns-in-Refused c = summary-refused-came c.args.book.now c.args.out.now c.reading-1.given.0.0
-    (sym (ap reading_says c.reading-1.given.1) ∙ c.survey-all.ensures.says)
+returns-in-Refused c = summary-refused-came c.args.book.now c.args.out.now c.in-Refused.why
+    (sym (ap reading_says c.in-Refused.is) ∙ c.survey-all.ensures.says)

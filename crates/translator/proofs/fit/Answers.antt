@@ -5,11 +5,11 @@ use Rattle.translator.proofs.fit.Goals as goal
 
 -- the output is longer than there is room
 pub returns-then-room-end : goal.returns-then-room-end
-returns-then-room-end c = fitted_short _ _ c.enum_told-1.given.1 c.if-room-end.true
+returns-then-room-end c = fitted_short _ _ c.in-Accepted.is c.if-room-end.true
 
 pub returns-in-Refused : goal.returns-in-Refused
 returns-in-Refused c = search fitted-refused
 
 -- it is not
 pub returns-else-room-end : goal.returns-else-room-end
-returns-else-room-end c = fitted-length _ _ c.enum_told-1.given.1 c.if-room-end.false
+returns-else-room-end c = fitted-length _ _ c.in-Accepted.is c.if-room-end.false

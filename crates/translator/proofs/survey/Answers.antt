@@ -10,9 +10,9 @@ survey_valid-requires c = search accepted-book
 
 -- the reader refuses
 pub returns-in-Refused : goal.returns-in-Refused
-returns-in-Refused c = let why = c.why-1.given.0.0 in
+returns-in-Refused c = let why = c.in-Refused.why in
     record {
-      says = refused-accept c.args.book.now _ why c.read.ensures c.why-1.given.1;
+      says = refused-accept c.args.book.now _ why c.read.ensures c.in-Refused.is;
       writable = λ z. absurd (refusal-number why z);
       heads = λ z. absurd (refusal-number why z);
       ends = λ z. absurd (refusal-number why z);

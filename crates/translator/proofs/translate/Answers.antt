@@ -11,15 +11,15 @@ use Rattle.translator.proofs.translate.Goals as goal
 pub write_listing-requires : goal.write_listing-requires
 write_listing-requires c = let found = c.survey-all.ensures in
     let room = length c.args.out.now in
-    let accepted = written-accepted found room refl c.fit-answer.ensures c.answer-in-Written-1.given.1 in
+    let accepted = written-accepted found room refl c.fit-answer.ensures c.in-Written.is in
     (found.writable accepted, found.heads accepted)
 
 -- the refusal
 pub returns-in-Refused : goal.returns-in-Refused
 returns-in-Refused c = refused-came c.survey-all.ensures c.args.out.now refl c.fit-answer.ensures
-    c.answer-1.given.1
+    c.in-Refused.is
 
 -- the length, and the listing over what was lent
 pub returns-in-Written : goal.returns-in-Written
 returns-in-Written c = written-came c.survey-all.ensures c.args.out.now refl c.fit-answer.ensures
-    c.answer-in-Written-1.given.1 c.write_listing.ensures
+    c.in-Written.is c.write_listing.ensures

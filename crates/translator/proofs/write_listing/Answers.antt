@@ -18,7 +18,7 @@ pub write_bodies-requires : goal.write_bodies-requires
 write_bodies-requires c = let (writable, heads) = c.requires in (
   writable,
   front_low _ writable.valid c.parties-n.ensures c.wide.ensures.0
-      heads c.put-first.ensures c.put_all_lem.ensures,
+      heads c.put-first.ensures c.put_all-next.ensures,
 )
 
 pub returns : goal.returns

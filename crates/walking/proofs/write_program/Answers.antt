@@ -36,4 +36,4 @@ pub returns : goal.returns
 returns c = let (ready, unrefused) = c.requires in
     programmed ready.valid ready.party refl c.steps.ensures unrefused
     c.walk-events.ensures c.narrow.ensures c.put2-triples.ensures
-    c.put_all_lem.ensures
+    c.put_all.ensures

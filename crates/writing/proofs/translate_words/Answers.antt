@@ -12,15 +12,15 @@ use Rattle.writing.proofs.translate_words.Goals as goal
 pub write_listing-requires : goal.write_listing-requires
 write_listing-requires c = let found = c.survey-all.ensures in
     let room = length c.args.out.now / 4 in
-    let accepted = written-accepted found room refl c.fit-answer.ensures c.answer-in-Written-1.given.1 in
+    let accepted = written-accepted found room refl c.fit-answer.ensures c.in-Written.is in
     (found.writable accepted, found.heads accepted)
 
 -- the refusal
 pub returns-in-Refused : goal.returns-in-Refused
 returns-in-Refused c = refused-came c.args.out.now c.survey-all.ensures refl c.fit-answer.ensures
-    c.answer-1.given.1
+    c.in-Refused.is
 
 -- the length, and the listing's bytes over what was lent
 pub returns-in-Written : goal.returns-in-Written
 returns-in-Written c = written-came c.args.out.now c.survey-all.ensures refl c.fit-answer.ensures
-    c.answer-in-Written-1.given.1 c.write_listing.ensures
+    c.in-Written.is c.write_listing.ensures

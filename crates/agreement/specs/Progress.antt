@@ -105,6 +105,7 @@ module _ (N : Narration) where
     ask p u l (Stands.acts {e = e} {es = es} o) n w = record { who = p; within = u; can = CanMove.by_own (does-own p e es l o) }
 
     still-to_send : {s : ℕ} {es : List Event} → ToSend s es → AtEnd es → ⊥
+    still-to_send ToSend.here x = elim x [ ]
     still-to_send (ToSend.later h) AtEnd.end = to_send-none h
 
     -- the sender of step s waits for an earlier one

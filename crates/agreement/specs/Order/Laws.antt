@@ -62,6 +62,8 @@ module _ (N : Narration) (p : ℕ) where
 
   -- what is left when an event was done
   pub rising-did : {low : ℕ} {e : Event} {es : List Event} {o : Shown} → Rising N p low (e ∷ es) → Showing e o → Rising N p 0 es
+  rising-did Rising.end x = elim x [ ]
+  rising-did (Rising.receives l w e h) x = elim x [ ]
   rising-did (Rising.new h) Showing.new = rising-low zero-le h
   rising-did (Rising.sends l e h) Showing.sends = rising-low zero-le h
   rising-did (Rising.checks h) Showing.checks = rising-low zero-le h
@@ -75,6 +77,10 @@ among_none : {s : ℕ} → Among s [] → ⊥
 among_none h = elim h [ ]
 
 pub rising-among : {N : Narration} {p low s : ℕ} {es : List Event} → Rising N p low es → Among s es → low ≤ s
+rising-among Rising.end (Among.here x) = elim x [ ]
+rising-among (Rising.new h) (Among.here x) = elim x [ ]
+rising-among (Rising.checks h) (Among.here x) = elim x [ ]
+rising-among (Rising.opens h) (Among.here x) = elim x [ ]
 rising-among Rising.end (Among.later k) = absurd (among_none k)
 rising-among (Rising.new h) (Among.later k) = rising-among h k
 rising-among (Rising.sends l e h) (Among.here Of.sends) = l
@@ -86,6 +92,10 @@ rising-among (Rising.opens h) (Among.later k) = rising-among h k
 
 -- before an event of a step no other is of that step
 pub rising-once : {N : Narration} {p low s : ℕ} {e : Event} {es : List Event} → Rising N p low (e ∷ es) → Among s es → Of s e → ⊥
+rising-once Rising.end k x = elim k [ ]
+rising-once (Rising.new h) k x = elim x [ ]
+rising-once (Rising.checks h) k x = elim x [ ]
+rising-once (Rising.opens h) k x = elim x [ ]
 rising-once (Rising.sends l e h) k Of.sends = let a = rising-among h k in absurd (omega arith)
 rising-once (Rising.receives l w e h) k Of.receives = let a = rising-among h k in absurd (omega arith)
 

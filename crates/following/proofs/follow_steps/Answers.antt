@@ -36,7 +36,7 @@ loop-i-init c = (
 )
 
 pub follow_step-reached-requires : goal.follow_step-reached-requires
-follow_step-reached-requires c = (more (goal.at.follow_step-reached-requires c).In-loop-i, (start (goal.at.follow_step-reached-requires c).In-loop-i).pre.0.partners, (at-loop (goal.at.follow_step-reached-requires c).In-loop-i).loop.inv.0)
+follow_step-reached-requires c = (more (goal.at.follow_step-reached-requires c).In-loop-i, c.requires.0.partners, c.loop-i.invariant.0)
 
 -- the step doesn't agree
 pub returns-then-not-reached : goal.returns-then-not-reached

@@ -25,23 +25,23 @@ pub loop-k-init : goal.loop-k-init
 loop-k-init c = up_start c.requires
 
 pub agree-agreed-requires : goal.agree-agreed-requires
-agree-agreed-requires c = up-ready (at-loop (goal.at.agree-agreed-requires c).In-loop-k).loop.inv c.size-total.ensures (more (goal.at.agree-agreed-requires c).In-loop-k)
+agree-agreed-requires c = up-ready c.loop-k.invariant c.size-total.ensures (more (goal.at.agree-agreed-requires c).In-loop-k)
 
 -- the word doesn't agree
 pub returns-then-not-agreed : goal.returns-then-not-agreed
 returns-then-not-agreed c = let then1 : in_words tie.Then1 = c in
-    up-off (at-loop (goal.at.returns-then-not-agreed c).In-loop-k).loop.inv (more (goal.at.returns-then-not-agreed c).In-loop-k) c.word-v.ensures _ c.agree-agreed.ensures
+    up-off c.loop-k.invariant (more (goal.at.returns-then-not-agreed c).In-loop-k) c.word-v.ensures _ c.agree-agreed.ensures
     (not-true _ then1.if1.taken) refl
     refl
 
 pub fill-filled-requires : goal.fill-filled-requires
-fill-filled-requires c = up_fits (at-loop (goal.at.fill-filled-requires c).In-loop-k).loop.inv (more (goal.at.fill-filled-requires c).In-loop-k) c.word-v.ensures c.agree-agreed.ensures
+fill-filled-requires c = up_fits c.loop-k.invariant (more (goal.at.fill-filled-requires c).In-loop-k) c.word-v.ensures c.agree-agreed.ensures
     (not-false _ (ap not c.if-not-agreed.false))
     c.their-y.ensures (omega arith) c.run_of-run.ensures
 
 -- a word stands at the place, so there is a place behind it
 pub overflow_add-at : goal.overflow_add-at
-overflow_add-at c = let there = up-there (at-loop (goal.at.overflow_add-at c).In-loop-k).loop.inv (more (goal.at.overflow_add-at c).In-loop-k) c.word-v.ensures
+overflow_add-at c = let there = up-there c.loop-k.invariant (more (goal.at.overflow_add-at c).In-loop-k) c.word-v.ensures
     c.agree-agreed.ensures
     (not-false _ (ap not c.if-not-agreed.false)) in
     omega arith
@@ -50,7 +50,7 @@ pub overflow_add-k-in-loop-k : goal.overflow_add-k-in-loop-k
 overflow_add-k-in-loop-k c = omega (arith, next (goal.at.overflow_add-k-in-loop-k c).In-loop-k)
 
 pub loop-k-preserved : goal.loop-k-preserved
-loop-k-preserved c = up-on (at-loop (goal.at.loop-k-preserved c).In-loop-k).loop.inv (more (goal.at.loop-k-preserved c).In-loop-k) c.word-v.ensures c.agree-agreed.ensures
+loop-k-preserved c = up-on c.loop-k.invariant (more (goal.at.loop-k-preserved c).In-loop-k) c.word-v.ensures c.agree-agreed.ensures
     (not-false _ (ap not c.if-not-agreed.false))
     c.their-y.ensures c.run_of-run.ensures c.next-mode.ensures
     c.fill-filled.ensures

@@ -35,7 +35,7 @@ row_count-requires c = search (valid-headed, rules)
 -- an operation, with its tag and how many arguments it has
 pub returns-then-kind-eq-OPERATION : goal.returns-then-kind-eq-OPERATION
 returns-then-kind-eq-OPERATION c = wrote_as c.put3.ensures
-    (head-operation (start (goal.at.returns-then-kind-eq-OPERATION c).After-row_kind-kind).args.book.now _ _ c.row_kind-kind.ensures c.of-head.ensures
+    (head-operation c.args.book.now _ _ c.row_kind-kind.ensures c.of-head.ensures
     c.if-kind-eq-OPERATION.true c.row_tag.ensures
     (c.narrow.ensures ∙ c.row_count.ensures.0))
 
@@ -51,17 +51,17 @@ overflow_sub-row_count c = let (valid, inside) = c.requires in
 -- a cipher, with how many contents it has
 pub returns-then-kind-eq-CIPHER : goal.returns-then-kind-eq-CIPHER
 returns-then-kind-eq-CIPHER c = wrote_as c.put2.ensures
-    (head-cipher (start (goal.at.returns-then-kind-eq-CIPHER c).After-row_kind-kind).args.book.now _ _ c.row_kind-kind.ensures c.of-head.ensures
+    (head-cipher c.args.book.now _ _ c.row_kind-kind.ensures c.of-head.ensures
     c.if-kind-eq-CIPHER.true c.row_count-then-kind-eq-CIPHER.ensures.0 c.narrow-then-kind-eq-CIPHER.ensures)
 
 -- a half: its code alone
 pub returns-then-is_half : goal.returns-then-is_half
 returns-then-is_half c = wrote_as c.put.ensures
-    (head-half (start (goal.at.returns-then-is_half c).After-row_kind-kind).args.book.now _ _ c.row_kind-kind.ensures c.of-head.ensures
+    (head-half c.args.book.now _ _ c.row_kind-kind.ensures c.of-head.ensures
     (a_half _ c.is_half.ensures c.if-is_half.true) (kinded (goal.at.returns-then-is_half c).After-row_kind-kind))
 
 -- an atom, itself
 pub returns : goal.returns
 returns c = wrote_as c.put2-2.ensures
-    (head-atom (start (goal.at.returns c).After-row_kind-kind).args.book.now _ _ c.row_kind-kind.ensures c.of-head.ensures
+    (head-atom c.args.book.now _ _ c.row_kind-kind.ensures c.of-head.ensures
     (atom-left _ c.if-kind-eq-OPERATION.false c.if-kind-eq-CIPHER.false (no-half _ c.is_half.ensures c.if-is_half.false)))

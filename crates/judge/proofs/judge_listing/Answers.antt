@@ -15,15 +15,15 @@ module _ (c : In-Accepted) where
   accepted = ap (λ x. (reading_says x).number) c.in-Accepted.is
 
 pub parties-requires : goal.parties-requires
-parties-requires c = valid-headed _ ((after-survey (goal.at.parties-requires c).In-Accepted).survey.ensures.writable (accepted (goal.at.parties-requires c).In-Accepted)).valid
+parties-requires c = valid-headed _ (c.survey-all.ensures.writable (accepted (goal.at.parties-requires c).In-Accepted)).valid
 
 -- there is no such party
 pub returns-then-parties-party : goal.returns-then-parties-party
-returns-then-parties-party c = let plays = surveyed-plays (after-survey (goal.at.returns-then-parties-party c).In-Accepted).survey.ensures (accepted (goal.at.returns-then-parties-party c).In-Accepted) in
+returns-then-parties-party c = let plays = surveyed-plays c.survey-all.ensures (accepted (goal.at.returns-then-parties-party c).In-Accepted) in
     nobody-judged c.args.book.now _ _ plays (rw c.parties.ensures at c.if-parties-party.true)
 
 pub judge_program-requires : goal.judge_program-requires
-judge_program-requires c = let told = (after-survey (goal.at.judge_program-requires c).In-Accepted).survey.ensures in
+judge_program-requires c = let told = c.survey-all.ensures in
     let writable = told.writable (accepted (goal.at.judge_program-requires c).In-Accepted) in (
       surveyed-plays told (accepted (goal.at.judge_program-requires c).In-Accepted),
       record {

@@ -12,14 +12,8 @@ module _ (c : Else-c-ne11) where
   inside : c.args.a < length c.args.w.now
   inside = c.requires c.if-c-ne11.false
 
-pub returns-then-c-ne11 : goal.returns-then-c-ne11
-returns-then-c-ne11 c = absurd (c.if-c-ne11.true e)
-
 pub offset_bounds-w-a : goal.offset_bounds-w-a
 offset_bounds-w-a c = let l = inside (goal.at.offset_bounds-w-a c).Else-c-ne11 in search rules
 
 pub bounds-w-a : goal.bounds-w-a
 bounds-w-a c = omega (arith, inside (goal.at.bounds-w-a c).Else-c-ne11)
-
-pub returns : goal.returns
-returns c = c.wide.ensures.0

@@ -6,19 +6,18 @@ use Rattle.reader.proofs.read_rows.Goals as goal
 pub returns-then-row-rows : goal.returns-then-row-rows
 returns-then-row-rows c = search says_row
 
--- behind the first test the rows keep their rules: the scan found none that breaks its own
-pub oversize-large-requires : goal.oversize-large-requires
-oversize-large-requires c = let else1 : tie.Else1 = c in
-    (search rules, rows-kept _ _ _ c.scan_rows-row.ensures.stopped c.rows.ensures else1.if1.false)
-
 pub returns-then-large-rows : goal.returns-then-large-rows
 returns-then-large-rows c = search says-size
 
-pub repeated-again-requires : goal.repeated-again-requires
-repeated-again-requires c = oversize-requires (search) κs
-
 pub returns-then-again-rows : goal.returns-then-again-rows
 returns-then-again-rows c = search says-repeat
+
+-- behind the first test the rows keep their rules: the scan found none that breaks its own
+pub oversize-large-requires : goal.oversize-large-requires
+oversize-large-requires c = (search rules, rows-kept _ _ _ c.scan_rows-row.ensures.stopped c.rows.ensures c.if-row-rows.false)
+
+pub repeated-again-requires : goal.repeated-again-requires
+repeated-again-requires c = (search rules, rows-kept _ _ _ c.scan_rows-row.ensures.stopped c.rows.ensures c.if-row-rows.false)
 
 -- and the scan's sum is that of all rows' counts
 pub read_parties-requires : goal.read_parties-requires

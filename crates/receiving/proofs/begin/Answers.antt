@@ -41,7 +41,7 @@ settle_run-requires c = begun-ready c.requires c.opens.ensures c.if-opens.true c
 
 -- what its contents leave
 pub returns-then-opens : goal.returns-then-opens
-returns-then-opens c = begun_opened (start (goal.at.returns-then-opens c).After-opens).pre c.opens.ensures c.if-opens.true
+returns-then-opens c = begun_opened c.requires c.opens.ensures c.if-opens.true
     c.row_first-first.ensures.0 c.row_count-left.ensures.0 c.narrow.ensures
     c.put_open-last.ensures c.settle_run.ensures
 

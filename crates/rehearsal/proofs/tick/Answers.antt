@@ -30,7 +30,7 @@ bounds-ends-wide c = omega (arith, few-parties)
 
 -- it is at END
 pub returns-then-end-wide : goal.returns-then-end-wide
-returns-then-end-wide c = let a = (start (goal.at.returns-then-end-wide c).After-wide-3).args in (
+returns-then-end-wide c = let a = c.args in (
   at-end a.book.now a.sends.now a.receives.now a.ends.now a.done.now a.party (done (goal.at.returns-then-end-wide c).After-wide-3)
       (ends (goal.at.returns-then-end-wide c).After-wide-3) (omega arith),
   sized (goal.at.returns-then-end-wide c).After-wide-3,
@@ -38,7 +38,7 @@ returns-then-end-wide c = let a = (start (goal.at.returns-then-end-wide c).After
 
 -- the END is still ahead, and it waits
 pub returns-then-waits : goal.returns-then-waits
-returns-then-waits c = let a = (start (goal.at.returns-then-waits c).After-wide-3).args in (
+returns-then-waits c = let a = c.args in (
   still-waits a.book.now a.sends.now a.receives.now a.ends.now a.done.now a.party
       (done (goal.at.returns-then-waits c).After-wide-3) (ends (goal.at.returns-then-waits c).After-wide-3) c.if-end-wide.false c.waits.ensures c.if-waits.true,
   sized (goal.at.returns-then-waits c).After-wide-3,
@@ -49,7 +49,7 @@ bounds-done-wide-2 c = omega (arith, few-parties)
 
 -- the END is still ahead, and it doesn't wait
 pub returns : goal.returns
-returns c = let a = (start (goal.at.returns c).After-wide-3).args in
+returns c = let a = c.args in
     let inside : a.party < length a.done.now = omega (arith, few-parties) in (
       does-next a.book.now a.sends.now a.receives.now a.ends.now a.done.now a.party
           (done (goal.at.returns c).After-wide-3) (ends (goal.at.returns c).After-wide-3) c.if-end-wide.false c.waits.ensures c.wide.ensures.0

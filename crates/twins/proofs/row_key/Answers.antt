@@ -15,7 +15,7 @@ module _ (c : After-row_count-n) where
 pub loop-j-init : goal.loop-j-init
 loop-j-init c = (
   omega arith,
-  mixing-starts _ _ _ _ _ _ _ c.row_kind-kind.ensures c.row_tag-tag.ensures (first (goal.at.loop-j-init c).After-row_count-n).row_first.ensures.0
+  mixing-starts _ _ _ _ _ _ _ c.row_kind-kind.ensures c.row_tag-tag.ensures c.row_first-first.ensures.0
       c.row_count-n.ensures.0 c.mixed-key.ensures,
 )
 

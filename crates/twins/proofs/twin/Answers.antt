@@ -9,18 +9,6 @@ use Rattle.rows.specs.Parts.Laws.{parts-of}
 use Rattle.twins.proofs.Twins.{heads-differ, SameTo, same-begins, same-goes, same_alike, part-differs, Own, Hunting, key-read, hunting-starts, hunting-goes, hunting-on}
 use Rattle.twins.proofs.twin.Goals as goal
 
--- what was read of the row, and the first row of its own chain
-pub rows-init : goal.rows-init
-rows-init c =                         let (headed, keep, chained, inside) = c.requires in
-    let key = key-read chained inside c.wide.ensures.0 in (
-      record {
-        key = key;
-        (goal.at.rows-init c).After-row_first-first = c.row_first-first.ensures.0;
-        (goal.at.rows-init c).After-row_count-n = c.row_count-n.ensures.0;
-      },
-      hunting-starts chained inside (c.wide-2.ensures.0 ∙ ap (λ y. y % chains) key),
-    )
-
 pub heads_differ-requires : goal.heads_differ-requires
 heads_differ-requires c = (search rules, search rules, omega arith)
 
@@ -59,22 +47,6 @@ rows-smaller c =                     let (headed, keep, chained, inside) = c.req
     let on = hunting-on chained inside hunt c.if-k-row.false c.wide-in-rows-2.ensures.0 in
     omega arith
 
--- the other row differs in a part, in its head or in its key; the hunt goes on along the chain
-pub rows-preserved : goal.rows-preserved
-rows-preserved c =                             let (headed, keep, chained, inside) = c.requires in
-    let (own, hunt) = c.rows.invariant in
-    let within = hunt.scan.within in
-    let key = key-read chained (omega arith) c.wide-in-rows.ensures.0 in (
-      own,
-      hunting-goes chained inside hunt c.if-k-row.false
-          (elim c.if-keys-wide.branch [
-            | inl (if2, differ, if3, first2, parts, if4, part, part2, if5) ↦
-                part-differs _ _ _ _ _ _ _ parts.inv if4.left _ _ part.ensures part2.ensures if5.taken
-            | inr (inl (if2, differ, if3)) ↦ heads-differ _ _ _ _ differ.ensures if3.left
-            | inr (inr if2) ↦ key-differs _ _ _ _ _ own.key key if2.left
-          ]) c.wide-in-rows-2.ensures.0,
-    )
-
 -- no row before the row itself agrees
 pub returns-then-k-row : goal.returns-then-k-row
 returns-then-k-row c =         first-end _ _ _ refl (λ m h. c.rows.invariant.1.scan.passed m (omega arith))
@@ -85,3 +57,31 @@ returns-then-j-n c =                 let hunt = c.rows.invariant.1 in
     let within = hunt.scan.within in
     first-at _ _ _ (omega (arith, within, c.if-k-row.false)) hunt.scan.passed
     (same_alike _ _ _ _ _ _ _ c.parts.invariant c.if-j-n.true)
+-- what was read of the row, and the first row of its own chain
+pub rows-init : goal.rows-init
+rows-init c =                         let (headed, keep, chained, inside) = c.requires in
+    let key = key-read chained inside c.wide.ensures.0 in (
+      record {
+        key = key;
+        first = c.row_first-first.ensures.0;
+        count = c.row_count-n.ensures.0;
+      },
+      hunting-starts chained inside (c.wide-2.ensures.0 ∙ ap (λ y. y % chains) key),
+    )
+
+-- the other row differs in a part, in its head or in its key; the hunt goes on along the chain
+pub rows-preserved : goal.rows-preserved
+rows-preserved c =                             let (headed, keep, chained, inside) = c.requires in
+    let (own, hunt) = c.rows.invariant in
+    let within = hunt.scan.within in
+    let key = key-read chained (omega arith) c.wide-in-rows.ensures.0 in (
+      own,
+      hunting-goes chained inside hunt c.if-k-row.false
+          (elim c.if-keys-wide.branch [
+            | goal.then-keys-wide+then-not-heads_differ+else-j-n+then-pooled w ↦
+                part-differs _ _ _ _ _ _ _ w.parts.invariant w.if-j-n.false _ _ w.pooled.ensures w.pooled-in-parts.ensures w.if-pooled.true
+            | goal.then-keys-wide+else-not-heads_differ w ↦ heads-differ _ _ _ _ w.heads_differ.ensures (ap not w.if-not-heads_differ.false)
+            | goal.else-keys-wide w ↦ key-differs _ _ _ _ _ own.key key w.if-keys-wide.false
+          ]) c.wide-in-rows-2.ensures.0,
+    )
+

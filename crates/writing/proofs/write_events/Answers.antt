@@ -31,25 +31,25 @@ slice_bounds-act-end c = search (flushed-size, rules)
 
 -- what was done so far leaves room for the step
 pub act-acted-requires : goal.act-acted-requires
-act-acted-requires c = flushed-ready (more (goal.at.act-acted-requires c).In-loop-i) (at-loop (goal.at.act-acted-requires c).In-loop-i).loop.inv (start (goal.at.act-acted-requires c).In-loop-i).pre.partners
+act-acted-requires c = flushed-ready (more (goal.at.act-acted-requires c).In-loop-i) c.loop-i.invariant c.requires.partners
 
 pub slice_bounds-put_words-end : goal.slice_bounds-put_words-end
 slice_bounds-put_words-end c = search (flushed-size, rules)
 
 -- the step's words have room in the buffer
 pub put_words-next-requires : goal.put_words-next-requires
-put_words-next-requires c = flushed-few (more (goal.at.put_words-next-requires c).In-loop-i) (at-loop (goal.at.put_words-next-requires c).In-loop-i).loop.inv c.act-acted.ensures
+put_words-next-requires c = flushed-few (more (goal.at.put_words-next-requires c).In-loop-i) c.loop-i.invariant c.act-acted.ensures
 
 pub overflow_add-i : goal.overflow_add-i
 overflow_add-i c = omega (arith, few (goal.at.overflow_add-i c).In-loop-i)
 
 -- behind the step there are steps, or their end
 pub next_own-i-requires-in-loop-i : goal.next_own-i-requires-in-loop-i
-next_own-i-requires-in-loop-i c = ((start (goal.at.next_own-i-requires-in-loop-i c).In-loop-i).pre.valid, omega (arith, more (goal.at.next_own-i-requires-in-loop-i c).In-loop-i))
+next_own-i-requires-in-loop-i c = (c.requires.valid, omega (arith, more (goal.at.next_own-i-requires-in-loop-i c).In-loop-i))
 
 -- the step's bytes are behind those of the steps before
 pub loop-i-preserved : goal.loop-i-preserved
-loop-i-preserved c = flushed-on (more (goal.at.loop-i-preserved c).In-loop-i) (at-loop (goal.at.loop-i-preserved c).In-loop-i).loop.inv c.act-acted.ensures
+loop-i-preserved c = flushed-on (more (goal.at.loop-i-preserved c).In-loop-i) c.loop-i.invariant c.act-acted.ensures
     c.put_words-next.ensures c.next_own-i-in-loop-i.ensures
 
 -- there is no step left

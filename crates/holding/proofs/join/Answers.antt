@@ -43,7 +43,7 @@ returns c = let (valid, so_far, inside, half) = c.requires in
     let own = c.wide-2.ensures.0 in
     let behind = c.wide-3.ensures.0 in
     elim c.if-other-rows.branch [
-      | inl (both, wide3, same) ↦
-          partners-join valid so_far inside half part read own behind (omega arith) wide3.ensures.0 same
-      | inr (alone, same) ↦ partners-alone valid so_far inside half part read own behind (omega arith) same
+      | goal.then-other-rows w ↦
+          partners-join valid so_far inside half part read own behind (omega arith) w.wide-then-other-rows.ensures.0 w.table-is
+      | goal.else-other-rows w ↦ partners-alone valid so_far inside half part read own behind (omega arith) w.table-is
     ]

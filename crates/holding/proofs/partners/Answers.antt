@@ -36,11 +36,11 @@ bounds-table-wide c = omega (arith, few-rows)
 pub loop-row-preserved : goal.loop-row-preserved
 loop-row-preserved c = let is = c.row_kind.ensures in
     elim c.if-is_half.branch [
-      | inl (half, lent, lent2, joined, same, seen) ↦ rw (same, seen) joined.ensures
-      | inr (plain, wide, same, seen) ↦
-          (let low : c.row_kind.result < 3 = no-half _ c.is_half.ensures plain.left in
-          rw (same, seen) (partners-plain c.requires c.loop-row.invariant (omega arith) (omega (arith, is, low))
-          wide.ensures.0))
+      | goal.then-is_half w ↦ rw (w.table-is, w.seen-is) w.join.ensures
+      | goal.else-is_half w ↦
+          (let low : c.row_kind.result < 3 = no-half _ c.is_half.ensures w.if-is_half.false in
+          rw (w.table-is, w.seen-is) (partners-plain c.requires c.loop-row.invariant (omega arith) (omega (arith, is, low))
+          w.wide.ensures.0))
     ]
 
 -- all are

@@ -29,8 +29,21 @@ module _ (c : After-wide-many) where
   many-there =
       c.wide-many.ensures.0 ∙ c.word.ensures
 
+pub word-c-requires : goal.word-c-requires
+unfolding says_process
+word-c-requires c = search rules
+
+pub pieces_of-p-requires : goal.pieces_of-p-requires
+unfolding says_process
+pieces_of-p-requires c = search rules
+
 pub returns-then-c-ne12 : goal.returns-then-c-ne12
+unfolding says_process
 returns-then-c-ne12 c = search (check-other, other_word)
+
+pub word-own-requires : goal.word-own-requires
+unfolding says_process
+word-own-requires c = search rules
 
 pub returns-then-own-ne5 : goal.returns-then-own-ne5
 unfolding says_term
@@ -38,22 +51,48 @@ returns-then-own-ne5 c = check-type-other _ _ _ _ _ _
     (λ gs e. c.if-own-ne5.true (c.word-own.ensures ∙ shape.nonce-word _ _ c.requires.2.type _ e))
 
 pub overflow_add-k : goal.overflow_add-k
+unfolding says_process
 overflow_add-k c = omega (arith, shape.type-inside _ _ c.requires.2.type)
 
+pub word-requires : goal.word-requires
+unfolding says_process
+word-requires c = search rules
+
+pub wide-many-requires : goal.wide-many-requires
+unfolding says_process
+wide-many-requires c = search rules
+
+pub type_end-last-requires : goal.type_end-last-requires
+unfolding says_process
+type_end-last-requires c = search rules
+
+pub term_end-end-requires : goal.term_end-end-requires
+unfolding says_process
+term_end-end-requires c = search rules
+
+pub effects_behind-all-requires : goal.effects_behind-all-requires
+unfolding says_process
+effects_behind-all-requires c = search rules
+
+pub effects_behind-before-requires : goal.effects_behind-before-requires
+unfolding says_process
+effects_behind-before-requires c = search rules
+
 pub term_premise-a-requires : goal.term_premise-a-requires
+unfolding says_process
 term_premise-a-requires c = let made = pieces (goal.at.term_premise-a-requires c).After-wide-many in search rules
 
 pub term_premise-b-requires : goal.term_premise-b-requires
+unfolding says_process
 term_premise-b-requires c = let made = pieces (goal.at.term_premise-b-requires c).After-wide-many in search rules
 
 pub process_premise-d-requires : goal.process_premise-d-requires
+unfolding says_process
 process_premise-d-requires c = (c.requires.0.environment, c.requires.3, (pieces (goal.at.process_premise-d-requires c).After-wide-many).p)
 
 pub same_as-e-requires : goal.same_as-e-requires
+unfolding says_process
 same_as-e-requires c = (c.requires.1.type, Prim.tt)
-
-pub overflow_add-k-2 : goal.overflow_add-k-2
-overflow_add-k-2 c = let begun = start (search) in omega (arith, shape.type-inside _ _ begun.pre.2.type)
 
 pub balanced-f-requires : goal.balanced-f-requires
 balanced-f-requires c = let made = pieces (goal.at.balanced-f-requires c).After-wide-many in (
@@ -62,6 +101,10 @@ balanced-f-requires c = let made = pieces (goal.at.balanced-f-requires c).After-
   shape.nonce-reads _ _ c.requires.2.type (nonce-there (goal.at.balanced-f-requires c).After-wide-many) _ (many-there (goal.at.balanced-f-requires c).After-wide-many) _ c.type_end-last.ensures,
   (omega arith, omega arith, search (shape.reads_at term)),
 )
+
+pub all5-requires : goal.all5-requires
+unfolding says_process
+all5-requires c = search rules
 
 pub returns : goal.returns
 unfolding says_process says_term made_type

@@ -23,30 +23,65 @@ module _ (c : After-word-y) where
   pair-there =
       sym c.word-own.ensures ∙ c.if-own-ne2.false
 
+pub word-c-requires : goal.word-c-requires
+unfolding says_process
+word-c-requires c = search rules
+
+pub pieces_of-p-requires : goal.pieces_of-p-requires
+unfolding says_process
+pieces_of-p-requires c = search rules
+
 pub returns-then-c-ne7 : goal.returns-then-c-ne7
+unfolding says_process
 returns-then-c-ne7 c = search (match-other, other_word)
+
+pub word-own-requires : goal.word-own-requires
+unfolding says_process
+word-own-requires c = search rules
 
 pub returns-then-own-ne2 : goal.returns-then-own-ne2
 unfolding says_term
 returns-then-own-ne2 c = match-type-other _ _ _ _ _
     (λ S R e. c.if-own-ne2.true (c.word-own.ensures ∙ shape.pair-word _ _ c.requires.1.type _ _ e))
 
-pub overflow_add-j : goal.overflow_add-j
-overflow_add-j c = let begun = start (search) in omega (arith, shape.type-inside _ _ begun.pre.1.type)
+pub overflow_add-i : goal.overflow_add-i
+unfolding says_process
+overflow_add-i c = omega arith
+
+pub word-y-requires : goal.word-y-requires
+unfolding says_process
+word-y-requires c = search rules
+
+pub type_end-second-requires : goal.type_end-second-requires
+unfolding says_process
+type_end-second-requires c = search rules
+
+pub type_end-last-requires : goal.type_end-last-requires
+unfolding says_process
+type_end-last-requires c = search rules
+
+pub type_end-behind-requires : goal.type_end-behind-requires
+unfolding says_process
+type_end-behind-requires c = search rules
+
+pub term_end-end-requires : goal.term_end-end-requires
+unfolding says_process
+term_end-end-requires c = search rules
 
 pub term_premise-a-requires : goal.term_premise-a-requires
+unfolding says_process
 term_premise-a-requires c = let made = pieces (goal.at.term_premise-a-requires c).After-word-y in search rules
 
 pub term_premise-b-requires : goal.term_premise-b-requires
+unfolding says_process
 term_premise-b-requires c = let made = pieces (goal.at.term_premise-b-requires c).After-word-y in search rules
 
 pub entered-d-requires : goal.entered-d-requires
+unfolding says_process
 entered-d-requires c = (c.requires.0.environment, c.requires.3, (pieces (goal.at.entered-d-requires c).After-word-y).t, (pieces (goal.at.entered-d-requires c).After-word-y).p)
 
-pub overflow_add-j-2 : goal.overflow_add-j-2
-overflow_add-j-2 c = let begun = start (search) in omega (arith, shape.type-inside _ _ begun.pre.1.type)
-
 pub types_alike-e-requires : goal.types_alike-e-requires
+unfolding says_process
 types_alike-e-requires c = (shape.pair-first _ _ c.requires.1.type (pair-there (goal.at.types_alike-e-requires c).After-word-y), c.requires.2.type)
 
 pub same_changed-f-requires : goal.same_changed-f-requires
@@ -55,10 +90,16 @@ same_changed-f-requires c = let second = shape.pair-second _ _ c.requires.1.type
     (search (shape.reads_at type_at), search (shape.reads_at type_at), search (shape.reads_at term))
 
 pub unchanged-g-requires : goal.unchanged-g-requires
+unfolding says_process
 unchanged-g-requires c = (c.requires.0, c.requires.3)
 
 pub fresh-h-requires : goal.fresh-h-requires
+unfolding says_process
 fresh-h-requires c = c.requires.0
+
+pub all7-requires : goal.all7-requires
+unfolding says_process
+all7-requires c = search rules
 
 pub returns : goal.returns
 unfolding says_process says_term made_type change_by

@@ -17,15 +17,6 @@ returns-then-not-is_there c =                     line-not-there _ _ _ _ _ _ c.r
 pub returns-then-not-all_fit : goal.returns-then-not-all_fit
 returns-then-not-all_fit c =             line-unfit _ _ _ _ c.rule_at-n.ensures c.all_fit.ensures (not-true _ (ap not c.if-not-all_fit.true))
 
-pub line_word-requires : goal.line_word-requires
-line_word-requires c = (line-word-requires (search), omega arith)
-
-pub line_word-requires-2 : goal.line_word-requires-2
-line_word-requires-2 c = (line-word-requires (search), omega arith)
-
-pub line_word-requires-3 : goal.line_word-requires-3
-line_word-requires-3 c = (line-word-requires (search), omega arith)
-
 pub by_number-requires : goal.by_number-requires
 by_number-requires c =                                                             let there = there-at _ _ _ _ _ c.kind_at.ensures c.is_there.ensures (not-false _ (ap not c.if-not-is_there.false)) in
     let fit = sym c.all_fit.ensures ∙ not-false _ (ap not c.if-not-all_fit.false) in

@@ -1,5 +1,4 @@
 -- `choosing::kind_at` meets its contract: the table is the kinds' own, computed rule by rule. Assumes nothing.
-use borrow.Author.Rules.{rules}
 use native.Mathlib.Omega.{arith}
 use Rattle.typing.specs.Check.{printed}
 use Rattle.typing.specs.Derivation.{rules, nth, rule_of}

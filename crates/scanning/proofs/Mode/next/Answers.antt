@@ -3,16 +3,8 @@ use Rattle.scanning.proofs.Mode.next.Lts as lts
 use Rattle.scanning.proofs.Mode.next.Goals as goal
 
 -- src/lib.rt:128:5
-pub returns-in-Image : goal.returns-in-Image
-returns-in-Image c = cc
-
--- src/lib.rt:128:5
 pub returns-in-Tag : goal.returns-in-Tag
 returns-in-Tag c = cc
-
--- src/lib.rt:128:5
-pub returns-in-More : goal.returns-in-More
-returns-in-More c = cc
 
 -- src/lib.rt:128:5
 pub returns-in-First : goal.returns-in-First

@@ -8,9 +8,6 @@ use Rattle.receiving.proofs.Beginning.{begun-cipher, begun-key, begun-low, begun
 use Rattle.receiving.proofs.begin.Goals as goal
 use Rattle.receiving.proofs.begin.Goals.{After-opens}
 
--- where the row was tested
-module _ (c : After-opens) where
-
 pub opens-requires : goal.opens-requires
 opens-requires c = (search rules, search rules, search rules)
 

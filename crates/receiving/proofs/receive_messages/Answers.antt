@@ -52,35 +52,19 @@ settle-settled-requires c = let ready = c.requires in
 pub overflow_add-i : goal.overflow_add-i
 overflow_add-i c = omega (arith, small-pool)
 
--- one message more is received at its placeholder
-pub loop-k-preserved : goal.loop-k-preserved
-loop-k-preserved c = let more = c.loop-k-test.true in
-    let read = c.entry-row.ensures.0 in
-    elim c.if-opens.branch [
-      | inl (
-        if1,
-        held,
-        new,
-        arg,
-        arg2,
-        received,
-        log1,
-        known3,
-        out1,
-        known4,
-        after,
-        holds,
-        dentries,
-        dlog,
-        dout,
-        dreached,
-      ) ↦
-          rw (dentries, dlog, dout, dreached)
-          (going_on c.loop-k.invariant more read (fresh-brought _ _ new.ensures received.ensures))
-      | inr (if1, arg, arg2, arg3, settled, log2, known5, out2, known6, dentries, dlog, dout, dreached) ↦
-          rw (dentries, dlog, dout, dreached) (going_on c.loop-k.invariant more read settled.ensures)
-    ]
-
 -- none is left
 pub returns : goal.returns
 returns c = going_end c.loop-k.invariant c.loop-k-test.false
+
+-- one message more is received at its placeholder
+pub loop-k-preserved : goal.loop-k-preserved
+loop-k-preserved c =
+    let more = c.loop-k-test.true in
+    let read = c.entry-row.ensures.0 in
+    elim c.if-opens.branch [
+      | goal.then-opens w ↦
+          rw (w.entries-is, w.log-is, w.out-is, w.reached-is)
+          (going_on c.loop-k.invariant more read (fresh-brought _ _ w.new-dictionary.ensures w.receive-there.ensures))
+      | goal.else-opens w ↦
+          rw (w.entries-is, w.log-is, w.out-is, w.reached-is) (going_on c.loop-k.invariant more read w.settle-settled.ensures)
+    ]

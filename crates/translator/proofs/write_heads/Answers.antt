@@ -58,20 +58,23 @@ overflow_add-end-in-loop-party c = omega (arith, few-parties)
 pub overflow_add-party : goal.overflow_add-party
 overflow_add-party c = omega (arith, few-parties)
 
+-- the loop ends behind the last party
+pub returns : goal.returns
+returns c = heads-end c.parties-n.ensures c.loop-party-test.false c.loop-party.invariant
+
 -- the party's walk stops before the step at which one has stopped so far, or doesn't stop
 pub loop-party-preserved : goal.loop-party-preserved
-loop-party-preserved c = let all = c.parties-n.ensures in
+loop-party-preserved c =
+    let all = c.parties-n.ensures in
     let inside = c.loop-party-test.true in
     let so_far = c.loop-party.invariant in
     let measured = c.measure-part.ensures in
     let head = c.put2-next.ensures in
     elim c.if-sooner-ne0.branch [
-      | inl j ↦ heads-off all inside so_far measured c.wide-in-loop-party.ensures.0 c.put.ensures
-          c.narrow.ensures c.narrow-in-loop-party.ensures head j.0.taken j.1
-      | inr j ↦ heads-on all inside so_far measured c.wide-in-loop-party.ensures.0 c.put.ensures
-          c.narrow.ensures c.narrow-in-loop-party.ensures head j.0.left j.1
+      | goal.then-sooner-ne0 w ↦
+          heads-off all inside so_far measured c.wide-in-loop-party.ensures.0 c.put.ensures c.narrow.ensures
+          c.narrow-in-loop-party.ensures head w.if-sooner-ne0.true w.stop-is
+      | goal.else-sooner-ne0 w ↦
+          heads-on all inside so_far measured c.wide-in-loop-party.ensures.0 c.put.ensures c.narrow.ensures
+          c.narrow-in-loop-party.ensures head w.if-sooner-ne0.false w.stop-is
     ]
-
--- the loop ends behind the last party
-pub returns : goal.returns
-returns c = heads-end c.parties-n.ensures c.loop-party-test.false c.loop-party.invariant

@@ -13,10 +13,10 @@ pub line_passes-requires : goal.line_passes-requires
 line_passes-requires c = (omega (arith, c.requires), c.loop-i.invariant.before)
 
 pub returns-then-not-line_passes : goal.returns-then-not-line_passes
-returns-then-not-line_passes c = scanned-bad _ _ _ c.loop-i.invariant c.loop-i-test.true _ c.line_passes.ensures (not-true _ (ap not c.if-not-line_passes.true))
+returns-then-not-line_passes c = scanned-bad _ _ _ c.loop-i.invariant c.loop-i-test.true _ c.line_passes.ensures c.if-not-line_passes.true
 
 pub loop-i-preserved : goal.loop-i-preserved
-loop-i-preserved c = scanned-next _ _ _ c.loop-i.invariant c.loop-i-test.true _ c.line_passes.ensures (not-false _ (ap not c.if-not-line_passes.false))
+loop-i-preserved c = scanned-next _ _ _ c.loop-i.invariant c.loop-i-test.true _ c.line_passes.ensures c.if-not-line_passes.false
 
 pub returns : goal.returns
 returns c = search scanned-all

@@ -46,7 +46,7 @@ returns-then-not-same_environment c = given-environment _ _ c.requires.1
     c.line_at-l.ensures _ _ _
     (asked_is _ _ c.environment_end-p.ensures c.if-p-eq0.false _ c.process_end-end.ensures
     c.if-end-eq0.false c.if-end-asked.false)
-    _ c.same_environment.ensures (not-true _ (ap not c.if-not-same_environment.true))
+    _ c.same_environment.ensures c.if-not-same_environment.true
 
 pub same_process-requires : goal.same_process-requires
 same_process-requires c = (
@@ -62,4 +62,4 @@ returns c = given-process _ _ c.requires.1
     c.line_at-l.ensures _ _ _
     (asked_is _ _ c.environment_end-p.ensures c.if-p-eq0.false _ c.process_end-end.ensures
     c.if-end-eq0.false c.if-end-asked.false)
-    c.if-l-ne0.false _ c.same_environment.ensures (not-false _ (ap not c.if-not-same_environment.false)) _ c.same_process.ensures
+    c.if-l-ne0.false _ c.same_environment.ensures c.if-not-same_environment.false _ c.same_process.ensures

@@ -11,15 +11,15 @@ use Rattle.checking.specs.Lines.Laws.{ruled-range, line-not-there, line-unfit, t
 use Rattle.checking.proofs.line_passes.Goals as goal
 
 pub returns-then-not-is_there : goal.returns-then-not-is_there
-returns-then-not-is_there c =                     line-not-there _ _ _ _ _ _ c.rule_at-n.ensures c.line_at-own.ensures c.kind_at.ensures
-    c.is_there.ensures (not-true _ (ap not c.if-not-is_there.true))
+returns-then-not-is_there c = line-not-there _ _ _ _ _ _ c.rule_at-n.ensures c.line_at-own.ensures c.kind_at.ensures
+    c.is_there.ensures c.if-not-is_there.true
 
 pub returns-then-not-all_fit : goal.returns-then-not-all_fit
-returns-then-not-all_fit c =             line-unfit _ _ _ _ c.rule_at-n.ensures c.all_fit.ensures (not-true _ (ap not c.if-not-all_fit.true))
+returns-then-not-all_fit c = line-unfit _ _ _ _ c.rule_at-n.ensures c.all_fit.ensures c.if-not-all_fit.true
 
 pub by_number-requires : goal.by_number-requires
-by_number-requires c =                                                             let there = there-at _ _ _ _ _ c.kind_at.ensures c.is_there.ensures (not-false _ (ap not c.if-not-is_there.false)) in
-    let fit = sym c.all_fit.ensures ∙ not-false _ (ap not c.if-not-all_fit.false) in
+by_number-requires c = let there = there-at _ _ _ _ _ c.kind_at.ensures c.is_there.ensures c.if-not-is_there.false in
+    let fit = sym c.all_fit.ensures ∙ c.if-not-all_fit.false in
     let named : Named _ _ _ _ _ _ _ = record {
       rule = c.rule_at-n.ensures;
       line = c.line_at-own.ensures;
@@ -31,8 +31,8 @@ by_number-requires c =                                                          
     (range.0, range.1, line-ready _ _ c.requires.1 _ _ _ _ _ named there fit)
 
 pub returns : goal.returns
-returns c =                                                             let there = there-at _ _ _ _ _ c.kind_at.ensures c.is_there.ensures (not-false _ (ap not c.if-not-is_there.false)) in
-    let fit = sym c.all_fit.ensures ∙ not-false _ (ap not c.if-not-all_fit.false) in
+returns c = let there = there-at _ _ _ _ _ c.kind_at.ensures c.is_there.ensures c.if-not-is_there.false in
+    let fit = sym c.all_fit.ensures ∙ c.if-not-all_fit.false in
     let named : Named _ _ _ _ _ _ _ = record {
       rule = c.rule_at-n.ensures;
       line = c.line_at-own.ensures;

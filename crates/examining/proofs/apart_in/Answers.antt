@@ -12,10 +12,10 @@ use Rattle.examining.proofs.apart_in.Goals as goal
 use Rattle.examining.proofs.apart_in.Goals.{After-load-n}
 
 -- as many as the bytes make
-many : (c : After-load-n) → c.load-n.result ≡ length (start_of c).args.asked.now / 4
+many : (c : After-load-n) → c.load-n.result ≡ length c.args.asked.now / 4
 many c =
-    let a = (start_of c).args.asked.now in
-    laid-many a c.load-n.ensures (omega (arith, (start_of c).pre)) (omega arith) ∙ words-length a
+    let a = c.args.asked.now in
+    laid-many a c.load-n.ensures (omega (arith, c.requires)) (omega arith) ∙ words-length a
 
 -- so they have room
 pub slice_bounds-keeps_apart-end : goal.slice_bounds-keeps_apart-end

@@ -13,19 +13,18 @@ use Rattle.examining.proofs.check_in.Goals as goal
 use Rattle.examining.proofs.check_in.Goals.{After-load-m, After-load-n}
 
 -- as many words as the derivation's bytes make
-first-many : (c : After-load-n) → c.load-n.result ≡ length (first-start c).args.derivation.now / 4
+first-many : (c : After-load-n) → c.load-n.result ≡ length c.args.derivation.now / 4
 first-many c =
-    let ds = (first-start c).args.derivation.now in
-    laid-many ds c.load-n.ensures (omega (arith, (first-start c).pre)) (omega arith) ∙ words-length ds
+    let ds = c.args.derivation.now in
+    laid-many ds c.load-n.ensures (omega (arith, c.requires)) (omega arith) ∙ words-length ds
 
 -- and as those of what is asked
-second-many : (c : After-load-m) → c.load-m.result ≡ length (second-start c).args.asked.now / 4
+second-many : (c : After-load-m) → c.load-m.result ≡ length c.args.asked.now / 4
 second-many c =
-    let start = second-start c in
-    let xs = start.args.asked.now in
+    let xs = c.args.asked.now in
     let n = first-many first in
     let same = wrote-length c.load-n.ensures in
-    laid-many xs c.load-m.ensures (simp (length-take, length-drop) (omega (arith, start.pre)))
+    laid-many xs c.load-m.ensures (simp (length-take, length-drop) (omega (arith, c.requires)))
     (simp (length-take, length-drop) (omega arith))
     ∙ words-length xs
 

@@ -38,25 +38,8 @@ loop-i-init c = (
 pub follow_step-reached-requires : goal.follow_step-reached-requires
 follow_step-reached-requires c = (more (goal.at.follow_step-reached-requires c).In-loop-i, c.requires.0.partners, c.loop-i.invariant.0)
 
--- the step doesn't agree
-pub returns-then-not-reached : goal.returns-then-not-reached
-returns-then-not-reached c = let then1 : in-steps tie.Then1 = c in (
-  steps-broken c.follow_step-reached.ensures (not-true _ then1.if1.taken),
-  c.follow_step-reached.ensures.buffers,
-)
-
 pub overflow_add-i : goal.overflow_add-i
 overflow_add-i c = omega (arith, few (goal.at.overflow_add-i c).In-loop-i)
-
--- behind the step there are steps, or their end
-pub next_own-i-requires-in-loop-i : goal.next_own-i-requires-in-loop-i
-next_own-i-requires-in-loop-i c = let in-loop = followed-in (goal.at.next_own-i-requires-in-loop-i c).After-follow_step-reached in
-    ((start in-loop).pre.0.valid, omega (arith, more in-loop))
-
--- it agrees
-pub loop-i-preserved : goal.loop-i-preserved
-loop-i-preserved c = let whole = not-false _ (ap not c.if-not-reached.false) in
-    (stepped-skip c.next_own-i-in-loop-i.ensures (c.follow_step-reached.ensures.all whole), whole)
 
 -- there is no step left
 pub returns : goal.returns

@@ -29,21 +29,20 @@ agree-agreed-requires c = up-ready c.loop-k.invariant c.size-total.ensures (more
 
 -- the word doesn't agree
 pub returns-then-not-agreed : goal.returns-then-not-agreed
-returns-then-not-agreed c = let then1 : in_words tie.Then1 = c in
-    up-off c.loop-k.invariant (more (goal.at.returns-then-not-agreed c).In-loop-k) c.word-v.ensures _ c.agree-agreed.ensures
-    (not-true _ then1.if1.taken) refl
+returns-then-not-agreed c = up-off c.loop-k.invariant (more (goal.at.returns-then-not-agreed c).In-loop-k) c.word-v.ensures _ c.agree-agreed.ensures
+    c.if-not-agreed.true refl
     refl
 
 pub fill-filled-requires : goal.fill-filled-requires
 fill-filled-requires c = up_fits c.loop-k.invariant (more (goal.at.fill-filled-requires c).In-loop-k) c.word-v.ensures c.agree-agreed.ensures
-    (not-false _ (ap not c.if-not-agreed.false))
+    c.if-not-agreed.false
     c.their-y.ensures (omega arith) c.run_of-run.ensures
 
 -- a word stands at the place, so there is a place behind it
 pub overflow_add-at : goal.overflow_add-at
 overflow_add-at c = let there = up-there c.loop-k.invariant (more (goal.at.overflow_add-at c).In-loop-k) c.word-v.ensures
     c.agree-agreed.ensures
-    (not-false _ (ap not c.if-not-agreed.false)) in
+    c.if-not-agreed.false in
     omega arith
 
 pub overflow_add-k-in-loop-k : goal.overflow_add-k-in-loop-k
@@ -51,12 +50,11 @@ overflow_add-k-in-loop-k c = omega (arith, next (goal.at.overflow_add-k-in-loop-
 
 pub loop-k-preserved : goal.loop-k-preserved
 loop-k-preserved c = up-on c.loop-k.invariant (more (goal.at.loop-k-preserved c).In-loop-k) c.word-v.ensures c.agree-agreed.ensures
-    (not-false _ (ap not c.if-not-agreed.false))
+    c.if-not-agreed.false
     c.their-y.ensures c.run_of-run.ensures c.next-mode.ensures
     c.fill-filled.ensures
     c.widened-range.ensures
 
 -- all agree
 pub returns : goal.returns
-returns c = let after-loop : in_words tie.After-loop = c in
-    up-end c.loop-k.invariant _ (omega arith) refl refl refl refl
+returns c = up-end c.loop-k.invariant _ (omega arith) refl refl refl refl

@@ -11,25 +11,17 @@ follow_program-far-requires c = (c.requires.1, record { step-size = refl; table-
 
 -- a word doesn't agree
 pub returns-then-not-far : goal.returns-then-not-far
-returns-then-not-far c = let then1 : tie.Then1 = c in
-    let start = followed-start (goal.at.returns-then-not-far c).After-follow_program-far in
-    judged-broken start.pre.0 start.pre.1.party c.follow_program-far.ensures
-    (not-true _ then1.if1.true)
+returns-then-not-far c = judged-broken c.requires.0 c.requires.1.party c.follow_program-far.ensures
+    (not-true _ c.if-not-far.true)
 
 -- theirs go on
 pub returns-then-at-size : goal.returns-then-at-size
-returns-then-at-size c = let then2 : tie.Then2 = c in
-    let after-follow-program = whole-followed (goal.at.returns-then-at-size c).Else-not-far in
-    let start = followed-start after-follow-program in
-    judged-longer start.pre.0 start.pre.1.party after-follow-program.follow-program.ensures
-    (not-false _ (ap not c.if-not-far.false))
-    c.size.ensures then2.if2.true
+returns-then-at-size c = judged-longer c.requires.0 c.requires.1.party c.follow_program-far.ensures
+    (not-false _ c.if-not-far.false)
+    c.size.ensures c.if-at-size.true
 
 -- all agree
 pub returns : goal.returns
-returns c = let else2 : tie.Else2 = c in
-    let after-follow-program = whole-followed (goal.at.returns c).Else-not-far in
-    let start = followed-start after-follow-program in
-    judged-same start.pre.0 start.pre.1.party after-follow-program.follow-program.ensures
-    (not-false _ (ap not c.if-not-far.false))
-    c.size.ensures else2.if2.false
+returns c = judged-same c.requires.0 c.requires.1.party c.follow_program-far.ensures
+    (not-false _ c.if-not-far.false)
+    c.size.ensures c.if-at-size.false

@@ -22,35 +22,6 @@ module _ (c : Else-unfit) where
 
 -- another length
 pub returns-then-unfit : goal.returns-then-unfit
-returns-then-unfit c = let then1 : tie.Then1 = c in
-    let a = c.args in
+returns-then-unfit c = let a = c.args in
     found-misfit a.n a.parties a.rows a.steps a.party a.row a.step
-    (eqb-false _ _ (not-true _ (sym (tested (goal.at.returns-then-unfit c).After-misfits-unfit) ∙ then1.if1.true)))
-
--- the party
-pub returns-then-parties-party : goal.returns-then-parties-party
-returns-then-parties-party c = let then2 : tie.Then2 = c in
-    let a = c.args in
-    found-party a.n a.parties a.rows a.steps a.party a.row a.step (fits (goal.at.returns-then-parties-party c).Else-unfit)
-    then2.if2.true
-
--- the row
-pub returns-then-rows-row : goal.returns-then-rows-row
-returns-then-rows-row c = let then3 : tie.Then3 = c in
-    let a = c.args in
-    found-row a.n a.parties a.rows a.steps a.party a.row a.step (fits (goal.at.returns-then-rows-row c).Else-unfit)
-    c.if-parties-party.false then3.if3.true
-
--- the step
-pub returns-then-steps-step : goal.returns-then-steps-step
-returns-then-steps-step c = let then4 : tie.Then4 = c in
-    let a = c.args in
-    found-step a.n a.parties a.rows a.steps a.party a.row a.step (fits (goal.at.returns-then-steps-step c).Else-unfit)
-    c.if-parties-party.false c.if-rows-row.false then4.if4.true
-
--- none
-pub returns : goal.returns
-returns c = let after-place : tie.After-place = c in
-    let a = c.args in
-    found_at a.n a.parties a.rows a.steps a.party a.row a.step (fits (goal.at.returns c).Else-unfit)
-    c.if-parties-party.false c.if-rows-row.false c.if-steps-step.false _ after-place.place.ensures
+    (eqb-false _ _ (not-true _ (sym (tested (goal.at.returns-then-unfit c).After-misfits-unfit) ∙ c.if-unfit.true)))

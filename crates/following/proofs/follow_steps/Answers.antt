@@ -48,3 +48,13 @@ returns c = (
       c.loop-i.invariant.1,
   c.loop-i.invariant.0.buffers,
 )
+
+-- behind the step there are steps, or their end
+pub next_own-i-requires-in-loop-i : goal.next_own-i-requires-in-loop-i
+next_own-i-requires-in-loop-i c = (c.requires.0.valid, omega (arith, more (goal.at.next_own-i-requires-in-loop-i c).In-loop-i))
+
+-- it agrees
+pub loop-i-preserved : goal.loop-i-preserved
+loop-i-preserved c =
+    let whole = not-false _ c.if-not-reached.false in
+    (stepped-skip c.next_own-i-in-loop-i.ensures (c.follow_step-reached.ensures.all whole), whole)

@@ -22,7 +22,8 @@ first-many c =
 second-many : (c : After-load-m) → c.load-m.result ≡ length c.args.asked.now / 4
 second-many c =
     let xs = c.args.asked.now in
-    let n = first-many first in
+    let ds = c.args.derivation.now in
+    let n = laid-many ds c.load-n.ensures (omega (arith, c.requires)) (omega arith) ∙ words-length ds in
     let same = wrote-length c.load-n.ensures in
     laid-many xs c.load-m.ensures (simp (length-take, length-drop) (omega (arith, c.requires)))
     (simp (length-take, length-drop) (omega arith))
@@ -40,20 +41,11 @@ slice_bounds-load-start c = let n = first-many (goal.at.slice_bounds-load-start 
 pub slice_bounds-load-end : goal.slice_bounds-load-end
 slice_bounds-load-end c = let n = first-many (goal.at.slice_bounds-load-end c).After-load-n in search rules
 
-pub overflow_add-end : goal.overflow_add-end
-overflow_add-end c = let n = first-many (goal.at.overflow_add-end c).After-load-n in let m = second-many (goal.at.overflow_add-end c).After-load-m in search rules
-
 pub offset_bounds-words-n : goal.offset_bounds-words-n
 offset_bounds-words-n c = let n = first-many (goal.at.offset_bounds-words-n c).After-load-n in search rules
 
 pub slice_bounds-check-count : goal.slice_bounds-check-count
 slice_bounds-check-count c = let n = first-many (goal.at.slice_bounds-check-count c).After-load-n in search rules
-
-pub slice_bounds-check-start : goal.slice_bounds-check-start
-slice_bounds-check-start c = let n = first-many (goal.at.slice_bounds-check-start c).After-load-n in let m = second-many (goal.at.slice_bounds-check-start c).After-load-m in search rules
-
-pub slice_bounds-check-end : goal.slice_bounds-check-end
-slice_bounds-check-end c = let n = first-many (goal.at.slice_bounds-check-end c).After-load-n in let m = second-many (goal.at.slice_bounds-check-end c).After-load-m in search rules
 
 -- the derivation lies inside
 pub slice_bounds-check-end-2 : goal.slice_bounds-check-end-2

@@ -4,6 +4,7 @@
 use std::env;
 use std::ffi::OsString;
 use std::fs;
+use std::io;
 use std::path::{Path, PathBuf};
 use std::process::{self, Command, Stdio};
 
@@ -12,6 +13,8 @@ const GIVEN: &str = "NGHIRALUM_LIBRARY";
 const SCRIPT: &str = "host/library";
 /// The crate of the proved functions.
 const CRATE: &str = "editor";
+/// What is written of a crate. What is made stands beside it, and changes whenever something is proved.
+const WRITTEN: [&str; 3] = ["src", "specs", "proofs"];
 
 fn main() {
     if let Err(message) = link() {
@@ -40,8 +43,8 @@ fn link() -> Result<(), String> {
 fn made() -> Result<PathBuf, String> {
     let package = PathBuf::from(var("CARGO_MANIFEST_DIR")?);
     let top = package.parent().ok_or("the package stands in no repository")?;
-    for source in ["crates", "crates.txt", SCRIPT] {
-        println!("cargo:rerun-if-changed={}", top.join(source).display());
+    for source in sources(top)? {
+        println!("cargo:rerun-if-changed={}", source.display());
     }
     for_this_machine()?;
     let script = top.join(SCRIPT);
@@ -60,6 +63,19 @@ fn made() -> Result<PathBuf, String> {
     }
     let path = String::from_utf8_lossy(&output.stdout);
     Ok(PathBuf::from(path.trim_end()))
+}
+
+/// What the archive is made of: the script, the list of crates, and of each crate what is written.
+fn sources(top: &Path) -> Result<Vec<PathBuf>, String> {
+    let mut sources = vec![top.join(SCRIPT), top.join("crates.txt")];
+    let crates = top.join("crates");
+    let told = |error: io::Error| format!("{}: {error}", crates.display());
+    for entry in fs::read_dir(&crates).map_err(told)? {
+        let folder = entry.map_err(told)?.path();
+        let written = WRITTEN.iter().map(|part| folder.join(part));
+        sources.extend(written.filter(|part| part.is_dir()));
+    }
+    Ok(sources)
 }
 
 fn advice(script: &Path) -> String {

@@ -56,13 +56,14 @@ impl Page {
     }
 }
 
-/// The crates of the list. A crate that has edits and isn't on it would be left out, so it is a fault.
+/// The crates of the list, each by the first word of its line. A crate that has edits and isn't on it would be left out, so
+/// it is a fault.
 fn listed(crates: &Path) -> Result<Vec<String>, String> {
     let list = crates.with_extension("txt");
     let text = files::text(&list)?;
     let lines = text.lines().filter(|line| !line.starts_with('#'));
-    let names: Vec<String> = (lines.filter_map(|line| line.split_once(':')))
-        .map(|(name, _)| name.trim().to_string())
+    let names: Vec<String> = (lines.filter_map(|line| line.split([' ', ':']).find(|word| !word.is_empty())))
+        .map(str::to_string)
         .collect();
     let mut faults = Vec::new();
     for entry in fs::read_dir(crates).map_err(|error| files::told(crates, error))? {
@@ -88,9 +89,11 @@ fn edits(folder: &Path) -> Result<Vec<PathBuf>, String> {
     }
 }
 
-/// Whether each text that an edit replaces stands in its file exactly once; the gate would find out late.
+/// Whether each text that an edit replaces stands in its file exactly once, and another takes its place. The gate tells
+/// of an edit that doesn't apply late, and `rt ci` counts it as bad and passes.
 fn applies(folder: &Path, edit: &str) -> Result<(), String> {
     let (mut file, mut text, mut old) = (String::new(), String::new(), "");
+    let mut changes = false;
     for line in edit.lines() {
         if let Some(name) = line.strip_prefix("file: ") {
             file = name.to_string();
@@ -98,14 +101,20 @@ fn applies(folder: &Path, edit: &str) -> Result<(), String> {
         } else if let Some(replaced) = line.strip_prefix("old: ") {
             old = replaced;
         } else if let Some(new) = line.strip_prefix("new:") {
+            let new = new.strip_prefix(' ').unwrap_or(new);
             match text.matches(old).count() {
-                1 => text = text.replace(old, new.strip_prefix(' ').unwrap_or(new)),
+                1 => text = text.replace(old, new),
                 0 => return Err(format!("`{}` is not in {file}", old.trim())),
                 _ => return Err(format!("`{}` is in {file} more than once", old.trim())),
             }
+            changes |= new != old;
         }
     }
-    Ok(())
+    if changes {
+        Ok(())
+    } else {
+        Err("nothing is changed".to_string())
+    }
 }
 
 /// An edit's line of its table, or which of the lines at its head is missing.

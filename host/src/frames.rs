@@ -268,6 +268,14 @@ mod tests {
         // lea r11, [rsp - 303104]
         let other = [0x4c, 0x8d, 0x9c, 0x24, 0, 0x60, 0xfb, 0xff];
         assert_eq!(frame(&[&other[..], &rest].concat()), Ok(8 + 303_104 + 1_688));
+        // In steps of 3072, as far as so many steps go; 303104 is no number of them.
+        let step = [0x48, 0x81, 0xec, 0, 0xc, 0, 0];
+        let steps = |taken: u32| {
+            let head = [&[0x49, 0x89, 0xe3, 0x49, 0x81, 0xeb], &taken.to_le_bytes()[..]].concat();
+            frame(&[&head[..], &step, &PROBE, &end].concat())
+        };
+        assert_eq!(steps(402_432), Ok(8 + 402_432 + 1_688));
+        assert_eq!(steps(303_104).unwrap_err(), "the stack is 8 and 3080 bytes deep at 0xa");
         // Without its head nothing says how far it goes; nor with a jump to elsewhere.
         assert_eq!(frame(&rest).unwrap_err(), "the stack is 8 and 4104 bytes deep at 0x0");
         let mut elsewhere = [&head[..], &rest].concat();

@@ -32,29 +32,6 @@ const APART: &CStr = c"apart::keeps_apart";
 const CHECK_BYTES: &CStr = c"nghiralum_check";
 const APART_BYTES: &CStr = c"nghiralum_apart";
 
-/// A slice as Rattle hands it over: the address of these two.
-#[repr(C)]
-struct Slice {
-    words: *const u32,
-    length: usize,
-}
-
-impl Slice {
-    fn of(words: &[u32]) -> Slice {
-        Slice {
-            words: words.as_ptr(),
-            length: words.len(),
-        }
-    }
-
-    fn of_lent(words: &mut [u32]) -> Slice {
-        Slice {
-            words: words.as_mut_ptr(),
-            length: words.len(),
-        }
-    }
-}
-
 /// Rattle's `Answer`: case 0 with a length, or 1 with a refusal. And two that are as large: its `Reply`, case 0 for yes, 1
 /// for no, 2 with a refusal; and its `Verdict`, case 0 for the same, 1 with a place, 2 with a refusal.
 #[repr(C)]
@@ -197,16 +174,18 @@ pub fn packed_finding(verdict: &Result<types::Verdict, Refusal>) -> u64 {
     }
 }
 
-type Translate = unsafe extern "C" fn(*mut Answer, *const Slice, *const Slice);
-type Rehearse = unsafe extern "C" fn(*mut Answer, *const Slice, *const Slice, *const Slice);
+// Rattle hands a slice over as a pointer and a length, to its own functions as to C's, and `host/library` holds those on words
+// to these parameters.
+type Translate = unsafe extern "C" fn(*mut Answer, *const u32, usize, *mut u32, usize);
+type Rehearse = unsafe extern "C" fn(*mut Answer, *const u32, usize, *const u32, usize, *mut u32, usize);
 type TranslateBytes = unsafe extern "C" fn(*const u8, usize, *mut u8, usize) -> u64;
 type RehearseBytes = unsafe extern "C" fn(*const u8, usize, *const u8, usize, *mut u8, usize) -> u64;
-type Ask = unsafe extern "C" fn(*mut Answer, *const Slice, u32, u32, u32);
+type Ask = unsafe extern "C" fn(*mut Answer, *const u32, usize, u32, u32, u32);
 type AskBytes = unsafe extern "C" fn(*const u8, usize, u32, u32, u32) -> u64;
-type Judge = unsafe extern "C" fn(*mut Answer, *const Slice, u32, *const Slice);
+type Judge = unsafe extern "C" fn(*mut Answer, *const u32, usize, u32, *const u32, usize);
 type JudgeBytes = unsafe extern "C" fn(*const u8, usize, u32, *const u8, usize) -> u64;
-type Check = unsafe extern "C" fn(*mut Finding, *const Slice, *const Slice);
-type Apart = unsafe extern "C" fn(*const Slice) -> bool;
+type Check = unsafe extern "C" fn(*mut Finding, *const u32, usize, *const u32, usize);
+type Apart = unsafe extern "C" fn(*const u32, usize) -> bool;
 type CheckBytes = unsafe extern "C" fn(*const u8, usize, *const u8, usize, *mut u32, usize) -> u64;
 type ApartBytes = unsafe extern "C" fn(*const u8, usize, *mut u32, usize) -> u64;
 
@@ -306,9 +285,8 @@ impl Library {
     pub fn translate(&self, book: &[u32], out: &mut [u32]) -> Result<usize, Refusal> {
         let translate = self.translate.expect("the library has `translate`");
         let mut answer = Answer::default();
-        let (book, out) = (Slice::of(book), Slice::of_lent(out));
         // SAFETY: the slices are what they say, and the answer is as large as Rattle's.
-        unsafe { translate(&mut answer, &book, &out) };
+        unsafe { translate(&mut answer, book.as_ptr(), book.len(), out.as_mut_ptr(), out.len()) };
         answer.read()
     }
 
@@ -316,9 +294,19 @@ impl Library {
     pub fn rehearse(&self, book: &[u32], schedule: &[u32], out: &mut [u32]) -> Result<usize, Refusal> {
         let rehearse = self.rehearse.expect("the library has `rehearse`");
         let mut answer = Answer::default();
-        let (book, schedule, out) = (Slice::of(book), Slice::of(schedule), Slice::of_lent(out));
+        let (moves, count) = (schedule.as_ptr(), schedule.len());
         // SAFETY: as above.
-        unsafe { rehearse(&mut answer, &book, &schedule, &out) };
+        unsafe {
+            rehearse(
+                &mut answer,
+                book.as_ptr(),
+                book.len(),
+                moves,
+                count,
+                out.as_mut_ptr(),
+                out.len(),
+            )
+        };
         answer.read()
     }
 
@@ -341,9 +329,8 @@ impl Library {
     pub fn write_summary(&self, book: &[u32], out: &mut [u32]) -> Result<usize, Refusal> {
         let write = self.write_summary.expect("the library has `write_summary`");
         let mut answer = Answer::default();
-        let (book, out) = (Slice::of(book), Slice::of_lent(out));
         // SAFETY: as of `translate`.
-        unsafe { write(&mut answer, &book, &out) };
+        unsafe { write(&mut answer, book.as_ptr(), book.len(), out.as_mut_ptr(), out.len()) };
         answer.read()
     }
 
@@ -352,7 +339,7 @@ impl Library {
         let ask = self.ask.expect("the library has `ask`");
         let mut answer = Answer::default();
         // SAFETY: the slice is what it says, and the answer is as large as Rattle's `Reply`.
-        unsafe { ask(&mut answer, &Slice::of(summary), party, row, step) };
+        unsafe { ask(&mut answer, summary.as_ptr(), summary.len(), party, row, step) };
         answer.reply()
     }
 
@@ -375,7 +362,16 @@ impl Library {
         let judge = self.judge.expect("the library has `judge`");
         let mut answer = Answer::default();
         // SAFETY: the slices are what they say, and the answer is as large as Rattle's `Verdict`.
-        unsafe { judge(&mut answer, &Slice::of(book), party, &Slice::of(listing)) };
+        unsafe {
+            judge(
+                &mut answer,
+                book.as_ptr(),
+                book.len(),
+                party,
+                listing.as_ptr(),
+                listing.len(),
+            )
+        };
         answer.verdict()
     }
 
@@ -391,7 +387,15 @@ impl Library {
         let check = self.check.expect("the library has `check`");
         let mut finding = Finding::default();
         // SAFETY: the slices are what they say, and the finding is as large as Rattle's.
-        unsafe { check(&mut finding, &Slice::of(asked), &Slice::of(derivation)) };
+        unsafe {
+            check(
+                &mut finding,
+                asked.as_ptr(),
+                asked.len(),
+                derivation.as_ptr(),
+                derivation.len(),
+            )
+        };
         finding.read()
     }
 
@@ -399,7 +403,7 @@ impl Library {
     pub fn keeps_apart(&self, asked: &[u32]) -> bool {
         let apart = self.apart.expect("the library has `keeps_apart`");
         // SAFETY: the slice is what it says.
-        unsafe { apart(&Slice::of(asked)) }
+        unsafe { apart(asked.as_ptr(), asked.len()) }
     }
 
     /// The proved `nghiralum_check`, which the library must have: its answer as it is packed.

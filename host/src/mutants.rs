@@ -15,8 +15,9 @@ use std::path::{Path, PathBuf};
 use std::process::Command;
 use std::sync::atomic::{AtomicUsize, Ordering};
 
-/// What the prover needs of the folder it writes to.
-const PROVED: [&str; 3] = ["inc", "rlib", "stamp"];
+/// What stands in a crate's folder and is made, not written. A check in a copy of the repository begins with what another
+/// kept on this machine, so a copy has none of it.
+const MADE: &str = "out";
 
 /// A source with one token changed.
 pub struct Mutant {
@@ -162,29 +163,29 @@ impl Copy {
         let copy = Copy(folder);
         copied(&house.join("crates.txt"), &copy.0.join("crates.txt"))?;
         copied(&house.join("crates"), &copy.0.join("crates"))?;
-        let (from, to) = (house.join("target"), copy.0.join("target"));
-        fs::create_dir(&to).map_err(|error| files::told(&to, error))?;
-        for part in PROVED.iter().filter(|part| from.join(part).is_dir()) {
-            copied(&from.join(part), &to.join(part))?;
-        }
         Ok(copy)
     }
 
     /// Asks the prover about a crate of the copy.
     fn verdict(&self, prover: &str, name: &str) -> Result<Verdict, String> {
         let mut command = Command::new(prover);
-        let asked = command.args(["dev", name]).current_dir(&self.0).output();
+        let folder = self.0.join("crates").join(name);
+        let asked = command.arg("check").current_dir(folder).output();
         let asked = asked.map_err(|error| format!("{prover}: {error}"))?;
-        let said = [asked.stderr, asked.stdout].concat();
-        let place = first_error(&String::from_utf8_lossy(&said), name);
+        let said = [asked.stdout, asked.stderr].concat();
+        let said = String::from_utf8_lossy(&said);
+        let place = first_place(&said);
         Ok(match asked.status.code() {
             Some(0) => Verdict::Proved,
-            Some(1) if place.starts_with("src/") => Verdict::NotCompiled(place),
-            Some(1) => Verdict::Refused(place),
+            Some(1) if said.lines().any(|line| line.starts_with(REFUSED)) => Verdict::Refused(place),
+            Some(1) => Verdict::NotCompiled(place),
             _ => Verdict::Unknown(asked.status.to_string()),
         })
     }
 }
+
+/// How the prover begins the line that ends a check of what compiles and isn't proved.
+const REFUSED: &str = "logic=not-proved";
 
 impl Drop for Copy {
     fn drop(&mut self) {
@@ -193,20 +194,22 @@ impl Drop for Copy {
     }
 }
 
-/// File and line, under the crate's folder, of the first error that is told.
-fn first_error(said: &str, name: &str) -> String {
-    let line = said.lines().find(|line| line.contains(": error")).unwrap_or_default();
-    let place = line.split_once(": error").map_or("", |(place, _)| place);
-    let folder = format!("crates/{name}/");
-    let under = place.rsplit_once(&folder).map_or(place, |(_, under)| under);
-    let mut parts = under.split(':');
-    match (parts.next(), parts.next()) {
-        (Some(file), Some(line)) => format!("{file}:{line}"),
-        _ => "a place that isn't told".to_string(),
-    }
+/// File and line, under the crate's folder, of the first fault that is told: an error, or a note of what is not proved.
+fn first_place(said: &str) -> String {
+    let place = |line: &str| {
+        let line = line.strip_prefix("note: ").unwrap_or(line);
+        let line = line.strip_prefix("./").unwrap_or(line);
+        let mut parts = line.split(':');
+        let (file, line, column) = (parts.next()?, parts.next()?, parts.next()?);
+        let is_number = |text: &str| !text.is_empty() && text.chars().all(|digit| digit.is_ascii_digit());
+        let is_place = !file.contains(' ') && is_number(line) && is_number(column);
+        is_place.then(|| format!("{file}:{line}"))
+    };
+    let first = said.lines().find_map(place);
+    first.unwrap_or_else(|| "a place that isn't told".to_string())
 }
 
-/// Copies a file, or a folder with all that it has.
+/// Copies a file, or a folder with all that it has but what is made.
 fn copied(from: &Path, to: &Path) -> Result<(), String> {
     if !from.is_dir() {
         return fs::copy(from, to).map(|_| ()).map_err(|error| files::told(from, error));
@@ -214,7 +217,9 @@ fn copied(from: &Path, to: &Path) -> Result<(), String> {
     fs::create_dir(to).map_err(|error| files::told(to, error))?;
     for entry in fs::read_dir(from).map_err(|error| files::told(from, error))? {
         let name = entry.map_err(|error| files::told(from, error))?.file_name();
-        copied(&from.join(&name), &to.join(&name))?;
+        if name != MADE {
+            copied(&from.join(&name), &to.join(&name))?;
+        }
     }
     Ok(())
 }

@@ -18,9 +18,9 @@ new:     if at <= out.len() {
 
 const SOURCE: &str = "fn put() {\n    if at < out.len() {\n    }\n}\n";
 
-/// Two crates with edits, listed against the order of their names, and one without.
+/// Two crates with edits, listed against the order of their names, one as a static library, and one without.
 fn house(name: &str) -> Folder {
-    let list = b"# NAME: what it stands on\nwords:\nplain: words\nline: words\n";
+    let list = b"# NAME: what it stands on\nwords:\nplain: words\nline staticlib: words\n";
     let house = Folder::with(name, &[("crates.txt", list)]);
     for folder in ["crates/words/must-fail", "crates/line/must-fail", "crates/plain/src"] {
         fs::create_dir_all(house.at().join(folder)).expect("a folder");
@@ -57,6 +57,15 @@ fn an_edit_that_does_not_apply() {
     assert_eq!(fault(SOURCE), Ok(3));
     assert!(fault("fn put() {}\n").unwrap_err().ends_with("is not in src/lib.rt"));
     assert!(fault(&SOURCE.repeat(2)).unwrap_err().ends_with("more than once"));
+    let idle = |edit: String| {
+        house.file("crates/line/src/lib.rt", SOURCE);
+        house.file("crates/line/must-fail/late.edit", edit);
+        Page::of(&house.at().join("crates")).map(|page| page.edits)
+    };
+    let unchanged = [PAST.replace("<=", "<"), PAST.replace("new:", "now:")];
+    for edit in unchanged {
+        assert!(idle(edit).unwrap_err().ends_with("nothing is changed"));
+    }
 }
 
 #[test]

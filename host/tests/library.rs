@@ -60,7 +60,7 @@ fn a_kit_that_does_not_run() {
     rt("echo rt: no toolchain; exit 2");
     let message = says(&commands, &["shared", "shelf"]);
     assert!(message.contains("does not run: rt: no toolchain"), "{message}");
-    rt("echo /no/such/kit/docs/START-HERE.md");
+    rt("echo /no/such/kit/START-HERE.md");
     let message = says(&commands, &["shared", "shelf"]);
     assert!(message.contains("/no/such/kit has no compiler"), "{message}");
 }

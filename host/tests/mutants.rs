@@ -9,8 +9,10 @@ use std::os::unix::fs::PermissionsExt;
 
 const SOURCE: &str = "\
 // A remark: 1 < 2.
+#![tactic(auto)]
+
 use words::put;
-ghost use Nat.{_<_};
+ghost use Nat.{◌<◌};
 
 pub enum Why {
     Row(u32),
@@ -30,15 +32,19 @@ impl Kind {
     pub const MOST: usize = 9;
 }
 
-fn twice(n: u32) -> u32
-    requires { ⌜ n < 7 ⌝ }
-    ensures { λ r. ⌜ r ≡ 2 * n ⌝ }
+#[tactic(auto, using(crate::proofs::Few::few_1))]
+fn twice<'a>(n: u32) -> u32
+    requires { n < 7 }
+    ensures low { result ≡ 2 * n }
+    ensures* high {
+        result < 15 * 1
+    }
 {
     n
 }
 
 fn made(book: &[u32], mut row: u32, place: u32) -> Kind
-    ensures { λ r. ⌜ 3 < 4 ⌝ }
+    ensures { 3 < 4 }
 {
     let size = twice(row);
     if place < Kind::ATOM && true {
@@ -105,7 +111,7 @@ fn the_same_seed_gives_the_same_mutants() {
             let changed: Vec<(&str, &str)> = before.lines().zip(after.lines()).filter(|(a, b)| a != b).collect();
             assert_eq!(changed.len(), 1);
             let line = changed[0].0.trim();
-            let left_alone = ["//", "use ", "ghost ", "requires ", "ensures ", "pub fn ", "fn "];
+            let left_alone = ["//", "#", "use ", "ghost ", "requires", "ensures", "pub fn ", "fn "];
             assert!(!left_alone.iter().any(|begin| line.starts_with(begin)), "{line}");
             (format!("{}:{}", mutant.file.display(), mutant.line), mutant.new)
         };
@@ -120,7 +126,7 @@ fn the_same_seed_gives_the_same_mutants() {
 fn house(name: &str, prover: &str) -> (Folder, String) {
     let house = Folder::with(name, &[("crates.txt", b"kinds:\n")]);
     fs::create_dir_all(house.at().join("crates/kinds/src")).expect("a folder");
-    fs::create_dir_all(house.at().join("target/rlib")).expect("a folder");
+    fs::create_dir_all(house.at().join("crates/kinds/out/rlib")).expect("a folder");
     house.file("crates/kinds/src/lib.rt", "fn f() -> bool {\n    true\n}\n");
     let prover = house.file("prover", format!("#!/bin/sh\n{prover}\n"));
     fs::set_permissions(&prover, fs::Permissions::from_mode(0o755)).expect("may be run");
@@ -135,9 +141,10 @@ fn run(house: &(Folder, String)) -> Result<String, String> {
 
 #[test]
 fn verdicts_are_told_and_nothing_is_written() {
-    let refusing = |file: &str, status: u32| {
+    // What is made is not copied.
+    let refusing = |said: &str, status: u32| {
         format!(
-            "grep -q true crates/$2/src/lib.rt || {{ echo \"$PWD/crates/$2/{file}:3:1: error: no\"; exit {status}; }}"
+            "[ \"$1\" = check ] && [ ! -e out ] && grep -q true src/lib.rt || {{ printf '{said}'; exit {status}; }}"
         )
     };
     let line = "crates/kinds/src/lib.rt:2: `true` to `false`: ";
@@ -145,17 +152,28 @@ fn verdicts_are_told_and_nothing_is_written() {
     let cases = [
         (
             "mutants-refused",
-            refusing("proofs/f/Proof.antt", 1),
-            "refused at proofs/f/Proof.antt:3",
+            refusing(
+                "rt: so it is\\nnote: src/lib.rt:3:1: it is not proved\\nlogic=not-proved\\n",
+                1,
+            ),
+            "refused at src/lib.rt:3",
+        ),
+        (
+            "mutants-refused-proof",
+            refusing(
+                "./proofs/f/Answers.antt:7:1: error: no\\nlogic=not-proved functions=1\\n",
+                1,
+            ),
+            "refused at proofs/f/Answers.antt:7",
         ),
         (
             "mutants-compiled",
-            refusing("src/lib.rt", 1),
+            refusing("src/lib.rt:3:12: error[unknown-name]: no\\n", 1),
             "not compiled, src/lib.rt:3",
         ),
         (
             "mutants-unknown",
-            refusing("src/lib.rt", 3),
+            refusing("src/lib.rt:3:12: error: no\\n", 3),
             "the prover can't tell, exit status: 3",
         ),
     ];

@@ -299,7 +299,7 @@ fn unless(touched: bool) -> Effect {
     }
 }
 
-/// The compiler's loop that takes page after page and touches each, as one instruction.
+/// The compiler's loop that takes step after step, a page or less, and touches each, as one instruction.
 pub fn probing_loop(code: &[u8]) -> Option<Instruction> {
     let (taken, head) = match *code {
         // mov r11, rsp; sub r11, constant
@@ -308,13 +308,16 @@ pub fn probing_loop(code: &[u8]) -> Option<Instruction> {
         [0x4c, 0x8d, 0x9c, 0x24, a, b, c, d, ..] => (-i64::from(i32::from_le_bytes([a, b, c, d])), 8),
         _ => return None,
     };
-    // sub rsp, 4096; mov qword [rsp], 0; cmp rsp, r11; jne to the sub
-    let body = [
-        0x48, 0x81, 0xec, 0, 0x10, 0, 0, 0x48, 0xc7, 4, 0x24, 0, 0, 0, 0, 0x4c, 0x39, 0xdc, 0x75, 0xec,
-    ];
-    let whole = code[head..].starts_with(&body) && taken > 0 && taken % 4096 == 0;
+    // sub rsp, step; mov qword [rsp], 0; cmp rsp, r11; jne to the sub
+    let (first, rest) = code[head..].split_at_checked(7)?;
+    let [0x48, 0x81, 0xec, a, b, c, d] = *first else {
+        return None;
+    };
+    let step = i64::from(i32::from_le_bytes([a, b, c, d]));
+    let body = [0x48, 0xc7, 4, 0x24, 0, 0, 0, 0, 0x4c, 0x39, 0xdc, 0x75, 0xec];
+    let whole = rest.starts_with(&body) && (1..=4096).contains(&step) && taken > 0 && taken % step == 0;
     whole.then_some(Instruction {
-        length: head + body.len(),
+        length: head + first.len() + body.len(),
         effect: Effect::Moves(taken),
     })
 }

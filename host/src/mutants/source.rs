@@ -93,7 +93,7 @@ impl Names {
                     i = close;
                 }
                 "fn" => {
-                    let close = matching(&tokens, i + 2);
+                    let close = matching(&tokens, parameters(&tokens, i));
                     let open = find(&tokens, close, "{");
                     let answer = Some(joined(&tokens, close + 2, open)).filter(|kind| !kind.contains("Self"));
                     let known = self.answers.entry(said(&tokens, i + 1).to_string());
@@ -137,10 +137,11 @@ pub fn sites(text: &str, names: &Names) -> Vec<Site> {
                 i = end;
             }
             "fn" => {
-                let close = matching(&tokens, i + 2);
+                let parameters = parameters(&tokens, i);
+                let close = matching(&tokens, parameters);
                 let open = find(&tokens, close, "{");
                 let end = matching(&tokens, open);
-                let arguments = arguments(&tokens, i + 3, close);
+                let arguments = arguments(&tokens, parameters + 1, close);
                 body(&tokens, open, end, arguments, names, &mut sites);
                 i = end;
             }
@@ -232,6 +233,22 @@ fn binding(tokens: &[Token], at: usize, scope: &[Local], names: &Names, depth: u
     };
     let name = said(tokens, name).to_string();
     (end, Local { name, kind, depth })
+}
+
+/// Where the parentheses of a function's arguments open, behind its name and what it is generic in.
+fn parameters(tokens: &[Token], at: usize) -> usize {
+    let mut depth = 0;
+    let mut i = at + 2;
+    while i < tokens.len() && (depth > 0 || tokens[i].text != "(") {
+        match tokens[i].text {
+            "<" => depth += 1,
+            ">" => depth -= 1,
+            ">>" => depth -= 2,
+            _ => {}
+        }
+        i += 1;
+    }
+    i
 }
 
 /// The arguments between a function's parentheses.
@@ -335,7 +352,7 @@ fn matching(tokens: &[Token], open: usize) -> usize {
     tokens.len()
 }
 
-/// The tokens of what runs and of declarations: no remark, contract or `use`.
+/// The tokens of what runs and of declarations: no remark, attribute, contract or `use`.
 fn code(text: &str) -> Vec<Token<'_>> {
     let all = tokens(text);
     let mut code = Vec::new();
@@ -344,7 +361,8 @@ fn code(text: &str) -> Vec<Token<'_>> {
         match all[i].text {
             "use" => i = find(&all, i, ";"),
             "ghost" => {}
-            "requires" | "ensures" if said(&all, i + 1) == "{" => i = matching(&all, i + 1),
+            "#" => i = matching(&all, find(&all, i, "[")),
+            "requires" | "ensures" => i = matching(&all, find(&all, i, "{")),
             _ => code.push(all[i]),
         }
         i += 1;
@@ -383,6 +401,11 @@ fn tokens(text: &str) -> Vec<Token<'_>> {
 fn quoted(rest: &str) -> Option<usize> {
     let begin = rest.strip_prefix('b').unwrap_or(rest);
     let quote = begin.chars().next().filter(|quote| ['"', '\''].contains(quote))?;
+    // A name behind a single quote, and no other quote behind its first sign, is a lifetime's.
+    let mut signs = begin.chars().skip(1);
+    if quote == '\'' && signs.next() != Some('\\') && signs.next() != Some('\'') {
+        return None;
+    }
     let mut escaped = false;
     for (at, sign) in begin.char_indices().skip(1) {
         match sign {

@@ -1,10 +1,10 @@
--- `editor::nghiralum_translate` meets its contract: every answer of a translation fits one number. Assumes nothing.
+-- `editor_c::nghiralum_translate` meets its contract: every answer of a translation fits one number. Assumes nothing.
 use mathlib.Core.Path.{ap}
 use borrow.Author.Rules.{rules}
 use Rattle.translation.specs.Outcome.{Outcome}
 use Rattle.editor.specs.Bytes.Laws.{translation-bytes-small}
 use Rattle.packing.specs.Packed.Laws.{packed-came}
-use Rattle.editor.proofs.nghiralum_translate.Goals as goal
+use Rattle.editor_c.proofs.nghiralum_translate.Goals as goal
 
 -- so it can be packed
 pub pack-requires : goal.pack-requires

@@ -1,10 +1,10 @@
--- `editor::nghiralum_summary` meets its contract: every answer about a summary fits one number. Assumes nothing.
+-- `editor_c::nghiralum_summary` meets its contract: every answer about a summary fits one number. Assumes nothing.
 use mathlib.Core.Path.{ap}
 use borrow.Author.Rules.{rules}
 use Rattle.translation.specs.Outcome.{Outcome}
 use Rattle.editor.specs.Bytes.Laws.{summary-bytes-small}
 use Rattle.packing.specs.Packed.Laws.{packed-came}
-use Rattle.editor.proofs.nghiralum_summary.Goals as goal
+use Rattle.editor_c.proofs.nghiralum_summary.Goals as goal
 
 -- so it can be packed
 pub pack-requires : goal.pack-requires

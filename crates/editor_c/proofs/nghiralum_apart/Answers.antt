@@ -1,10 +1,10 @@
--- `editor::nghiralum_apart` meets its contract: all that is said of bound names fits one number, capped. Assumes nothing.
+-- `editor_c::nghiralum_apart` meets its contract: all that is said of bound names fits one number, capped. Assumes nothing.
 use mathlib.Core.Path.{ap}
 use borrow.Author.Rules.{rules}
 use Rattle.translation.specs.Outcome.{Outcome}
 use Rattle.packing.specs.Packed.Derivations.{apart-small}
 use Rattle.packing.specs.Packed.Laws.{packed-checked}
-use Rattle.editor.proofs.nghiralum_apart.Goals as goal
+use Rattle.editor_c.proofs.nghiralum_apart.Goals as goal
 
 -- so it can be packed
 pub pack_reply-requires : goal.pack_reply-requires

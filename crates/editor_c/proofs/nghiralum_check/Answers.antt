@@ -1,11 +1,11 @@
--- `editor::nghiralum_check` meets its contract: all that is said of a derivation fits one number, capped. Assumes
+-- `editor_c::nghiralum_check` meets its contract: all that is said of a derivation fits one number, capped. Assumes
 -- nothing.
 use mathlib.Core.Path.{ap}
 use borrow.Author.Rules.{rules}
 use Rattle.translation.specs.Outcome.{Outcome}
 use Rattle.packing.specs.Packed.Derivations.{checked-packs}
 use Rattle.packing.specs.Packed.Laws.{packed-checked}
-use Rattle.editor.proofs.nghiralum_check.Goals as goal
+use Rattle.editor_c.proofs.nghiralum_check.Goals as goal
 
 -- so it can be packed
 pub pack_checked-requires : goal.pack_checked-requires

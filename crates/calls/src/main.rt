@@ -10,7 +10,7 @@ ghost use Rattle.calls.specs.Next.{Asked};
 
 use functions::Function;
 use input::Input;
-use libc::{STDERR_FILENO, STDIN_FILENO};
+use std::io::{Read, Write};
 
 // What is read and printed at most.
 #[derive(Drop)]
@@ -35,14 +35,14 @@ enum Next {
 }
 
 // Reads bytes until those that are lent for them are full; whether they are.
-fn read_all(bytes: &mut [u8]) -> bool {
-    let input = input::fill(STDIN_FILENO, b"standard input", bytes);
+fn read_all<R: Read, E: Write>(reader: &mut R, errors: &mut E, bytes: &mut [u8]) -> bool {
+    let input = input::fill(reader, errors, b"standard input", bytes);
     match input {
         Input::Bytes(n) => {
             if n == bytes.len() {
                 return true;
             }
-            io::write_all(STDERR_FILENO, b"standard input ends inside a request\n");
+            let _ = errors.write_all(b"standard input ends inside a request\n");
             false
         }
         Input::Failed => false,
@@ -51,66 +51,87 @@ fn read_all(bytes: &mut [u8]) -> bool {
 
 // Reads a slice of a function: its count, and then so many words or bytes. Where bytes don't fill the last word, it is filled up, and
 // that is no part of the slice. Answers how many bytes the slice has.
-fn read_slice(function: u32, bytes: &mut [u8]) -> Input
+fn read_slice<R: Read, E: Write>(
+    reader: &mut R,
+    errors: &mut E,
+    function: u32,
+    bytes: &mut [u8],
+) -> Input
     requires { 65536 ≤ length bytes.old }
     ensures { Within result 65536 }
 {
     let mut head = [0u8; 4];
-    if !read_all(&mut head) {
+    if !read_all(reader, errors, &mut head) {
         return Input::Failed;
     }
     let size = functions::slice_size(function, &head);
     if Most::BYTES < size {
-        io::write_all(STDERR_FILENO, b"a slice has more than 65536 bytes\n");
+        let _ = errors.write_all(b"a slice has more than 65536 bytes\n");
         return Input::Failed;
     }
-    if !read_all(&mut bytes[0..(size + 3) / 4 * 4]) {
+    if !read_all(reader, errors, &mut bytes[0..(size + 3) / 4 * 4]) {
         return Input::Failed;
     }
     Input::Bytes(size)
 }
 
 // Reads the numbers of a function, a word each; answers how many bytes they have.
-fn read_numbers(function: u32, bytes: &mut [u8]) -> Input
+fn read_numbers<R: Read, E: Write>(
+    reader: &mut R,
+    errors: &mut E,
+    function: u32,
+    bytes: &mut [u8],
+) -> Input
     requires { 65536 ≤ length bytes.old }
     ensures { Within result 65536 }
 {
     let size = 4 * functions::numbers(function);
-    if !read_all(&mut bytes[0..size]) {
+    if !read_all(reader, errors, &mut bytes[0..size]) {
         return Input::Failed;
     }
     Input::Bytes(size)
 }
 
 // Reads slice k of a function, counted from 0, or behind its slices all of its numbers; where it has none, no bytes come.
-fn read_nth(function: u32, k: usize, bytes: &mut [u8]) -> Input
+fn read_nth<R: Read, E: Write>(
+    reader: &mut R,
+    errors: &mut E,
+    function: u32,
+    k: usize,
+    bytes: &mut [u8],
+) -> Input
     requires { 65536 ≤ length bytes.old }
     ensures { Within result 65536 }
 {
     let n = functions::slices(function);
     if k < n {
-        return read_slice(function, bytes);
+        return read_slice(reader, errors, function, bytes);
     }
     if k == n {
-        return read_numbers(function, bytes);
+        return read_numbers(reader, errors, function, bytes);
     }
     Input::Bytes(0)
 }
 
 // Reads the slices and the numbers of a call, and prints its line; whether all of them came.
-fn answer(function: u32) -> bool
+fn answer<R: Read, W: Write, E: Write>(
+    reader: &mut R,
+    out: &mut W,
+    errors: &mut E,
+    function: u32,
+) -> bool
     requires { Known function }
 {
     let mut first = [0u8; Most::BYTES];
-    let Input::Bytes(l) = read_nth(function, 0, &mut first) else {
+    let Input::Bytes(l) = read_nth(reader, errors, function, 0, &mut first) else {
         return false;
     };
     let mut second = [0u8; Most::BYTES];
-    let Input::Bytes(m) = read_nth(function, 1, &mut second) else {
+    let Input::Bytes(m) = read_nth(reader, errors, function, 1, &mut second) else {
         return false;
     };
     let mut third = [0u8; Most::BYTES];
-    let Input::Bytes(n) = read_nth(function, 2, &mut third) else {
+    let Input::Bytes(n) = read_nth(reader, errors, function, 2, &mut third) else {
         return false;
     };
     let mut line = [0u8; Most::LINE];
@@ -121,24 +142,24 @@ fn answer(function: u32) -> bool
         &mut second[..m],
         &mut third[..n],
     );
-    line::print(&line[..end]);
+    line::print(out, errors, &line[..end]);
     true
 }
 
 // Says on standard error why nothing more is called.
-fn stop(why: &[u8]) -> Next
+fn stop<E: Write>(errors: &mut E, why: &[u8]) -> Next
     ensures { Asked result }
 {
-    io::write_all(STDERR_FILENO, why);
+    let _ = errors.write_all(why);
     Next::Nothing
 }
 
 // Reads the number of a function. Where nothing comes, the requests are at their end.
-fn read_next() -> Next
+fn read_next<R: Read, E: Write>(reader: &mut R, errors: &mut E) -> Next
     ensures { Asked result }
 {
     let mut head = [0u8; 4];
-    let input = input::fill(STDIN_FILENO, b"standard input", &mut head);
+    let input = input::fill(reader, errors, b"standard input", &mut head);
     let Input::Bytes(n) = input else {
         return Next::Nothing;
     };
@@ -146,31 +167,31 @@ fn read_next() -> Next
         return Next::Nothing;
     }
     if n < 4 {
-        return stop(b"standard input ends inside a request\n");
+        return stop(errors, b"standard input ends inside a request\n");
     }
     let function = octets::word(head[0], head[1], head[2], head[3]);
     if function < Function::READ {
-        return stop(b"there is no function of this number\n");
+        return stop(errors, b"there is no function of this number\n");
     }
     if Function::APART_BYTES < function {
-        return stop(b"there is no function of this number\n");
+        return stop(errors, b"there is no function of this number\n");
     }
     Next::Call(function)
 }
 
-fn main() {
+fn main(rt: HostRuntime) {
+    let mut reader = rt.stdin();
+    let mut out = rt.stdout();
+    let mut errors = rt.stderr();
     let mut requests = 0;
     while requests < Most::REQUESTS {
-        let Next::Call(function) = read_next() else {
+        let Next::Call(function) = read_next(&mut reader, &mut errors) else {
             return;
         };
-        if !answer(function) {
+        if !answer(&mut reader, &mut out, &mut errors, function) {
             return;
         }
         requests += 1;
     }
-    io::write_all(
-        STDERR_FILENO,
-        b"no more than 1048576 requests are answered\n",
-    );
+    let _ = errors.write_all(b"no more than 1048576 requests are answered\n");
 }

@@ -1,6 +1,7 @@
 -- The line that the program prints, as bytes. Document 01: "A listing is printed as its words, a refusal as the word "refused", its
 -- number and its place, all in decimal on one line with single spaces."
-use Rattle.std.specs.Prelude.{ℕ, ◌+◌, ◌-◌, ◌^◌, ◌≤◌, ◌<◌, ◌≡◌, List, [], ◌∷◌, ◌++◌, length, get_or, take, ltb, eqb}
+use Rattle.std.specs.Prelude.{ℕ, ◌+◌, ◌-◌, ◌^◌, ◌≤◌, ◌<◌, ◌≡◌, Bool, true, false, Option, List, [], ◌∷◌, ◌++◌, length, get_or, take, ltb, eqb}
+use Rattle.std.specs.Io.KnownBytes.{Appends}
 use Rattle.io.specs.Digits.{last_digits}
 use Rattle.words.specs.Choice.{pick}
 use Rattle.words.specs.First.{first}
@@ -70,3 +71,8 @@ pub record PutNumber (x : ℕ) (old : List ℕ) (at : ℕ) (new : List ℕ) (r :
   pub put : Put (spaced x) old at new r
   pub low : r ≤ at + 21
   pub word : x < 2 ^ 32 → r ≤ at + 11
+
+-- whether a line was printed: all of it was written behind what the writer held, or where a write failed, what came before that
+abbrev pub Printed : Bool → Option (List ℕ) → Option (List ℕ) → List ℕ → Type 0
+Printed true old new line = Appends old new line
+Printed false old new line = (n : ℕ) × (n ≤ length line) × Appends old new (take n line)

@@ -6,10 +6,10 @@ ghost use Rattle.std.specs.Prelude.{◌≡◌, ◌+◌, ◌*◌, ◌<◌, ◌≤
 ghost use Rattle.io.specs.Counts.{IsPrefixLen};
 ghost use Rattle.book.specs.Said.{refusal_says, reading_says, told_says};
 ghost use Rattle.translation.specs.Outcome.{came};
-ghost use Rattle.line.specs.Line.{spaced_all, ended, listing_line, refusal_text, refusal_line, reading_line, line_of, Inside, Put, PutNumber};
+ghost use Rattle.line.specs.Line.{spaced_all, ended, listing_line, refusal_text, refusal_line, reading_line, line_of, Inside, Put, PutNumber, Printed};
 
 use book::{Reading, Refusal, Told, told_of};
-use libc::STDOUT_FILENO;
+use std::io::{Error, ErrorKind, Write};
 use translation::Answer;
 
 // Puts a text at a place of the line; answers the place behind it.
@@ -128,10 +128,29 @@ pub fn reading_line(line: &mut [u8], reading: Reading) -> usize
     }
 }
 
-// Writes a line out, or several. All of it is handed over at once and a newline comes last, so that where a write fails, what went
-// out before is seen not to be whole.
-pub fn print(line: &[u8]) {
-    if !io::write_all(STDOUT_FILENO, line) {
-        os::fail(b"standard output");
+// Writes a line out, or several; whether all of it was written, and where it wasn't, that is told. All of it is handed over at once and
+// a newline comes last, so that where a write fails, what went out before is seen not to be whole.
+pub fn print<W: Write, E: Write>(out: &mut W, errors: &mut E, line: &[u8]) -> bool
+    ensures { Printed result (W.contents out.old) (W.contents out.new) line.now }
+{
+    let mut done = 0;
+    while done < line.len() {
+        match out.write(&line[done..]) {
+            Ok(0) => {
+                fail(errors, &Error::from(ErrorKind::WriteZero));
+                return false;
+            }
+            Ok(more) => done += more,
+            Err(error) => {
+                fail(errors, &error);
+                return false;
+            }
+        }
     }
+    true
+}
+
+// Tells that the line was not written, and the system's reason.
+fn fail<E: Write>(errors: &mut E, error: &Error) {
+    let _ = writeln!(errors, "standard output: {error}");
 }

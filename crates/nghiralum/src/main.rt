@@ -1,15 +1,19 @@
 // The program: reads a book from the file that its argument names, or from standard input, and prints its listing or its refusal
-// on one line. `reply` leaves exactly the line's bytes, for any bytes that were read; the rest reads and prints.
+// on one line. `reply` leaves exactly the line's bytes, for any bytes that were read; `run` prints that line of what its reader has, and
+// the rest opens and tells.
 #![tactic(auto)]
 
 ghost use Rattle.std.specs.Prelude.{◌≡◌, ◌≤◌, length, take};
 ghost use Rattle.io.specs.Counts.{IsPrefixLen};
 ghost use Rattle.book.specs.Layout.{loaded_bytes};
-ghost use Rattle.nghiralum.specs.Reply.{reply_line};
+ghost use Rattle.nghiralum.specs.Reply.{reply_line, Replied};
 
 use book::Layout;
 use input::Input;
-use libc::{STDERR_FILENO, STDIN_FILENO};
+use std::env::{Env, FillError};
+use std::fs::File;
+use std::io::{Error, ErrorKind, Read, Result, Write};
+use std::rt::Files;
 
 // What is read, lent and printed at most.
 #[derive(Drop)]
@@ -26,6 +30,9 @@ impl Most {
 
     // A word takes up to eleven bytes of the line, as `line` counts them.
     const LINE: usize = 180234;
+
+    // The bytes of a file's name.
+    const NAME: usize = 4096;
 }
 
 // The line that is printed of the first n bytes of those that there was room for, into the front of `line`; answers its length.
@@ -41,44 +48,69 @@ fn reply(read: &[u8], n: usize, line: &mut [u8]) -> usize
     line::answer_line(line, answer, &lent)
 }
 
-// Reads a book from an open file, and prints what comes of it.
-fn run(fd: i32, name: &[u8]) {
+// Reads a book from what is open, and prints what comes of it; whether all was read and printed. Where not, that is told.
+fn run<R: Read, W: Write, E: Write>(
+    reader: &mut R,
+    out: &mut W,
+    errors: &mut E,
+    name: &[u8],
+) -> bool
+    ensures { Replied result (R.remaining reader.old) (W.contents out.old) (W.contents out.new) }
+{
     let mut bytes = [0u8; Most::BYTES];
-    let input = input::fill(fd, name, &mut bytes);
+    let input = input::fill(reader, errors, name, &mut bytes);
     match input {
         Input::Bytes(n) => {
             let mut line = [0u8; Most::LINE];
             let end = reply(&bytes, n, &mut line);
-            line::print(&line[..end]);
+            line::print(out, errors, &line[..end])
         }
-        Input::Failed => {}
+        Input::Failed => false,
+    }
+}
+
+// Opens a file to be read. A name that is no text can't be opened.
+fn open<F: Files>(files: &F, name: &[u8]) -> Result<F::File> {
+    match str::from_utf8(name) {
+        Ok(text) => File::open(files, text),
+        Err(_) => Err(Error::new(ErrorKind::InvalidFilename, "the name is no UTF-8")),
     }
 }
 
 // The same from the file that the argument names.
-fn run_file() {
-    let mut name = io::buffer();
-    let n = os::arg(1, &mut name);
-    if os::errno() != 0 {
-        os::fail(b"the file's name");
-        return;
+fn run_file<S: Env + Files, W: Write, E: Write>(system: &S, out: &mut W, errors: &mut E) {
+    let mut name = [0u8; Most::NAME];
+    match system.arg(1, &mut name) {
+        Ok(n) => match open(system, &name[..n]) {
+            Ok(mut file) => {
+                run(&mut file, out, errors, &name[..n]);
+            }
+            Err(error) => input::fail(errors, &name[..n], &error),
+        },
+        Err(_) => {
+            let error = Error::new(ErrorKind::InvalidFilename, "File name too long");
+            input::fail(errors, b"the file's name", &error);
+        }
     }
-    let fd = os::open_read(&name[..n]);
-    if fd < 0 {
-        os::fail(&name[..n]);
-        return;
-    }
-    run(fd, &name[..n]);
-    libc::close(fd);
 }
 
-fn main() {
-    let count = os::arg_count();
-    if count < 2 {
-        run(STDIN_FILENO, b"standard input");
-    } else if count == 2 {
-        run_file();
+// Whether there is an argument of this number, counted from the program's own name as 0.
+fn is_argument(system: &impl Env, number: usize) -> bool {
+    let mut name = [0u8; Most::NAME];
+    match system.arg(number, &mut name) {
+        Err(FillError::NotPresent) => false,
+        _ => true,
+    }
+}
+
+fn main(rt: HostRuntime) {
+    let mut out = rt.stdout();
+    let mut errors = rt.stderr();
+    if !is_argument(&rt, 1) {
+        run(&mut rt.stdin(), &mut out, &mut errors, b"standard input");
+    } else if !is_argument(&rt, 2) {
+        run_file(&rt, &mut out, &mut errors);
     } else {
-        io::write_all(STDERR_FILENO, b"one argument is taken, a file's name\n");
+        let _ = errors.write_all(b"one argument is taken, a file's name\n");
     }
 }

@@ -15,7 +15,7 @@ ghost use Rattle.shelf.specs.Turns.{turn, seats};
 
 use book::{Layout, Limit};
 use input::Input;
-use libc::{STDERR_FILENO, STDIN_FILENO};
+use std::io::{Read, Write};
 
 // What is read, lent, played and printed at most.
 #[derive(Drop)]
@@ -53,23 +53,23 @@ enum Next {
 }
 
 // Says on standard error why there is nothing more.
-fn stop(why: &[u8]) -> Next
+fn stop<E: Write>(errors: &mut E, why: &[u8]) -> Next
     ensures { Fits result }
 {
-    io::write_all(STDERR_FILENO, why);
+    let _ = errors.write_all(why);
     Next::Nothing
 }
 
 // Reads bytes until those that are lent for them are full.
-fn read_bytes(bytes: &mut [u8]) -> Next
+fn read_bytes<R: Read, E: Write>(reader: &mut R, errors: &mut E, bytes: &mut [u8]) -> Next
     requires { length bytes.old ≤ loaded_bytes }
     ensures { Fits result }
 {
-    let input = input::fill(STDIN_FILENO, b"standard input", bytes);
+    let input = input::fill(reader, errors, b"standard input", bytes);
     match input {
         Input::Bytes(n) => {
             if n < bytes.len() {
-                return stop(b"standard input ends inside a book\n");
+                return stop(errors, b"standard input ends inside a book\n");
             }
             Next::Book(n)
         }
@@ -85,25 +85,25 @@ fn size_of(head: &[u8; 4]) -> usize
 }
 
 // Reads a book: its count of words, and then these.
-fn read_book(bytes: &mut [u8]) -> Next
+fn read_book<R: Read, E: Write>(reader: &mut R, errors: &mut E, bytes: &mut [u8]) -> Next
     requires { loaded_bytes ≤ length bytes.old }
     ensures { Fits result }
 {
     let mut head = [0u8; 4];
-    let input = input::fill(STDIN_FILENO, b"standard input", &mut head);
+    let input = input::fill(reader, errors, b"standard input", &mut head);
     match input {
         Input::Bytes(n) => {
             if n == 0 {
                 return Next::Nothing;
             }
             if n < 4 {
-                return stop(b"standard input ends inside a book\n");
+                return stop(errors, b"standard input ends inside a book\n");
             }
             let size = size_of(&head);
             if Most::BYTES < size {
-                return stop(b"a book has more words than are read\n");
+                return stop(errors, b"a book has more words than are read\n");
             }
-            read_bytes(&mut bytes[0..size])
+            read_bytes(reader, errors, &mut bytes[0..size])
         }
         Input::Failed => Next::Nothing,
     }
@@ -278,17 +278,20 @@ fn lines_of(bytes: &[u8], out: &mut [u8]) -> usize
     seven_lines(out, &words[..n])
 }
 
-fn main() {
+fn main(rt: HostRuntime) {
+    let mut reader = rt.stdin();
+    let mut out = rt.stdout();
+    let mut errors = rt.stderr();
     let mut bytes = [0u8; Most::BYTES];
-    let mut out = [0u8; Most::LINES];
+    let mut lines = [0u8; Most::LINES];
     let mut books = 0;
     while books < Most::BOOKS {
-        let Next::Book(n) = read_book(&mut bytes) else {
+        let Next::Book(n) = read_book(&mut reader, &mut errors, &mut bytes) else {
             return;
         };
-        let end = lines_of(&bytes[..n], &mut out);
-        line::print(&out[..end]);
+        let end = lines_of(&bytes[..n], &mut lines);
+        line::print(&mut out, &mut errors, &lines[..end]);
         books += 1;
     }
-    io::write_all(STDERR_FILENO, b"no more than 65536 books are tried\n");
+    let _ = errors.write_all(b"no more than 65536 books are tried\n");
 }

@@ -1,8 +1,30 @@
--- A law of reading: the bytes that came are no more than there was room for. Assumes nothing.
-use Rattle.std.specs.Prelude.{ℕ, ◌≤◌, ◌≡◌}
+-- Laws of reading: the bytes that came are no more than there was room for, and are the front of what the reader had left. Assumes
+-- nothing.
+use Rattle.std.specs.Prelude.{ℕ, ◌<◌, ◌≤◌, ◌≡◌, Option, None, Some, IfSome, List, [], ◌++◌, length, take}
+use Rattle.std.proofs.Common.{arith, ap, ◌∙◌, append-nil, length-take-le}
+use Rattle.std.proofs.Math.Decide.{dec_lt}
+use lib.Seq.{take_all, take-append_seam}
 use Rattle.input.specs.declared.Input.{Input}
 use Rattle.input.specs.declared.Input.TheVariants.{Bytes}
-use Rattle.input.specs.Input.{Within}
+use Rattle.input.specs.Input.{Within, Came}
 
 pub within-bytes : {input : Input} {n room : ℕ} → input ≡ Bytes n → Within input room → n ≤ room
 within-bytes e h = rw e at h
+
+-- what a reader gave and what it has left, as far as there was room
+front-room : (n room : ℕ) (came left : List ℕ) → length came ≡ n → n ≤ room → (n < room → left ≡ []) → take room (came ++ left) ≡ came
+front-room n room came left e few end = elim (dec_lt n room) [
+  | yes less ↦ ap (λ l. take room (came ++ l)) (end less) ∙ ap (take room) (append-nil came) ∙ take_all room came (omega arith)
+  | no full ↦
+      let same : room ≡ length came = omega arith in
+      ap (λ r. take r (came ++ left)) same ∙ take-append_seam came left
+]
+
+pub came-front : (left new : Option (List ℕ)) (bytes : List ℕ) (room : ℕ) {input : Input} {n : ℕ} → input ≡ Bytes n → n ≤ room
+    → length bytes ≡ room → Came input left new bytes → IfSome left (λ bs. take room bs ≡ take n bytes)
+came-front None new bytes room e few all came = tt
+came-front (Some bs) None bytes room {input} {n} e few all came = let c : Came (Bytes n) (Some bs) None bytes = rw e at came in absurd c.0
+came-front (Some bs) (Some rest) bytes room {input} {n} e few all came =
+    let c : Came (Bytes n) (Some bs) (Some rest) bytes = rw e at came in
+    let within : n ≤ length bytes = omega arith in
+    ap (take room) c.0 ∙ front-room n room (take n bytes) rest (length-take-le n bytes within) few (λ less. c.1 (omega arith))

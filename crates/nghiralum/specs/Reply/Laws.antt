@@ -1,7 +1,8 @@
--- Laws of what comes of the bytes: the translation on bytes comes to it, read back as words, and what is written had room. Assumes
--- nothing.
-use Rattle.std.specs.Prelude.{ℕ, ◌+◌, ◌%◌, ◌≤◌, not, List, ◌++◌, ◌≡◌, length, take}
-use Rattle.std.proofs.Common.{append-nil, sym, ◌∙◌, ap, ap₂, arith, drop_of_length-le, eq-eqb, ne_eqb}
+-- Laws of what comes of the bytes: the translation on bytes comes to it, read back as words, what is written had room, and the line that
+-- is printed is that of what the reader had. Assumes nothing.
+use Rattle.std.specs.Prelude.{ℕ, ◌+◌, ◌%◌, ◌≤◌, Bool, true, false, not, Option, None, Some, IfSome, List, ◌++◌, ◌≡◌, length, take}
+use Rattle.std.proofs.Common.{append-nil, sym, ◌∙◌, ap, ap₂, subst, arith, drop_of_length-le, eq-eqb, ne_eqb}
+use Rattle.std.specs.Io.KnownBytes.{Appends}
 use Rattle.std.proofs.Math.Decide.{ℕ_discrete}
 use Rattle.std.proofs.lemmas.List.{length-replicate}
 use lib.Seq.{sets-eq, take_all}
@@ -9,14 +10,15 @@ use Rattle.words.specs.Choice.Laws.{pick_true, pick-false}
 use Rattle.words.specs.Overlay.{Wrote}
 use Rattle.octets.specs.Octets.{words_in}
 use Rattle.octets.specs.Octets.Laws.{words-length, words-zeros}
-use Rattle.line.specs.Line.{Inside}
+use Rattle.book.specs.Layout.{loaded_bytes}
+use Rattle.line.specs.Line.{Inside, Printed}
 use Rattle.line.specs.Line.Laws.{inside-outcome}
 use Rattle.translation.specs.Outcome.{Outcome, outcome, came}
 use Rattle.translation.specs.declared.Answer.{Answer}
 use Rattle.translation.specs.declared.Answer.TheVariants.{Written, Refused}
 use Rattle.editor.specs.Bytes.{translation_bytes}
 use Rattle.editor.specs.Bytes.Laws.{translation-words, of-odd}
-use Rattle.nghiralum.specs.Reply.{odd_bytes, outcome_of_bytes, lent_words, lent_bytes}
+use Rattle.nghiralum.specs.Reply.{odd_bytes, outcome_of_bytes, lent_words, lent_bytes, reply_line, Replied}
 
 of_words : (bs lent : List ℕ) → length bs % 4 ≡ 0 → outcome_of_bytes bs lent ≡ outcome (words_in bs) lent
 unfolding outcome_of_bytes
@@ -88,3 +90,12 @@ reply-came bs given out new a r f z w =
     let k = length-replicate {A = ℕ} 16384 0 in
     let loaded = laid-over (words_in out) lent_words new r (omega arith) w in
     ap₂ (λ s (ws : List ℕ). record { says = s; lent = ws }) (ap (λ (o : Outcome). o.says) e ∙ l.says) (loaded ∙ ap words_in lent ∙ l.words)
+
+-- ---- what was read is the front of what the reader had, and its line was printed
+pub replied : (all : Bool) (left old new : Option (List ℕ)) (came : List ℕ) {line : List ℕ} → IfSome left (λ bs. take loaded_bytes bs ≡ came)
+    → line ≡ reply_line came → Printed all old new line → Replied all left old new
+replied true None old new came front e p = tt
+replied true (Some bs) old new came front e p = subst (Appends old new) (e ∙ ap reply_line (sym front)) p
+replied false None old new came front e p = tt
+replied false (Some bs) old new came front e p =
+    (p.0, subst (λ l. Appends old new (take p.0 l)) (e ∙ ap reply_line (sym front)) p.2)

@@ -1,0 +1,17 @@
+-- `line::reading_line` meets its contract: by the reading (`line-accepted`, `reading-refused`). Assumes nothing.
+use mathlib.Core.Path.{refl, ◌∙◌, sym, ap}
+use Rattle.book.specs.Said.{reading_says}
+use Rattle.line.specs.Line.{reading_line}
+use Rattle.line.specs.Line.Laws.{line-accepted, reading-refused}
+use Rattle.line.proofs.reading_line.Goals as goal
+
+-- the word is the line's front
+pub returns-in-Accepted-clause-line_after : goal.returns-in-Accepted-clause-line_after
+returns-in-Accepted-clause-line_after c =
+    line-accepted c.put_text.ensures refl ∙ ap (λ r. reading_line (reading_says r)) (sym c.in-Accepted.is)
+
+-- the line of the refusal
+pub returns-in-Refused-clause-line_after : goal.returns-in-Refused-clause-line_after
+returns-in-Refused-clause-line_after c =
+    c.refusal_line.ensures.line_after ∙ reading-refused c.in-Refused.refusal
+    ∙ ap (λ r. reading_line (reading_says r)) (sym c.in-Refused.is)

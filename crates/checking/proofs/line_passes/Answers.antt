@@ -1,24 +1,21 @@
 -- `checking::line_passes` meets its contract: a line whose things are there and whose premises fit follows by its rule or not, and any
 -- other is no instance. Assumes nothing.
 use Rattle.std.proofs.Common.{not}
-use Prim.Native.Nat.{◌^◌, ◌<◌}
-use borrow.Author.Rules.{rules}
 use borrow.Author.Tests.{not-true, not-false}
 use mathlib.Core.Path.{sym, ◌∙◌, ap}
-use native.Mathlib.Omega.{arith}
 use Rattle.checking.specs.Lines.{line_of}
 use Rattle.checking.specs.Lines.Laws.{ruled-range, line-not-there, line-unfit, there-at, Named, line-ready, line-by}
 use Rattle.checking.proofs.line_passes.Goals as goal
 
 pub returns-then-not-is_there : goal.returns-then-not-is_there
-returns-then-not-is_there c =                     line-not-there _ _ _ _ _ _ c.rule_at-n.ensures c.line_at-own.ensures c.kind_at.ensures
+returns-then-not-is_there c = line-not-there _ _ _ _ _ _ c.rule_at-n.ensures c.line_at-own.ensures c.kind_at.ensures
     c.is_there.ensures (not-true _ (ap not c.if-not-is_there.true))
 
 pub returns-then-not-all_fit : goal.returns-then-not-all_fit
-returns-then-not-all_fit c =             line-unfit _ _ _ _ c.rule_at-n.ensures c.all_fit.ensures (not-true _ (ap not c.if-not-all_fit.true))
+returns-then-not-all_fit c = line-unfit _ _ _ _ c.rule_at-n.ensures c.all_fit.ensures (not-true _ (ap not c.if-not-all_fit.true))
 
 pub by_number-requires : goal.by_number-requires
-by_number-requires c =                                                             let there = there-at _ _ _ _ _ c.kind_at.ensures c.is_there.ensures (not-false _ (ap not c.if-not-is_there.false)) in
+by_number-requires c = let there = there-at _ _ _ _ _ c.kind_at.ensures c.is_there.ensures (not-false _ (ap not c.if-not-is_there.false)) in
     let fit = sym c.all_fit.ensures ∙ not-false _ (ap not c.if-not-all_fit.false) in
     let named : Named _ _ _ _ _ _ _ = record {
       rule = c.rule_at-n.ensures;
@@ -31,7 +28,7 @@ by_number-requires c =                                                          
     (range.0, range.1, line-ready _ _ c.requires.1 _ _ _ _ _ named there fit)
 
 pub returns : goal.returns
-returns c =                                                             let there = there-at _ _ _ _ _ c.kind_at.ensures c.is_there.ensures (not-false _ (ap not c.if-not-is_there.false)) in
+returns c = let there = there-at _ _ _ _ _ c.kind_at.ensures c.is_there.ensures (not-false _ (ap not c.if-not-is_there.false)) in
     let fit = sym c.all_fit.ensures ∙ not-false _ (ap not c.if-not-all_fit.false) in
     let named : Named _ _ _ _ _ _ _ = record {
       rule = c.rule_at-n.ensures;

@@ -9,7 +9,7 @@ use borrow.Author.Tests.{le-ltb, lt-ltb, le-leb, lt-leb}
 use Rattle.words.specs.First.{any}
 use Rattle.words.specs.Sum.Laws.{sum-none, sum_more}
 use Rattle.book.specs.Layout.{rows, pool, kind, name, party_first, party_count, mark, pooled, rows_before, parties_before}
-use Rattle.book.specs.Rules.{differs, list_breaks, name_breaks, party_breaks}
+use Rattle.book.specs.Rules.{list_breaks, name_breaks, party_breaks}
 use Rattle.book.specs.Rules.Laws.{differs-same, differs_true, list-exact, party-exact}
 use Rattle.rows.specs.Scanned.{Summed}
 use Rattle.rows.specs.Scanned.Laws.{summed-begins, summed-goes}

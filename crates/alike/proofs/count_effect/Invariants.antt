@@ -1,9 +1,7 @@
 -- `alike::count_effect` meets its contract: it stands n times among the first j. Assumes nothing.
 use Prim.Native.Nat.{◌-◌}
-use borrow.Author.Rules.{rules}
-use native.Mathlib.Omega.{arith}
 use Rattle.alike.specs.Same.{effect_in}
-use Rattle.alike.specs.Same.Bags.{Tally, tally-begin, tally-inside, tally-end, tally-again, tally-done}
+use Rattle.alike.specs.Same.Bags.{Tally}
 use Rattle.alike.proofs.count_effect.Given as goal
 
 abbrev pub invariant-loop-j : goal.invariant-loop-j

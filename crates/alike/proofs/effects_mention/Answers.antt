@@ -1,8 +1,6 @@
 -- `alike::effects_mention` meets its contract: none of the first j effects has the name. Assumes nothing.
-use Prim.Native.Nat.{◌-◌}
-use borrow.Author.Rules.{rules}
 use native.Mathlib.Omega.{arith}
-use Rattle.alike.specs.Same.Mentions.{Walk, walk-begin, walk_inside, walk-term, walk-found, walk-again, walk-done}
+use Rattle.alike.specs.Same.Mentions.{walk-begin, walk_inside, walk-term, walk-found, walk-again, walk-done}
 use Rattle.alike.proofs.effects_mention.Goals as goal
 
 pub loop-j-init : goal.loop-j-init

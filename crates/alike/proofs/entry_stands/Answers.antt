@@ -1,11 +1,6 @@
 -- `alike::entry_stands` meets its contract: no entry before the place i is it. Assumes nothing.
-use Prim.Native.Nat.{◌-◌}
-use lib.ListN.{length}
-use borrow.Author.Rules.{rules}
 use native.Mathlib.Omega.{arith}
-use Rattle.typing.specs.Types.{◌⦂◌}
-use Rattle.alike.specs.Same.{type_in}
-use Rattle.alike.specs.Same.Stands.{Walk, walk-begin, walk-last, walk-name, walk-type, walk-found, walk-again, walk-past}
+use Rattle.alike.specs.Same.Stands.{walk-begin, walk-last, walk-name, walk-type, walk-found, walk-again, walk-past}
 use Rattle.alike.proofs.entry_stands.Goals as goal
 
 pub loop-i-init : goal.loop-i-init

@@ -1,6 +1,4 @@
 -- `alike::is_entry` meets its contract: an entry is its name and its type. Assumes nothing.
-use borrow.Author.Rules.{rules}
-use native.Mathlib.Omega.{arith}
 use Rattle.alike.specs.Same.Stands.{entry-name, entry-type}
 use Rattle.alike.proofs.is_entry.Goals as goal
 

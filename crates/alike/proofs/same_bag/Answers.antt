@@ -1,9 +1,7 @@
 -- `alike::same_bag` meets its contract: each effect of the second list is counted, or still to come. Assumes
 -- nothing.
-use Prim.Native.Nat.{◌-◌}
-use borrow.Author.Rules.{rules}
 use native.Mathlib.Omega.{arith}
-use Rattle.alike.specs.Same.Bags.{Weighing, weighing-begin, weighing-inside, weighing-end, weighing-again, weighing-done, bags-differ, bags-lengths}
+use Rattle.alike.specs.Same.Bags.{weighing-begin, weighing-inside, weighing-end, weighing-again, weighing-done, bags-differ, bags-lengths}
 use Rattle.alike.proofs.same_bag.Goals as goal
 
 pub returns-then-k-l : goal.returns-then-k-l

@@ -1,10 +1,8 @@
 -- `alike::same_environment` meets its contract: the older entries are the same exactly if the environments are.
 -- Assumes nothing.
-use Prim.Native.Nat.{◌-◌}
-use lib.ListN.{length}
 use borrow.Author.Rules.{rules}
 use native.Mathlib.Omega.{arith}
-use Rattle.alike.specs.Same.Environments.{Pairing, pairing-begin, pairing-right, pairing-words, pairing-last, pairing-left-name, pairing-right-name}
+use Rattle.alike.specs.Same.Environments.{pairing-begin, pairing-right, pairing-words, pairing-last, pairing-left-name, pairing-right-name}
 use Rattle.alike.specs.Same.Environments.{pairing-left-type, pairing-right-type, pairing-names, pairing-types, pairing-again, pairing-past}
 use Rattle.alike.proofs.same_environment.Goals as goal
 

@@ -2,10 +2,7 @@
 -- Assumes nothing.
 use Prim.Native.Nat.{◌-◌}
 use lib.ListN.{length}
-use borrow.Author.Rules.{rules}
-use native.Mathlib.Omega.{arith}
-use Rattle.alike.specs.Same.Environments.{Pairing, pairing-begin, pairing-right, pairing-words, pairing-last, pairing-left-name, pairing-right-name}
-use Rattle.alike.specs.Same.Environments.{pairing-left-type, pairing-right-type, pairing-names, pairing-types, pairing-again, pairing-past}
+use Rattle.alike.specs.Same.Environments.{Pairing}
 use Rattle.alike.proofs.same_environment.Given as goal
 
 abbrev pub invariant-loop-i : goal.invariant-loop-i

@@ -1,8 +1,5 @@
 -- `alike::same_run` meets its contract: the first k words are the same. Assumes nothing.
-use Prim.Native.Nat.{◌-◌}
-use borrow.Author.Rules.{rules}
-use native.Mathlib.Omega.{arith}
-use Rattle.alike.specs.Same.Laws.{Runs, runs-begin, runs-differ, runs-again, runs_done}
+use Rattle.alike.specs.Same.Laws.{runs-begin, runs-differ, runs-again, runs_done}
 use Rattle.alike.proofs.same_run.Goals as goal
 
 pub loop-k-init : goal.loop-k-init

@@ -1,10 +1,8 @@
 -- `alike::same_type` meets its contract: what is still to come is the same exactly if the types are. Assumes
 -- nothing.
-use Prim.Native.Nat.{◌-◌}
-use lib.ListN.{length}
 use borrow.Author.Rules.{rules}
 use native.Mathlib.Omega.{arith}
-use Rattle.alike.specs.Same.Types.{Pairing, pairing-begin, pairing-left, pairing-right, pairing-own, pairing-other, pairing-few, pairing-words}
+use Rattle.alike.specs.Same.Types.{pairing-begin, pairing-left, pairing-right, pairing-own, pairing-other, pairing-few, pairing-words}
 use Rattle.alike.specs.Same.Types.{pairing-effects, pairing-again, pairing-done}
 use Rattle.alike.proofs.same_type.Goals as goal
 

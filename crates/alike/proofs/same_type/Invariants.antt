@@ -2,10 +2,7 @@
 -- nothing.
 use Prim.Native.Nat.{◌-◌}
 use lib.ListN.{length}
-use borrow.Author.Rules.{rules}
-use native.Mathlib.Omega.{arith}
-use Rattle.alike.specs.Same.Types.{Pairing, pairing-begin, pairing-left, pairing-right, pairing-own, pairing-other, pairing-few, pairing-words}
-use Rattle.alike.specs.Same.Types.{pairing-effects, pairing-again, pairing-done}
+use Rattle.alike.specs.Same.Types.{Pairing}
 use Rattle.alike.proofs.same_type.Given as goal
 
 abbrev pub invariant-loop-due : goal.invariant-loop-due

@@ -1,10 +1,8 @@
 -- `alike::term_closed` meets its contract: no variable stands before the place i. Assumes nothing.
 use Prim.Native.Nat.{◌-◌}
 use lib.ListN.{length}
-use borrow.Author.Rules.{rules}
-use native.Mathlib.Omega.{arith}
 use Rattle.alike.specs.Same.{is_bound}
-use Rattle.alike.specs.Same.Leaves.{Along, along-begin, closed-inside, closed-few, closed-word, closed-found, closed-again, closed-done}
+use Rattle.alike.specs.Same.Leaves.{Along}
 use Rattle.alike.proofs.term_closed.Given as goal
 
 abbrev pub invariant-loop-due : goal.invariant-loop-due

@@ -1,10 +1,7 @@
 -- `alike::term_mentions` meets its contract: no name before the place i is x. Assumes nothing.
-use Prim.Native.Nat.{◌-◌}
-use lib.ListN.{length}
 use borrow.Author.Rules.{rules}
 use native.Mathlib.Omega.{arith}
-use Rattle.alike.specs.Same.{is_name}
-use Rattle.alike.specs.Same.Leaves.{Along, along-begin, name-inside, name-leaf, name-few, name-word, name-found, name-again, name_done}
+use Rattle.alike.specs.Same.Leaves.{along-begin, name-inside, name-leaf, name-few, name-word, name-found, name-again, name_done}
 use Rattle.alike.proofs.term_mentions.Goals as goal
 
 pub loop-due-init : goal.loop-due-init

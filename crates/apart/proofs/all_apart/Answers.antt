@@ -1,9 +1,7 @@
 -- `apart::all_apart` meets its contract: all names that are bound before the place i are apart. Assumes nothing.
-use Prim.Native.Nat.{◌-◌}
-use lib.ListN.{length}
 use borrow.Author.Rules.{rules}
 use native.Mathlib.Omega.{arith}
-use Rattle.apart.specs.Bound.Asked.{Passing, passing-begin, passing-inside, passing-own, passing-few, passing-names, passing-fails, passing-again, passing-done}
+use Rattle.apart.specs.Bound.Asked.{passing-begin, passing-inside, passing-own, passing-few, passing-names, passing-fails, passing-again, passing-done}
 use Rattle.apart.proofs.all_apart.Goals as goal
 
 pub loop-due-init : goal.loop-due-init

@@ -1,9 +1,7 @@
 -- `apart::bound_twice` meets its contract: before the place i, x is bound n times. Assumes nothing.
 use Prim.Native.Nat.{◌-◌}
 use lib.ListN.{length}
-use borrow.Author.Rules.{rules}
-use native.Mathlib.Omega.{arith}
-use Rattle.apart.specs.Bound.Asked.{Counting, counting-begin, counting-inside, counting-own, counting-few, counting-names, counting-twice, counting-again, counting-done}
+use Rattle.apart.specs.Bound.Asked.{Counting}
 use Rattle.apart.proofs.bound_twice.Given as goal
 
 abbrev pub invariant-loop-due : goal.invariant-loop-due

@@ -1,9 +1,6 @@
 -- `apart::in_environment` meets its contract: no entry before the place i is for x. Assumes nothing.
-use Prim.Native.Nat.{◌-◌}
-use lib.ListN.{length}
-use borrow.Author.Rules.{rules}
 use native.Mathlib.Omega.{arith}
-use Rattle.apart.specs.Bound.Asked.{Entries, entries-begin, entries-end, entries-name, entries-type-at, entries-found, entries-again, entries-past}
+use Rattle.apart.specs.Bound.Asked.{entries-begin, entries-end, entries-name, entries-type-at, entries-found, entries-again, entries-past}
 use Rattle.apart.proofs.in_environment.Goals as goal
 
 pub loop-i-init : goal.loop-i-init

@@ -1,5 +1,4 @@
 -- `apart::keeps_apart` meets its contract: an environment, a process behind it, and nothing more. Assumes nothing.
-use borrow.Author.Rules.{rules}
 use Rattle.apart.specs.Bound.Asked.{asked-no-environment, asked-no-process, asked-more, placed, asked-apart}
 use Rattle.apart.proofs.keeps_apart.Goals as goal
 

@@ -1,5 +1,4 @@
 -- `apart::name_apart` meets its contract, by its two tests. Assumes nothing.
-use borrow.Author.Rules.{rules}
 use Rattle.apart.specs.Bound.Asked.{name_in, name-twice}
 use Rattle.apart.proofs.name_apart.Goals as goal
 

@@ -1,7 +1,5 @@
 -- `apart::names_apart` meets its contract: a process binds no name, one, or two. Assumes nothing.
 use Rattle.std.proofs.Common.{ap, not}
-use borrow.Author.Rules.{rules}
-use native.Mathlib.Omega.{arith}
 use Rattle.apart.specs.Bound.Asked.{names-apart-none, names-apart-first, names-apart-one, names-apart-two}
 use Rattle.apart.proofs.names_apart.Goals as goal
 

@@ -1,5 +1,4 @@
 -- `apart::same_names` meets its contract: a process binds no name, one, or two. Assumes nothing.
-use borrow.Author.Rules.{rules}
 use native.Mathlib.Omega.{arith}
 use Rattle.apart.specs.Bound.Asked.{same_none, same-one, same-two}
 use Rattle.apart.proofs.same_names.Goals as goal

@@ -1,6 +1,5 @@
 -- `balance::balanced` meets its contract: what stands in none of the three lists is level. Assumes nothing.
 use Rattle.std.proofs.Common.{ap, not}
-use borrow.Author.Rules.{rules}
 use Rattle.balance.specs.Sum.Laws.{balance-result, balance-given, balance-added}
 use Rattle.balance.proofs.balanced.Goals as goal
 

@@ -1,5 +1,4 @@
 -- `balance::count_in` meets its contract, by which list it is. Assumes nothing.
-use borrow.Author.Rules.{rules}
 use native.Mathlib.Omega.{arith}
 use Rattle.balance.specs.Sum.Laws.{one-there, many-there, in-other, in_one, in-many, few-count}
 use Rattle.balance.proofs.count_in.Goals as goal

@@ -1,10 +1,6 @@
 -- `balance::count_many` meets its contract: it stands n times among the first j. Assumes nothing.
-use Prim.Native.Nat.{◌-◌}
-use borrow.Author.Rules.{rules}
 use native.Mathlib.Omega.{arith}
-use Rattle.alike.specs.Same.{term_in}
-use Rattle.alike.specs.Same.Bags.{Tally, tally-begin, tally-inside, tally-end, tally-term, tally-again, tally-done}
-use Rattle.balance.specs.Sum.{effect_by}
+use Rattle.alike.specs.Same.Bags.{tally-begin, tally-inside, tally-end, tally-term, tally-again, tally-done}
 use Rattle.balance.proofs.count_many.Goals as goal
 
 pub loop-j-init : goal.loop-j-init

@@ -1,9 +1,7 @@
 -- `balance::count_many` meets its contract: it stands n times among the first j. Assumes nothing.
 use Prim.Native.Nat.{◌-◌}
-use borrow.Author.Rules.{rules}
-use native.Mathlib.Omega.{arith}
 use Rattle.alike.specs.Same.{term_in}
-use Rattle.alike.specs.Same.Bags.{Tally, tally-begin, tally-inside, tally-end, tally-term, tally-again, tally-done}
+use Rattle.alike.specs.Same.Bags.{Tally}
 use Rattle.balance.specs.Sum.{effect_by}
 use Rattle.balance.proofs.count_many.Given as goal
 

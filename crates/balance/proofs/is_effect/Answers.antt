@@ -1,6 +1,4 @@
 -- `balance::is_effect` meets its contract: the words are equal, and the terms. Assumes nothing.
-use borrow.Author.Rules.{rules}
-use native.Mathlib.Omega.{arith}
 use Rattle.balance.specs.Sum.Laws.{is-other, is_one}
 use Rattle.balance.proofs.is_effect.Goals as goal
 

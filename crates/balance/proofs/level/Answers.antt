@@ -1,6 +1,4 @@
 -- `balance::level` meets its contract: the four counts are compared. Assumes nothing.
-use borrow.Author.Rules.{rules}
-use native.Mathlib.Omega.{arith}
 use Rattle.balance.specs.Sum.Laws.{level-none, level-some}
 use Rattle.balance.proofs.level.Goals as goal
 

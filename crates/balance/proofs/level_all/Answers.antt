@@ -1,5 +1,4 @@
 -- `balance::level_all` meets its contract, by which list it is. Assumes nothing.
-use borrow.Author.Rules.{rules}
 use Rattle.balance.specs.Sum.Laws.{one-there, many-there, every_one, every-many}
 use Rattle.balance.proofs.level_all.Goals as goal
 

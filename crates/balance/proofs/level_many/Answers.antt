@@ -1,11 +1,10 @@
 -- `balance::level_many` meets its contract: every one of the first j effects is level. Assumes nothing.
 use Rattle.std.proofs.Common.{ap, not}
-use Prim.Native.Nat.{◌-◌, ◌<◌}
+use Prim.Native.Nat.{◌<◌}
 use lib.ListN.{length}
 use borrow.Author.Rules.{rules}
 use native.Mathlib.Omega.{arith}
-use Rattle.balance.specs.Sum.{level_at}
-use Rattle.balance.specs.Sum.Laws.{Walk, walk-begin, walk_inside, walk-effect, walk-term, walk-fails, walk-again, walk-done, effect-word}
+use Rattle.balance.specs.Sum.Laws.{walk-begin, walk_inside, walk-effect, walk-term, walk-fails, walk-again, walk-done, effect-word}
 use Rattle.balance.proofs.level_many.Goals as goal
 use Rattle.balance.proofs.level_many.Goals.{In-loop-j}
 

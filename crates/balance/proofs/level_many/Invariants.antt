@@ -1,10 +1,7 @@
 -- `balance::level_many` meets its contract: every one of the first j effects is level. Assumes nothing.
-use Prim.Native.Nat.{◌-◌, ◌<◌}
-use lib.ListN.{length}
-use borrow.Author.Rules.{rules}
-use native.Mathlib.Omega.{arith}
+use Prim.Native.Nat.{◌-◌}
 use Rattle.balance.specs.Sum.{level_at}
-use Rattle.balance.specs.Sum.Laws.{Walk, walk-begin, walk_inside, walk-effect, walk-term, walk-fails, walk-again, walk-done, effect-word}
+use Rattle.balance.specs.Sum.Laws.{Walk}
 use Rattle.balance.proofs.level_many.Given as goal
 
 abbrev pub invariant-loop-j : goal.invariant-loop-j

@@ -2,19 +2,19 @@
 use Prim.Native.Nat.{ℕ, zero, suc, ◌+◌, ◌-◌, ◌≤◌, ◌<◌}
 use Rattle.std.specs.Prelude.{Bool, not, ◌&&◌, ◌≡◌, refl, eqb, length, drop, get_or}
 use Rattle.std.proofs.Math.Bool.{true, false}
-use Rattle.std.proofs.Common.{true≢false, inl, inr, ◌∙◌, subst, add-one, length-drop, drop-cons}
+use Rattle.std.proofs.Common.{◌∙◌, subst, add-one, length-drop, drop-cons}
 use mathlib.Core.List.{List, [], ◌∷◌}
-use Rattle.std.proofs.Math.Option.{Option, none, some}
+use Rattle.std.proofs.Math.Option.{none, some}
 use Rattle.std.proofs.Math.Path.{sym, ap}
 use native.Mathlib.Omega.{arith}
 use Rattle.std.proofs.Math.Decide.{dec_lt, ℕ_discrete as dec_eq}
 use borrow.Author.Tests.{eq-eqb, ne_eqb, eqb-true, not-true, not-false}
-use Rattle.words.specs.Choice.{pick, choose, then}
-use Rattle.words.specs.Choice.Laws.{pick_true, pick-false, choose_yes, choose_no}
+use Rattle.words.specs.Choice.{pick, then}
+use Rattle.words.specs.Choice.Laws.{pick_true, pick-false}
 use Rattle.words.specs.First.Laws.{clash}
 use Rattle.typing.specs.Term.{Term, Effect, same_term, same_effect}
-use Rattle.typing.specs.Bag.{bag, insert, plus, remove, minus, count}
-use Rattle.typing.specs.Bag.Laws.{count_none, count-here, count-other, count-plus, count-minus, count-bag, Ordered, bag-ordered, plus-ordered, minus-ordered, ordered_same}
+use Rattle.typing.specs.Bag.{bag, plus, minus, count}
+use Rattle.typing.specs.Bag.Laws.{count_none, count-here, count-other, count-plus, count-minus, count-bag, bag-ordered, plus-ordered, minus-ordered, ordered_same}
 use Rattle.typing.specs.Types.{same_effects}
 use Rattle.typing.specs.Check.Laws.{both, and_both}
 use Rattle.typing.specs.Reading.{Read, after, term, effect_of, effects}
@@ -22,8 +22,8 @@ use Rattle.typing.specs.Reading.Laws.{shorter-after, term-shorter}
 use Rattle.spans.specs.Behind.{rest_of, At, Ends}
 use Rattle.spans.specs.Behind.Laws.{rest-ahead}
 use Rattle.alike.specs.Same.{value_or, term_in, effect_in, effects_in, test}
-use Rattle.alike.specs.Same.Laws.{read-value, test-yes, test-no, test-true}
-use Rattle.alike.specs.Same.Effects.{Along, along-inside, along-end, along-term, along-again, along-list, list-none, list_length}
+use Rattle.alike.specs.Same.Laws.{test-yes, test-no, test-true}
+use Rattle.alike.specs.Same.Effects.{Along, along-inside, along-end, along-term, along-again, along-list, list-none}
 use Rattle.balance.specs.Sum.{effect_by, list_of, There, level_at, every}
 use Rattle.balance.specs.declared.Effects.{Effects}
 use Rattle.balance.specs.declared.Effects.TheVariants.{One, Many}

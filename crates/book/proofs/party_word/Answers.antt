@@ -1,7 +1,6 @@
 -- `book::party_word` meets its contract: the parties begin where the header says, and their records lie one after
 -- another. Assumes nothing.
 use Rattle.book.specs.Headed.Laws.{field_at}
-use borrow.Author.Rules.{rules}
 use Rattle.book.proofs.party_word.Goals as goal
 
 pub returns : goal.returns

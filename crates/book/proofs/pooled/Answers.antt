@@ -1,7 +1,6 @@
 -- `book::pooled` meets its contract: the pool begins where the header says, and a list where its record says.
 -- Assumes nothing.
 use Rattle.book.specs.Headed.Laws.{pooled-at}
-use borrow.Author.Rules.{rules}
 use Rattle.book.proofs.pooled.Goals as goal
 
 pub returns : goal.returns

@@ -1,5 +1,4 @@
 -- `book::row_kind` meets its contract: the kind is word 0 of the row's record. Assumes nothing.
-use borrow.Author.Rules.{rules}
 use Rattle.book.proofs.row_kind.Goals as goal
 
 pub returns : goal.returns

@@ -1,7 +1,6 @@
 -- `book::row_word` meets its contract: the rows begin behind the header, and their records lie one after another.
 -- Assumes nothing.
 use Rattle.book.specs.Headed.Laws.{row_at}
-use borrow.Author.Rules.{rules}
 use Rattle.book.proofs.row_word.Goals as goal
 
 pub returns : goal.returns

@@ -1,7 +1,6 @@
 -- `book::step_word` meets its contract: the steps begin where the header says, and their records lie one after another.
 -- Assumes nothing.
 use Rattle.book.specs.Headed.Laws.{field_at}
-use borrow.Author.Rules.{rules}
 use Rattle.book.proofs.step_word.Goals as goal
 
 pub returns : goal.returns

@@ -1,5 +1,5 @@
 -- Laws of where a walk stops. Assumes nothing.
-use Rattle.std.specs.Prelude.{ℕ, [], ◌∷◌, ◌≡◌}
+use Rattle.std.specs.Prelude.{[], ◌∷◌, ◌≡◌}
 use Rattle.std.proofs.Math.Decide.{ℕ_discrete}
 use Rattle.std.proofs.Common.{sym, ap, ◌∙◌, eq-eqb, ne_eqb}
 use Rattle.words.specs.Choice.Laws.{pick_true, pick-false}

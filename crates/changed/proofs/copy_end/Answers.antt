@@ -1,6 +1,4 @@
 -- `changed::copy_end` meets its contract: the words are compared with the term's. Assumes nothing.
-use borrow.Author.Rules.{rules}
-use native.Mathlib.Omega.{arith}
 use Rattle.changed.specs.Put.Laws.{copy-cut, copy-other, copy-here}
 use Rattle.changed.proofs.copy_end.Goals as goal
 

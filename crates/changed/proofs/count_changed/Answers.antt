@@ -1,10 +1,6 @@
 -- `changed::count_changed` meets its contract: it stands n times among the first j, changed. Assumes nothing.
-use Prim.Native.Nat.{◌-◌}
-use borrow.Author.Rules.{rules}
 use native.Mathlib.Omega.{arith}
-use Rattle.alike.specs.Same.{effect_in}
-use Rattle.changed.specs.Put.{change_by}
-use Rattle.changed.specs.Put.Effects.{Tally, tally-begin, tally-inside, tally-end, tally-term, tally-again, tally-done}
+use Rattle.changed.specs.Put.Effects.{tally-begin, tally-inside, tally-end, tally-term, tally-again, tally-done}
 use Rattle.changed.proofs.count_changed.Goals as goal
 
 pub loop-j-init : goal.loop-j-init

@@ -1,6 +1,4 @@
 -- `changed::is_changed` meets its contract: the words are equal, and the terms. Assumes nothing.
-use borrow.Author.Rules.{rules}
-use native.Mathlib.Omega.{arith}
 use Rattle.changed.specs.Put.Effects.{is-other, is_one}
 use Rattle.changed.proofs.is_changed.Goals as goal
 

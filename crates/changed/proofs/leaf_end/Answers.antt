@@ -1,6 +1,4 @@
 -- `changed::leaf_end` meets its contract: by the change and the leaf. Assumes nothing.
-use borrow.Author.Rules.{rules}
-use native.Mathlib.Omega.{arith}
 use Rattle.changed.specs.Put.Laws.{bind-bound, bind-here, bind-name, put-name, put-here, put-bound, put-there}
 use Rattle.changed.proofs.leaf_end.Goals as goal
 

@@ -1,6 +1,4 @@
 -- `changed::pair_end` meets its contract: both words stand there, or not. Assumes nothing.
-use borrow.Author.Rules.{rules}
-use native.Mathlib.Omega.{arith}
 use Rattle.changed.specs.Put.Laws.{pair-cut, pair-word, pair-number, pair-here}
 use Rattle.changed.proofs.pair_end.Goals as goal
 

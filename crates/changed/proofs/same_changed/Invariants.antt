@@ -1,12 +1,9 @@
 -- `changed::same_changed` meets its contract: what is still to come is the same, changed, exactly if the types are.
 -- Assumes nothing.
-use Prim.Native.Nat.{◌+◌, ◌-◌, ◌≤◌, ◌<◌}
+use Prim.Native.Nat.{◌-◌}
 use lib.ListN.{length}
-use borrow.Author.Rules.{rules}
-use native.Mathlib.Omega.{arith}
 use Rattle.changed.specs.Put.{change_by}
-use Rattle.changed.specs.Put.Types.{Pairing, pairing-begin, pairing-left, pairing-right, pairing-own, pairing-other, pairing-few}
-use Rattle.changed.specs.Put.Types.{pairing-words, pairing-effects, pairing-again, pairing-done}
+use Rattle.changed.specs.Put.Types.{Pairing}
 use Rattle.changed.proofs.same_changed.Given as goal
 
 abbrev pub invariant-loop-due : goal.invariant-loop-due

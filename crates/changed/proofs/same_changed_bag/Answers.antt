@@ -1,12 +1,10 @@
 -- `changed::same_changed_bag` meets its contract: each effect of the first list is counted, or still to come. Assumes
 -- nothing.
-use Prim.Native.Nat.{◌-◌, ◌<◌}
+use Prim.Native.Nat.{◌<◌}
 use lib.ListN.{length}
-use borrow.Author.Rules.{rules}
 use native.Mathlib.Omega.{arith}
-use Rattle.alike.specs.Same.{effects_in}
-use Rattle.changed.specs.Put.{change_by, changed_effects}
-use Rattle.changed.specs.Put.Effects.{Weighing, weighing-begin, weighing-inside, weighing-end, weighing-term, weighing-again, weighing-done}
+use Rattle.changed.specs.Put.{change_by}
+use Rattle.changed.specs.Put.Effects.{weighing-begin, weighing-inside, weighing-end, weighing-term, weighing-again, weighing-done}
 use Rattle.changed.specs.Put.Effects.{bags-lengths, bags-differ}
 use Rattle.changed.proofs.same_changed_bag.Goals as goal
 use Rattle.changed.proofs.same_changed_bag.Goals.{In-loop-j}

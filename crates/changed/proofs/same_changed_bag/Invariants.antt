@@ -1,13 +1,9 @@
 -- `changed::same_changed_bag` meets its contract: each effect of the first list is counted, or still to come. Assumes
 -- nothing.
-use Prim.Native.Nat.{◌-◌, ◌<◌}
-use lib.ListN.{length}
-use borrow.Author.Rules.{rules}
-use native.Mathlib.Omega.{arith}
+use Prim.Native.Nat.{◌-◌}
 use Rattle.alike.specs.Same.{effects_in}
 use Rattle.changed.specs.Put.{change_by, changed_effects}
-use Rattle.changed.specs.Put.Effects.{Weighing, weighing-begin, weighing-inside, weighing-end, weighing-term, weighing-again, weighing-done}
-use Rattle.changed.specs.Put.Effects.{bags-lengths, bags-differ}
+use Rattle.changed.specs.Put.Effects.{Weighing}
 use Rattle.changed.proofs.same_changed_bag.Given as goal
 
 abbrev pub invariant-loop-j : goal.invariant-loop-j

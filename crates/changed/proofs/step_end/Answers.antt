@@ -1,7 +1,5 @@
 -- `changed::step_end` meets its contract: a word of two parts stays, and a leaf becomes what the change makes of it.
 -- Assumes nothing.
-use borrow.Author.Rules.{rules}
-use native.Mathlib.Omega.{arith}
 use Rattle.changed.specs.Put.Laws.{step-two, step-leaf, leaf-inside}
 use Rattle.changed.proofs.step_end.Goals as goal
 

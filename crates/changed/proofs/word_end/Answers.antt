@@ -1,6 +1,4 @@
 -- `changed::word_end` meets its contract: the word stands there, or not. Assumes nothing.
-use borrow.Author.Rules.{rules}
-use native.Mathlib.Omega.{arith}
 use Rattle.changed.specs.Put.Laws.{word-past, word-other, word-here}
 use Rattle.changed.proofs.word_end.Goals as goal
 

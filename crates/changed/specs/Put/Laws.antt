@@ -2,7 +2,7 @@
 use Prim.Native.Nat.{ℕ, zero, suc, ◌+◌, ◌*◌, ◌-◌, ◌≤◌, ◌<◌}
 use Rattle.std.specs.Prelude.{Bool, true, false, not, eqb, take}
 use Rattle.std.proofs.Common.{true≢false, inl, inr, ◌∙◌, subst, add-one, length-drop, length-append, drop_of_length-le, take-append-drop, drop-cons, drop-drop, take_at, eq-eqb, ne_eqb}
-use mathlib.Core.List.{List, [], ◌∷◌, ◌++◌, map, append_assoc}
+use mathlib.Core.List.{List, [], ◌∷◌, ◌++◌, append_assoc}
 use Rattle.std.proofs.Math.Option.{Option, none, some}
 use Rattle.std.proofs.Math.Path.{◌≡◌, refl, sym, ap}
 use native.Mathlib.Omega.{arith}
@@ -20,7 +20,7 @@ use Rattle.typing.specs.Reading.{Read, ahead, joined, after, terms, only, term}
 use Rattle.spans.specs.Behind.{rest_of, At, term_turn}
 use Rattle.spans.specs.Behind.Laws.{Counted, terms-counted, rest-term, terms-nothing, terms-two, terms-one, terms-cut, terms-empty, turn_small, due-more, due-less, few-more, few-less}
 use Rattle.alike.specs.Same.{value_or, term_in, test, all_term_words}
-use Rattle.alike.specs.Same.Laws.{read-value, test-yes, test-no, test-true, term-spelled, run-term}
+use Rattle.alike.specs.Same.Laws.{read-value, test-yes, test-no, term-spelled, run-term}
 use Rattle.changed.specs.Put.{change_by, There, Missing, Found, Stood, leaf_term, step_words, changed_words}
 use Rattle.changed.specs.declared.By.{By}
 use Rattle.changed.specs.declared.By.TheVariants.{Bind, Put}

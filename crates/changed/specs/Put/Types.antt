@@ -2,16 +2,15 @@
 use Prim.Native.Nat.{ℕ, zero, suc, ◌+◌, ◌-◌, ◌≤◌, ◌<◌}
 use Rattle.std.specs.Prelude.{Bool, true, false, not, ◌≡◌, length, drop, get_or}
 use mathlib.Core.List.{List, [], ◌∷◌, map}
-use Rattle.std.proofs.Math.Option.{none, some}
 use Rattle.std.proofs.Math.Path.{refl}
 use Rattle.std.proofs.Common.{sym, ◌∙◌, ap, subst, arith}
 use Rattle.std.proofs.Math.Decide.{ℕ_discrete as dec_eq}
 use Rattle.std.proofs.lemmas.Bool.{not-true, not-false}
 use Rattle.words.specs.First.Laws.{clash}
-use Rattle.typing.specs.Term.{Effect, Change, change_effect}
+use Rattle.typing.specs.Term.{Effect, Change}
 use Rattle.typing.specs.Bag.{bag, plus}
 use Rattle.typing.specs.Types.{Ty, same_type, same_effects, change_type}
-use Rattle.typing.specs.Reading.{joined, altered, effects, type_at}
+use Rattle.typing.specs.Reading.{joined, altered, type_at}
 use Rattle.spans.specs.Behind.{rest_of, At, Ends, type_own, type_parts}
 use Rattle.alike.specs.Same.{effects_in, type_in, test, own_effects, form}
 use Rattle.alike.specs.Same.Laws.{test-yes, test-no, test-true}

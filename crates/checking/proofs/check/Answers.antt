@@ -1,6 +1,5 @@
 -- `checking::check` meets its contract: refusal 24, the smallest line that doesn't pass, and the last line against what is asked.
 -- Assumes nothing.
-use borrow.Author.Rules.{rules}
 use mathlib.Core.Path.{sym, ◌∙◌, ap}
 use native.Mathlib.Omega.{arith}
 use Rattle.typing.specs.Derivation.{Verdict}

@@ -1,8 +1,6 @@
 -- `checking::first_bad` meets its contract: the lines before i pass. Assumes nothing.
 use Prim.Native.Nat.{◌-◌}
-use borrow.Author.Tests.{not-true, not-false}
-use native.Mathlib.Omega.{arith}
-use Rattle.checking.specs.Finding.Laws.{Scanned, scanned-none, scanned-next, scanned-bad, scanned-all}
+use Rattle.checking.specs.Finding.Laws.{Scanned}
 use Rattle.checking.proofs.first_bad.Given as goal
 
 abbrev pub invariant-loop-i : goal.invariant-loop-i

@@ -1,5 +1,4 @@
 -- `checking::fits` meets its contract: no such premise, or an earlier line, by its rule's kind. Assumes nothing.
-use borrow.Author.Rules.{rules}
 use mathlib.Core.Path.{sym, ◌∙◌}
 use native.Mathlib.Omega.{arith}
 use Rattle.checking.specs.Lines.Laws.{fits-none, fits-late, fits_by}

@@ -1,7 +1,6 @@
 -- `checking::gives` meets its contract: what is asked, where it is spelled, against the line's own environment, process and effects.
 -- Assumes nothing.
 use Rattle.std.proofs.Common.{ap, not}
-use borrow.Author.Rules.{rules}
 use mathlib.Core.Path.{sym, ◌∙◌}
 use borrow.Author.Tests.{not-true, not-false}
 use Rattle.spans.specs.Behind.Laws.{ends_at}

@@ -1,7 +1,5 @@
 -- `checking::line_word` meets its contract: one of a line's nine words. Assumes nothing.
-use borrow.Author.Rules.{rules}
 use mathlib.Core.Path.{◌∙◌}
-use native.Mathlib.Omega.{arith}
 use Rattle.checking.specs.Lines.Laws.{line_word_lem}
 use Rattle.checking.proofs.line_word.Goals as goal
 

@@ -1,6 +1,4 @@
 -- `checking::rule_at` meets its contract: the first of a line's nine words. Assumes nothing.
-use borrow.Author.Rules.{rules}
-use native.Mathlib.Omega.{arith}
 use Rattle.checking.specs.Lines.Laws.{rule-word}
 use Rattle.checking.proofs.rule_at.Goals as goal
 

@@ -1,9 +1,7 @@
 -- `checking::too_large` meets its contract: no line before i states too many effects. Assumes nothing.
-use Prim.Native.Nat.{◌-◌}
 use mathlib.Core.Path.{◌∙◌}
-use borrow.Author.Rules.{rules}
 use native.Mathlib.Omega.{arith}
-use Rattle.checking.specs.Large.Laws.{lines-word, count_word, large-lines, Scan, scan-begin, scan-found, scan-again, scan-done}
+use Rattle.checking.specs.Large.Laws.{lines-word, count_word, large-lines, scan-begin, scan-found, scan-again, scan-done}
 use Rattle.checking.proofs.too_large.Goals as goal
 
 pub returns-then-lines-gt-LINES : goal.returns-then-lines-gt-LINES

@@ -1,9 +1,6 @@
 -- `checking::too_large` meets its contract: no line before i states too many effects. Assumes nothing.
 use Prim.Native.Nat.{◌-◌}
-use mathlib.Core.Path.{◌∙◌}
-use borrow.Author.Rules.{rules}
-use native.Mathlib.Omega.{arith}
-use Rattle.checking.specs.Large.Laws.{lines-word, count_word, large-lines, Scan, scan-begin, scan-found, scan-again, scan-done}
+use Rattle.checking.specs.Large.Laws.{Scan}
 use Rattle.checking.proofs.too_large.Given as goal
 
 abbrev pub invariant-loop-i : goal.invariant-loop-i

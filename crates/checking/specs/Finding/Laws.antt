@@ -17,7 +17,7 @@ use Rattle.typing.specs.Bag.{bag}
 use Rattle.typing.specs.Types.{Environment, same_environment, same_effects}
 use Rattle.typing.specs.Process.{Process, same_process}
 use Rattle.typing.specs.Judgement.{Judgement, same_judgement}
-use Rattle.typing.specs.Reading.{Read, effects, environment_at, process_at}
+use Rattle.typing.specs.Reading.{Read, environment_at, process_at}
 use Rattle.typing.specs.Derivation.{Kind, lines, line_word, effect_count, given, passes, fails, crowded, whole, asked, agree, answers}
 use Rattle.typing.specs.Derivation.{Verdict, verdict, most_lines, most_effects, Within}
 use Rattle.spans.specs.Behind.{rest_of, At, Ends}

@@ -1,15 +1,11 @@
 -- `choosing::by_events` meets its contract, number by number of the rules. Assumes nothing.
-use Prim.Native.Nat.{ℕ}
-use mathlib.Core.Bool.{Bool}
-use mathlib.Core.List.{List, [], ◌∷◌}
-use mathlib.Core.Path.{◌≡◌}
+use mathlib.Core.List.{[], ◌∷◌}
 use native.Mathlib.Omega.{arith}
 use Rattle.typing.specs.Check.{printed}
 use Rattle.typing.specs.Derivation.{rules, nth, rule_of}
-use Rattle.ruling.specs.declared.Line.{Line}
 use Rattle.choosing.specs.Kinds.{kind_of, kinds_of, premise_kinds}
 use Rattle.choosing.specs.Choose.{says, says_all, follows_by}
-use Rattle.choosing.specs.Choose.Laws.{Asked, ready_at, follows-at}
+use Rattle.choosing.specs.Choose.Laws.{ready_at, follows-at}
 use Rattle.choosing.proofs.by_events.Goals as goal
 
 pub by_stop-requires : goal.by_stop-requires

@@ -1,5 +1,4 @@
 -- `choosing::effects_there` meets its contract: the first effect, and behind it the others. Assumes nothing.
-use borrow.Author.Rules.{rules}
 use Rattle.spans.specs.Behind.Laws.{ends_at}
 use Rattle.choosing.specs.Choose.Tests.{effects-none, effects-past, effects-zero, effects-more}
 use Rattle.choosing.specs.Choose.Tests.{effects-no-term, effects-others}

@@ -1,5 +1,4 @@
 -- `choosing::process_there` meets its contract: the process is there exactly if its end is found. Assumes nothing.
-use borrow.Author.Rules.{rules}
 use Rattle.choosing.specs.Choose.Tests.{neither, second}
 use Rattle.choosing.proofs.process_there.Goals as goal
 

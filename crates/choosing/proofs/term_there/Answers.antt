@@ -1,5 +1,4 @@
 -- `choosing::term_there` meets its contract: each thing is there exactly if its end is found. Assumes nothing.
-use borrow.Author.Rules.{rules}
 use Rattle.choosing.specs.Choose.Tests.{neither, second, reads_end}
 use Rattle.choosing.proofs.term_there.Goals as goal
 

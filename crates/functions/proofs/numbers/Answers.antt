@@ -1,7 +1,6 @@
 -- `functions::numbers` meets its contract: a question has three (`numbers-ask`), a judgement one (`numbers-judge`), what is
 -- neither has none. Assumes nothing.
 use native.Mathlib.Omega.{arith}
-use borrow.Author.Rules.{rules}
 use Rattle.functions.specs.Functions.Laws.{numbers-ask, numbers-judge, numbers-none}
 use Rattle.functions.proofs.numbers.Goals as goal
 

@@ -2,7 +2,6 @@
 -- or of bytes (`size-words`, `size-bytes`). Assumes nothing.
 use mathlib.Core.Path.{◌∙◌}
 use native.Mathlib.Omega.{arith}
-use borrow.Author.Rules.{rules}
 use Rattle.octets.specs.Octets.{word_at}
 use Rattle.functions.specs.Functions.Laws.{size-words, size-bytes}
 use Rattle.functions.proofs.slice_size.Goals as goal

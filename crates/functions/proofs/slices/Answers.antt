@@ -1,6 +1,5 @@
 -- `functions::slices` meets its contract: by the number (`slices-read` and its kin). Assumes nothing.
 use native.Mathlib.Omega.{arith}
-use borrow.Author.Rules.{rules}
 use Rattle.functions.specs.Functions.Laws.{slices-read, slices-ask, slices-rehearse, slices-rehearse-bytes}
 use Rattle.functions.specs.Functions.Laws.{slices-apart, slices-lent}
 use Rattle.functions.proofs.slices.Goals as goal

@@ -1,14 +1,9 @@
 -- `header::counts` meets its contract: no section that the loop has passed has a count outside its bounds.
 -- Assumes nothing.
 use Prim.Native.Nat.{◌-◌}
-use mathlib.Core.Path.{◌≡◌, refl}
-use native.Mathlib.Omega.{arith}
-use borrow.Author.Rules.{rules}
 use Rattle.book.specs.Layout.{sections}
 use Rattle.book.specs.Rules.{count_breaks}
-use Rattle.header.proofs.Header.{count_at}
 use Rattle.header.specs.Scans.{Scanning}
-use Rattle.header.specs.Scans.Laws.{scan_begins, scan-goes, stops_at, ends_at}
 use Rattle.header.proofs.counts.Given as goal
 
 abbrev pub invariant-loop-i : goal.invariant-loop-i

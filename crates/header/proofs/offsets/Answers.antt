@@ -1,10 +1,9 @@
 -- `header::offsets` meets its contract: the sections that the loop has passed begin where they have to, and the next has
 -- to begin at `next`; no sum wraps, as no book with such counts is longer than the longest. Assumes nothing.
-use Prim.Native.Nat.{◌+◌, ◌-◌, ◌*◌, ◌≤◌}
+use Prim.Native.Nat.{◌+◌, ◌*◌, ◌≤◌}
 use native.Mathlib.Omega.{arith}
-use borrow.Author.Rules.{rules}
-use Rattle.book.specs.Layout.{sections, longest, at}
-use Rattle.header.proofs.Header.{Placed, placed-none, begins-wrong, begins-right, next-most, length-wrong, length-right}
+use Rattle.book.specs.Layout.{longest, at}
+use Rattle.header.proofs.Header.{placed-none, begins-wrong, begins-right, next-most, length-wrong, length-right}
 use Rattle.header.proofs.offsets.Goals as goal
 use Rattle.header.proofs.offsets.Goals.{After-wide-in-loop-i}
 

@@ -1,10 +1,8 @@
 -- `header::offsets` meets its contract: the sections that the loop has passed begin where they have to, and the next has
 -- to begin at `next`; no sum wraps, as no book with such counts is longer than the longest. Assumes nothing.
-use Prim.Native.Nat.{◌+◌, ◌-◌, ◌*◌, ◌≤◌}
-use native.Mathlib.Omega.{arith}
-use borrow.Author.Rules.{rules}
-use Rattle.book.specs.Layout.{sections, longest, at}
-use Rattle.header.proofs.Header.{Placed, placed-none, begins-wrong, begins-right, next-most, length-wrong, length-right}
+use Prim.Native.Nat.{◌-◌}
+use Rattle.book.specs.Layout.{sections}
+use Rattle.header.proofs.Header.{Placed}
 use Rattle.header.proofs.offsets.Given as goal
 
 abbrev pub invariant-loop-i : goal.invariant-loop-i

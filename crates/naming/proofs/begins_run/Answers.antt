@@ -1,6 +1,4 @@
 -- `naming::begins_run` meets its contract: by the range, and inside it by the hunt. Assumes nothing.
-use mathlib.Core.Path.{◌≡◌}
-use borrow.Author.Rules.{rules}
 use native.Mathlib.Omega.{arith}
 use Rattle.naming.specs.Called.Laws.{run_none, run_past, run-above, run-below, run-hunted}
 use Rattle.naming.proofs.begins_run.Goals as goal

@@ -1,10 +1,5 @@
 -- `naming::fill` meets its contract: the first numbers are written, and each turn writes the next. Assumes nothing.
-use Prim.Native.Nat.{◌-◌, ◌≤◌}
-use borrow.Author.Rules.{rules}
 use native.Mathlib.Omega.{arith}
-use Rattle.words.specs.Overlay.{Wrote}
-use Rattle.words.specs.Overlay.Laws.{wrote-length}
-use Rattle.renaming.specs.Renaming.{numbers}
 use Rattle.naming.specs.Called.Laws.{filled_none, filled_more, filled-all}
 use Rattle.naming.proofs.fill.Goals as goal
 

@@ -1,13 +1,8 @@
 -- `naming::find` meets its contract: none of the placeholders before is the one. Assumes nothing.
 use Prim.Native.Nat.{◌-◌, ◌≤◌, ◌<◌, ℕ}
 use mathlib.Core.Bool.{false}
-use mathlib.Core.Path.{◌≡◌, sym, ◌∙◌}
-use borrow.Author.Rules.{rules}
-use native.Mathlib.Omega.{arith}
-use borrow.Author.Tests.{eq-eqb}
-use Rattle.words.specs.First.Laws.{first-at, first-end}
+use mathlib.Core.Path.{◌≡◌}
 use Rattle.naming.specs.Called.{is_placeholder}
-use Rattle.naming.specs.Called.Laws.{found-not}
 use Rattle.naming.proofs.find.Given as goal
 
 abbrev pub invariant-loop-k : goal.invariant-loop-k

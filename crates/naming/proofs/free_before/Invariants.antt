@@ -1,10 +1,7 @@
 -- `naming::free_before` meets its contract: the hunt got as far as their words that were read (`Hunted`). Assumes nothing.
 use Prim.Native.Nat.{◌-◌, ◌≤◌}
-use mathlib.Core.Path.{refl}
-use borrow.Author.Rules.{rules}
-use native.Mathlib.Omega.{arith}
 use Rattle.naming.specs.Mirror.{theirs}
-use Rattle.naming.specs.Mirror.Laws.{Hunted, hunted-start, hunted-on, hunted-end}
+use Rattle.naming.specs.Mirror.Laws.{Hunted}
 use Rattle.naming.proofs.free_before.Given as goal
 
 abbrev pub invariant-loop-i : goal.invariant-loop-i

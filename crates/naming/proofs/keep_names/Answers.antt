@@ -1,14 +1,12 @@
 -- `naming::keep_names` meets its contract: the names of the first triples are written, and each turn writes the next.
 -- Assumes nothing.
-use Prim.Native.Nat.{◌-◌, ◌≤◌}
+use Prim.Native.Nat.{◌-◌}
 use mathlib.Core.Path.{sym, ap, ◌∙◌}
 use mathlib.Core.List.{[], ◌∷◌}
 use lib.ListN.{get_or}
 use borrow.Author.Rules.{rules}
 use native.Mathlib.Omega.{arith}
-use Rattle.words.specs.Overlay.{Wrote}
-use Rattle.words.specs.Overlay.Laws.{wrote_as, wrote-length}
-use Rattle.naming.specs.Called.{recent_names}
+use Rattle.words.specs.Overlay.Laws.{wrote_as}
 use Rattle.naming.specs.Called.Laws.{kept-none, kept_more, kept-all}
 use Rattle.naming.proofs.keep_names.Goals as goal
 

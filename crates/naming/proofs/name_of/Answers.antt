@@ -1,6 +1,5 @@
 -- `naming::name_of` meets its contract: by the step's table, or beside the stored placeholder that it is. Assumes
 -- nothing.
-use borrow.Author.Rules.{rules}
 use Rattle.naming.specs.Called.Laws.{name-recent, name-stored}
 use Rattle.naming.proofs.name_of.Goals as goal
 

@@ -1,6 +1,5 @@
 -- `naming::recent` meets its contract: the subtraction stops at 0. Assumes nothing.
 use mathlib.Core.Path.{ap, ◌∙◌}
-use borrow.Author.Rules.{rules}
 use native.Mathlib.Omega.{arith}
 use lib.ListN.{get_or}
 use Rattle.naming.proofs.recent.Goals as goal

@@ -1,6 +1,5 @@
 -- `naming::size` meets its contract: the words, and those that the bytes make. Assumes nothing.
 use mathlib.Core.Path.{sym}
-use borrow.Author.Rules.{rules}
 use Rattle.naming.specs.Mirror.Laws.{theirs-length}
 use Rattle.naming.proofs.size.Goals as goal
 

@@ -1,5 +1,4 @@
 -- `naming::still` meets its contract: a run counts where the word is its length. Assumes nothing.
-use borrow.Author.Rules.{rules}
 use Rattle.naming.specs.Mirror.Laws.{still-run, still-lost, still-other}
 use Rattle.naming.proofs.still.Goals as goal
 

@@ -1,6 +1,5 @@
 -- `naming::their` meets its contract: a word, or one that the bytes behind the words make. Assumes nothing.
 use mathlib.Core.Path.{◌∙◌}
-use borrow.Author.Rules.{rules}
 use Rattle.naming.specs.Mirror.Laws.{theirs-words, theirs-bytes}
 use Rattle.naming.proofs.their.Goals as goal
 

@@ -1,6 +1,6 @@
 -- Laws of what they call our placeholders. Assumes nothing.
-use Rattle.std.specs.Prelude.{ℕ, zero, suc, ◌+◌, ◌-◌, ◌*◌, ◌≤◌, ◌<◌, Bool, true, false, List, [], ◌∷◌, ◌++◌, ◌⊎◌, ◌≡◌, refl, length, eqb, ltb}
-use Rattle.std.proofs.Common.{inl, inr, sym, ap₂, ◌∙◌, arith, add-one, length-append, get_or-append-add}
+use Rattle.std.specs.Prelude.{ℕ, zero, suc, ◌+◌, ◌-◌, ◌≤◌, ◌<◌, Bool, true, false, List, [], ◌∷◌, ◌++◌, ◌≡◌, refl, length, eqb, ltb}
+use Rattle.std.proofs.Common.{sym, ap₂, ◌∙◌, arith, add-one, length-append, get_or-append-add}
 use Rattle.std.proofs.Math.Path.{ap}
 use Rattle.std.proofs.Math.ListN.{get_or, get_or-append}
 use Rattle.std.proofs.lemmas.List.Edits.{sets}

@@ -1,16 +1,14 @@
 -- Laws of their words gone through as ours are. Assumes nothing.
 use Rattle.std.specs.Prelude.{ℕ, zero, suc, ◌+◌, ◌-◌, ◌/◌, ◌≤◌, ◌<◌, Bool, ◌≡◌, length, get_or, eqb}
 use Rattle.std.proofs.Math.Bool.{true, false}
-use mathlib.Core.List.{List, [], ◌∷◌, ◌++◌, append_assoc, append-nil}
+use mathlib.Core.List.{List, [], ◌++◌, append-nil}
 use Rattle.std.proofs.Math.Path.{refl, ap₂}
 use Rattle.std.proofs.Common.{sym, ap, ◌∙◌, arith, add-one, length-append, get_or-append-add, eqb-true, ne_eqb}
 use Rattle.std.proofs.Math.ListN.{get_or-append}
 use Rattle.words.specs.Choice.{pick}
-use Rattle.words.specs.Choice.Laws.{pick_true, pick-false}
 use Rattle.words.specs.First.Laws.{clash}
 use Rattle.octets.specs.Octets.{words_in}
 use Rattle.octets.specs.Octets.Laws.{words-length}
-use Rattle.renaming.specs.Slot.{Slot}
 use Rattle.renaming.specs.Renaming.{numbers, fresh, agrees, named}
 use Rattle.renaming.specs.Renaming.Fresh.{fresh-append}
 use Rattle.scanning.specs.declared.Mode.{Mode}

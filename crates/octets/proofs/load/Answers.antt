@@ -1,11 +1,7 @@
 -- `octets::load` meets its contract: word by word, the first i words that the bytes make are written. Assumes nothing.
-use Prim.Native.Nat.{◌-◌, ◌≤◌}
 use native.Mathlib.Omega.{arith}
-use lib.ListN.{take}
 use borrow.Author.Rules.{rules}
-use Rattle.words.specs.Overlay.{Wrote}
-use Rattle.words.specs.Overlay.Laws.{wrote_none, wrote-length}
-use Rattle.octets.specs.Octets.{words_in}
+use Rattle.words.specs.Overlay.Laws.{wrote_none}
 use Rattle.octets.specs.Octets.Laws.{load-more, load-all}
 use Rattle.octets.proofs.load.Goals as goal
 

@@ -1,12 +1,8 @@
 -- `octets::load` meets its contract: word by word, the first i words that the bytes make are written. Assumes nothing.
 use Prim.Native.Nat.{◌-◌, ◌≤◌}
-use native.Mathlib.Omega.{arith}
 use lib.ListN.{take}
-use borrow.Author.Rules.{rules}
 use Rattle.words.specs.Overlay.{Wrote}
-use Rattle.words.specs.Overlay.Laws.{wrote_none, wrote-length}
 use Rattle.octets.specs.Octets.{words_in}
-use Rattle.octets.specs.Octets.Laws.{load-more, load-all}
 use Rattle.octets.proofs.load.Given as goal
 
 abbrev pub invariant-loop-i : goal.invariant-loop-i

@@ -1,6 +1,4 @@
 -- `octets::put_word` meets its contract: byte by byte, each at the place behind the one before. Assumes nothing.
-use native.Mathlib.Omega.{arith}
-use borrow.Author.Rules.{rules}
 use Rattle.words.specs.Overlay.Laws.{wrote-cons}
 use Rattle.octets.specs.Octets.{bytes_of}
 use Rattle.octets.proofs.put_word.Goals as goal

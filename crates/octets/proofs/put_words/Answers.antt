@@ -1,12 +1,7 @@
 -- `octets::put_words` meets its contract: word by word, the bytes of the first i words are written. Assumes nothing.
-use Prim.Native.Nat.{◌-◌, ◌≤◌}
 use mathlib.Core.Path.{◌≡◌}
 use native.Mathlib.Omega.{arith}
-use lib.ListN.{take}
 use borrow.Author.Rules.{rules}
-use Rattle.words.specs.Overlay.{Wrote}
-use Rattle.words.specs.Overlay.Laws.{wrote-length}
-use Rattle.octets.specs.Octets.{bytes_of_all}
 use Rattle.octets.specs.Octets.Laws.{bytes-none, bytes-more}
 use Rattle.octets.proofs.put_words.Goals as goal
 

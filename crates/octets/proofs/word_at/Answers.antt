@@ -1,6 +1,5 @@
 -- `octets::word_at` meets its contract: what `word` makes of the four bytes is the word there. Assumes nothing.
 use mathlib.Core.Path.{◌≡◌, sym, ◌∙◌}
-use borrow.Author.Rules.{rules}
 use Rattle.octets.specs.Octets.{word_at}
 use Rattle.octets.specs.Octets.Laws.{words-at, words-past}
 use Rattle.octets.proofs.word_at.Goals as goal

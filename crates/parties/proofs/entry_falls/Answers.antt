@@ -1,11 +1,6 @@
 -- `parties::entry_falls` meets its contract: every entry that the loop has passed is below the next. Assumes nothing.
-use Prim.Native.Nat.{◌+◌, ◌-◌}
 use mathlib.Core.Path.{refl}
-use lib.Dec.{leb}
 use native.Mathlib.Omega.{arith}
-use borrow.Author.Rules.{rules}
-use Rattle.book.specs.Layout.{pooled}
-use Rattle.header.specs.Scans.{Scanning}
 use Rattle.header.specs.Scans.Laws.{scan_begins, scan-goes, some-breaks, none-breaks}
 use Rattle.header.specs.Tests.{leb_yes, leb_no}
 use Rattle.parties.proofs.entry_falls.Goals as goal

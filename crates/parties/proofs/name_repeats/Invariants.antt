@@ -1,12 +1,8 @@
 -- `parties::name_repeats` meets its contract: every party that the loop has passed has another name. Assumes nothing.
 use Prim.Native.Nat.{◌-◌}
-use mathlib.Core.Path.{refl}
 use lib.Dec.{eqb}
-use borrow.Author.Rules.{rules}
 use Rattle.book.specs.Layout.{name}
 use Rattle.header.specs.Scans.{Scanning}
-use Rattle.header.specs.Scans.Laws.{scan_begins, scan-goes, some-breaks, none-breaks}
-use Rattle.header.specs.Tests.{eqb_yes, eqb_no}
 use Rattle.parties.proofs.name_repeats.Given as goal
 
 abbrev pub invariant-loop-k : goal.invariant-loop-k

@@ -1,5 +1,4 @@
 -- `parties::party_breaks` meets its contract: the tests of a party's rule, one after the other. Assumes nothing.
-use borrow.Author.Rules.{rules}
 use Rattle.parties.proofs.Parties.{party-name, party-mark, party-list, party-falls, list_inside}
 use Rattle.parties.proofs.party_breaks.Goals as goal
 

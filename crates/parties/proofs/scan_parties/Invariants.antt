@@ -1,13 +1,9 @@
 -- `parties::scan_parties` meets its contract: a walk over the parties. A party passed keeps its rule, so that the counts
 -- so far lie in the pool and their sum doesn't wrap. Assumes nothing.
 use Prim.Native.Nat.{◌-◌}
-use native.Mathlib.Omega.{arith}
-use borrow.Author.Rules.{rules}
 use Rattle.book.specs.Layout.{parties_before}
 use Rattle.book.specs.Rules.{party_breaks}
 use Rattle.rows.specs.Scanned.{Summed}
-use Rattle.rows.specs.Scanned.Laws.{summed-stops, summed-ends}
-use Rattle.parties.proofs.Parties.{parties-begin, party-passed}
 use Rattle.parties.proofs.scan_parties.Given as goal
 
 abbrev pub invariant-loop-party : goal.invariant-loop-party

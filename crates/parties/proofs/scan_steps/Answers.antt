@@ -1,11 +1,7 @@
 -- `parties::scan_steps` meets its contract: a walk over the steps. A step passed keeps its rule, so that the counts so
 -- far lie in the pool and their sum doesn't wrap. Assumes nothing.
-use Prim.Native.Nat.{◌-◌}
 use native.Mathlib.Omega.{arith}
 use borrow.Author.Rules.{rules}
-use Rattle.book.specs.Layout.{steps_before}
-use Rattle.book.specs.Rules.{step_breaks}
-use Rattle.rows.specs.Scanned.{Summed}
 use Rattle.rows.specs.Scanned.Laws.{summed-stops, summed-ends}
 use Rattle.parties.proofs.Steps.{steps-begin, step-passed}
 use Rattle.parties.proofs.scan_steps.Goals as goal

@@ -1,5 +1,4 @@
 -- `parties::step_breaks` meets its contract: the tests of a step's rule, one after the other. Assumes nothing.
-use borrow.Author.Rules.{rules}
 use Rattle.parties.proofs.Steps.{step-sender-breaks, step-receiver-breaks, step-one, step-list}
 use Rattle.parties.proofs.step_breaks.Goals as goal
 

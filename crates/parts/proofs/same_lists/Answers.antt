@@ -1,7 +1,6 @@
 -- `parts::same_lists` meets its contract: only a cast has effects. Assumes nothing.
 use Prim.Native.Nat.{◌<◌}
 use lib.ListN.{length}
-use borrow.Author.Rules.{rules}
 use native.Mathlib.Omega.{arith}
 use Rattle.parts.specs.Place.Lists.{lists-none, list_inside, list-reads, lists-bags}
 use Rattle.parts.proofs.same_lists.Goals as goal

@@ -1,7 +1,5 @@
 -- `parts::same_own` meets its contract: names, terms, types and effects, one after another. Assumes nothing.
 use Rattle.std.proofs.Common.{ap, not}
-use borrow.Author.Rules.{rules}
-use native.Mathlib.Omega.{arith}
 use Rattle.parts.specs.Place.Lists.{names-left, names-right, terms-there, types-there, lists-there, names-differ, terms-differ, types-differ, lists-last}
 use Rattle.parts.proofs.same_own.Goals as goal
 

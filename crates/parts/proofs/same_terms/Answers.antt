@@ -1,12 +1,9 @@
 -- `parts::same_terms` meets its contract: n of them are passed, and were the same. Assumes nothing.
 use Rattle.std.proofs.Common.{ap, not}
-use Prim.Native.Nat.{◌-◌}
-use borrow.Author.Rules.{rules}
-use native.Mathlib.Omega.{arith}
 use Rattle.typing.specs.Term.{Term, same_term}
 use Rattle.typing.specs.Reading.{term}
 use Rattle.alike.specs.Same.{term_in}
-use Rattle.parts.specs.Place.Several.{Pairing, pairing-begin, pairing-left, pairing-right, pairing-differ, pairing-again, pairing-done}
+use Rattle.parts.specs.Place.Several.{pairing-begin, pairing-left, pairing-right, pairing-differ, pairing-again, pairing-done}
 use Rattle.parts.proofs.same_terms.Goals as goal
 
 pub loop-n-init : goal.loop-n-init

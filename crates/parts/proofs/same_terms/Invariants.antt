@@ -1,11 +1,8 @@
 -- `parts::same_terms` meets its contract: n of them are passed, and were the same. Assumes nothing.
 use Prim.Native.Nat.{◌-◌}
-use borrow.Author.Rules.{rules}
-use native.Mathlib.Omega.{arith}
 use Rattle.typing.specs.Term.{Term, same_term}
 use Rattle.typing.specs.Reading.{term}
-use Rattle.alike.specs.Same.{term_in}
-use Rattle.parts.specs.Place.Several.{Pairing, pairing-begin, pairing-left, pairing-right, pairing-differ, pairing-again, pairing-done}
+use Rattle.parts.specs.Place.Several.{Pairing}
 use Rattle.parts.proofs.same_terms.Given as goal
 
 abbrev pub invariant-loop-n : goal.invariant-loop-n

@@ -1,24 +1,24 @@
 -- A cast's effects, and the whole of a process's own words, compared. Assumes nothing.
-use Rattle.std.specs.Prelude.{ℕ, zero, suc, ◌+◌, ◌≤◌, ◌<◌, Bool, true, false, not, ◌&&◌, ◌≡◌, refl, eqb, length, drop, get_or}
-use mathlib.Core.List.{List, [], ◌∷◌}
-use Rattle.std.proofs.Math.Option.{Option, none, some}
-use Rattle.std.proofs.Common.{sym, ◌∙◌, arith, add-one, drop_of_length-le, drop-cons, eq-eqb, ne_eqb}
+use Rattle.std.specs.Prelude.{ℕ, ◌+◌, ◌≤◌, ◌<◌, Bool, true, false, not, ◌&&◌, ◌≡◌, refl, eqb, length, drop, get_or}
+use mathlib.Core.List.{List, []}
+use Rattle.std.proofs.Math.Option.{none, some}
+use Rattle.std.proofs.Common.{sym, ◌∙◌, arith, add-one, drop_of_length-le, drop-cons, eq-eqb}
 use Rattle.std.proofs.Math.Path.{ap}
 use Rattle.std.proofs.Math.Decide.{dec_lt}
 use Rattle.std.proofs.lemmas.Bool.{not-true, not-false}
-use Rattle.words.specs.Choice.{pick, then}
-use Rattle.words.specs.Choice.Laws.{pick_true, pick-false}
+use Rattle.words.specs.Choice.{then}
+use Rattle.words.specs.Choice.Laws.{pick_true}
 use Rattle.words.specs.Run.{run, same_words}
 use Rattle.words.specs.Run.Laws.{same-exact}
-use Rattle.typing.specs.Term.{Term, Effect, same_term}
+use Rattle.typing.specs.Term.{Effect, same_term}
 use Rattle.typing.specs.Bag.{bag, plus}
-use Rattle.typing.specs.Types.{Ty, same_list, same_type, same_effects}
+use Rattle.typing.specs.Types.{same_list, same_type, same_effects}
 use Rattle.typing.specs.Check.Laws.{both, and_both}
 use Rattle.typing.specs.Reading.{Read, term, effects, with_effects, type_at, several}
 use Rattle.spans.specs.Behind.{rest_of, At}
 use Rattle.alike.specs.Same.{value_or, effects_in, test}
-use Rattle.alike.specs.Same.Laws.{test-yes, test-no, test-true}
-use Rattle.parts.specs.Own.{Own, Counted, names_of, terms_of, types_of, cast_effects}
+use Rattle.alike.specs.Same.Laws.{test-yes, test-true}
+use Rattle.parts.specs.Own.{Own, Counted, names_of, cast_effects}
 use Rattle.parts.specs.Place.{list_in, own_in, same_own, Places}
 use Rattle.parts.specs.Place.Laws.{no-effects, no-rest}
 use Rattle.parts.specs.declared.Parts.{Parts}

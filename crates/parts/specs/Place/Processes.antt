@@ -1,6 +1,6 @@
 -- Processes compared by their own words, one after another. Assumes nothing.
-use Rattle.std.specs.Prelude.{ℕ, zero, suc, ◌+◌, ◌-◌, ◌≤◌, ◌<◌, Bool, true, false, not, ◌&&◌, List, [], ◌∷◌, eqb, length, drop, get_or}
-use Rattle.std.proofs.Math.Option.{Option, none, some}
+use Rattle.std.specs.Prelude.{ℕ, suc, ◌+◌, ◌-◌, ◌≤◌, ◌<◌, Bool, true, false, not, List, [], ◌∷◌, eqb, length, drop, get_or}
+use Rattle.std.proofs.Math.Option.{none, some}
 use Rattle.std.proofs.Math.Path.{◌≡◌, refl, sym, ap}
 use Rattle.std.proofs.Common.{◌∙◌, arith, drop_of_length-le, drop-cons}
 use Rattle.std.proofs.Math.Decide.{dec_lt}
@@ -14,8 +14,8 @@ use Rattle.typing.specs.Derivation.Laws.{then-goes}
 use Rattle.spans.specs.Behind.{rest_of, At, process_parts}
 use Rattle.spans.specs.Behind.Laws.{rest-after}
 use Rattle.alike.specs.Same.{value_or, test}
-use Rattle.alike.specs.Same.Laws.{test-yes, test-no, test-true}
-use Rattle.parts.specs.Own.{Own, own_of, formed, names_of}
+use Rattle.alike.specs.Same.Laws.{test-yes, test-no}
+use Rattle.parts.specs.Own.{own_of, formed}
 use Rattle.parts.specs.Own.Laws.{several-own}
 use Rattle.parts.specs.Own.Same.{Parted, codes_same, parts_same, same-formed}
 use Rattle.parts.specs.Place.{list_in, process_in, Spelled, own_in, Places, same_own}

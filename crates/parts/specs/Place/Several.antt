@@ -1,5 +1,5 @@
 -- Several things compared one by one, whatever they are. Assumes nothing.
-use Rattle.std.specs.Prelude.{ℕ, suc, ◌+◌, ◌-◌, ◌≤◌, ◌<◌, Bool, true, false, not, length, drop}
+use Rattle.std.specs.Prelude.{ℕ, suc, ◌+◌, ◌-◌, ◌≤◌, ◌<◌, Bool, true, false, not, drop}
 use mathlib.Core.List.{List, [], ◌∷◌}
 use Rattle.std.proofs.Common.{inl, inr, sym, ◌∙◌, arith}
 use Rattle.std.proofs.Math.Option.{none, some}
@@ -7,15 +7,14 @@ use Rattle.std.proofs.Math.Path.{◌≡◌, refl, ap}
 use Rattle.std.proofs.lemmas.Bool.{not-true, not-false}
 use Rattle.words.specs.Choice.{then}
 use Rattle.words.specs.First.Laws.{clash}
-use Rattle.typing.specs.Term.{Term, same_term}
-use Rattle.typing.specs.Types.{Ty, same_list, same_type}
-use Rattle.typing.specs.Reading.{Read, ahead, term, type_at, several}
+use Rattle.typing.specs.Types.{same_list}
+use Rattle.typing.specs.Reading.{Read, ahead, several}
 use Rattle.spans.specs.Behind.{rest_of, At, Ends}
 use Rattle.spans.specs.Behind.Laws.{rest-ahead}
-use Rattle.alike.specs.Same.{value_or, term_in, type_in, test}
+use Rattle.alike.specs.Same.{value_or, test}
 use Rattle.alike.specs.Same.Laws.{test-yes, test-no, test-true}
 use Rattle.parts.specs.Place.{list_in}
-use Rattle.parts.specs.Place.Laws.{rest-came, rest_some}
+use Rattle.parts.specs.Place.Laws.{rest_some}
 
 module _ {A : Type 0} (r : List ℕ → Read A) (d : A) (same : (x y : A) → Dec (x ≡ y)) where
   -- what is read at a place

@@ -1,6 +1,5 @@
 -- `pieces::cast_count` meets its contract: a cast's effects are counted. Assumes nothing.
 use Prim.Native.Nat.{◌<◌}
-use mathlib.Core.Path.{◌∙◌}
 use lib.ListN.{length}
 use borrow.Author.Rules.{rules}
 use native.Mathlib.Omega.{arith}

@@ -1,6 +1,4 @@
 -- `pieces::pieces_of` meets its contract: the pieces stand where the parts do. Assumes nothing.
-use borrow.Author.Rules.{rules}
-use native.Mathlib.Omega.{arith}
 use Rattle.pieces.specs.Piece.Laws.{process-spelled, pieced, cast-inside}
 use Rattle.pieces.proofs.pieces_of.Goals as goal
 

@@ -1,10 +1,10 @@
 -- Laws of a process's pieces. Assumes nothing.
 use Prim.Native.Nat.{ℕ, zero, suc, ◌+◌, ◌≤◌, ◌<◌}
 use mathlib.Core.List.{List, [], ◌∷◌}
-use Rattle.std.proofs.Common.{inl, inr, ◌∙◌, arith, add-one, drop_of_length-le, drop-cons, eq-eqb, ne_eqb}
-use Rattle.std.proofs.Math.Option.{Option, none, some}
+use Rattle.std.proofs.Common.{◌∙◌, arith, drop_of_length-le, drop-cons, eq-eqb, ne_eqb}
+use Rattle.std.proofs.Math.Option.{none, some}
 use Rattle.std.proofs.Math.Path.{◌≡◌, refl, sym, ap}
-use Rattle.std.proofs.Math.Decide.{dec_lt, ℕ_discrete as dec_eq}
+use Rattle.std.proofs.Math.Decide.{dec_lt}
 use Rattle.std.specs.Prelude.{eqb, length, get_or}
 use Rattle.std.proofs.Math.ListN.{drop}
 use Rattle.words.specs.Choice.{pick, then}
@@ -14,13 +14,12 @@ use Rattle.typing.specs.Term.{Term, same_term}
 use Rattle.typing.specs.Bag.{bag}
 use Rattle.typing.specs.Types.{Ty, same_type}
 use Rattle.typing.specs.Process.{Process, same_process}
-use Rattle.typing.specs.Reading.{Read, ahead, after, joined, altered, only, term, effects, type_at, several, processes, process_at}
+use Rattle.typing.specs.Reading.{Read, ahead, after, joined, altered, only, term, type_at, several, processes, process_at}
 use Rattle.typing.specs.Derivation.Laws.{then-goes}
-use Rattle.spans.specs.Behind.{rest_of, At, Ends, process_parts}
-use Rattle.spans.specs.Behind.Laws.{rest-after}
+use Rattle.spans.specs.Behind.{rest_of, Ends, process_parts}
 use Rattle.spans.specs.Behind.Processes.{parts-other, parts-parallel, parts-stop}
 use Rattle.alike.specs.Same.{value_or, term_in, effects_in, type_in}
-use Rattle.parts.specs.Own.{Own, names_of, terms_of, types_of, own_of, fore, next, around_by, around, formed, cast_effects}
+use Rattle.parts.specs.Own.{Own, names_of, terms_of, types_of, own_of, fore, next, around_by, around, formed}
 use Rattle.parts.specs.Own.Laws.{several-own}
 use Rattle.parts.specs.Place.{list_in, process_in, Spelled, own_in, Places}
 use Rattle.parts.specs.Place.Laws.{rest-came, rest_some}

@@ -1,10 +1,6 @@
 -- `rows::entry_breaks` meets its contract: every entry that the loop has passed is below the bound. Assumes nothing.
-use Prim.Native.Nat.{◌-◌}
 use mathlib.Core.Path.{refl}
-use lib.Dec.{leb}
 use borrow.Author.Rules.{rules}
-use Rattle.book.specs.Layout.{pooled}
-use Rattle.header.specs.Scans.{Scanning}
 use Rattle.header.specs.Scans.Laws.{scan_begins, scan-goes, some-breaks, none-breaks}
 use Rattle.header.specs.Tests.{leb_yes, leb_no}
 use Rattle.rows.proofs.entry_breaks.Goals as goal

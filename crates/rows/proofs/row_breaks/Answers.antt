@@ -1,5 +1,4 @@
 -- `rows::row_breaks` meets its contract: the tests of a row's rule, one after the other. Assumes nothing.
-use borrow.Author.Rules.{rules}
 use Rattle.rows.proofs.Rows.{row-kind-breaks, row-tag-breaks, row-list-breaks}
 use Rattle.rows.proofs.row_breaks.Goals as goal
 

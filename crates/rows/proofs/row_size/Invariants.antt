@@ -1,14 +1,8 @@
 -- `rows::row_size` meets its contract: the sizes of the parts are added, one after the other. Each part is an earlier
 -- row, of size at most 1,024, and there are at most 9, so that no sum wraps. Assumes nothing.
-use Prim.Native.Nat.{◌+◌, ◌-◌, ◌*◌, ◌≤◌, ◌<◌}
+use Prim.Native.Nat.{◌+◌, ◌-◌, ◌*◌, ◌≤◌}
 use mathlib.Core.Path.{◌≡◌}
-use lib.ListN.{get_or}
-use native.Mathlib.Omega.{arith}
-use borrow.Author.Rules.{rules}
-use Rattle.book.specs.Kinds.Laws.{size_small}
-use Rattle.rows.specs.Parts.{Parts}
-use Rattle.rows.specs.Parts.Laws.{parts-of}
-use Rattle.rows.proofs.Sizes.{size_so_far, size-begins, size_step, size-ends, size-known}
+use Rattle.rows.proofs.Sizes.{size_so_far}
 use Rattle.rows.proofs.row_size.Given as goal
 
 abbrev pub invariant-loop-j : goal.invariant-loop-j

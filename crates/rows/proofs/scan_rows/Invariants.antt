@@ -1,13 +1,9 @@
 -- `rows::scan_rows` meets its contract: a walk over the rows. A row passed keeps its rule, so that the counts so
 -- far lie in the pool and their sum doesn't wrap. Assumes nothing.
 use Prim.Native.Nat.{◌-◌}
-use native.Mathlib.Omega.{arith}
-use borrow.Author.Rules.{rules}
 use Rattle.book.specs.Layout.{rows_before}
 use Rattle.book.specs.Rules.{row_breaks}
 use Rattle.rows.specs.Scanned.{Summed}
-use Rattle.rows.specs.Scanned.Laws.{summed-stops, summed-ends}
-use Rattle.rows.proofs.Rows.{rows-begin, row-passed}
 use Rattle.rows.proofs.scan_rows.Given as goal
 
 abbrev pub invariant-loop-row : goal.invariant-loop-row

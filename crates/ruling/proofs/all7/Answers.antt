@@ -1,7 +1,6 @@
 -- `ruling::all7` meets its contract. Assumes nothing.
 use mathlib.Core.Bool.{◌&&◌}
 use mathlib.Core.Path.{◌∙◌, ap}
-use borrow.Author.Rules.{rules}
 use Rattle.ruling.proofs.all7.Goals as goal
 
 pub returns : goal.returns

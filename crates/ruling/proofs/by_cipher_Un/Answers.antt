@@ -1,6 +1,5 @@
 -- `ruling::by_cipher_Un` meets its contract: the term by its parts, and the types. Assumes nothing.
-use borrow.Author.Rules.{rules}
-use mathlib.Core.Path.{sym, ◌∙◌, ap}
+use mathlib.Core.Path.{sym, ◌∙◌}
 use native.Mathlib.Omega.{arith}
 use Rattle.ruling.specs.Line.{says_term}
 use Rattle.ruling.specs.Line.Terms.{term-inside, term-code, cipher-left, cipher-parts}

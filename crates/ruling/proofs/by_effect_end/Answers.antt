@@ -1,5 +1,4 @@
 -- `ruling::by_effect_end` meets its contract: the environments, and the sum of effects. Assumes nothing.
-use borrow.Author.Rules.{rules}
 use native.Mathlib.Omega.{arith}
 use Rattle.ruling.specs.Line.{says_effect, says_term}
 use Rattle.shapes.specs.Shape.{made_type}

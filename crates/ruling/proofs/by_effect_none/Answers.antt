@@ -1,5 +1,4 @@
 -- `ruling::by_effect_none` meets its contract: the environments, and no effects. Assumes nothing.
-use borrow.Author.Rules.{rules}
 use Rattle.ruling.specs.Line.{says_effect, says_environment}
 use Rattle.ruling.specs.Line.Laws.{none-stated}
 use Rattle.ruling.specs.Rules.First.{effect-none}

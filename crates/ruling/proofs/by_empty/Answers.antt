@@ -1,5 +1,4 @@
 -- `ruling::by_empty` meets its contract: there is no entry. Assumes nothing.
-use borrow.Author.Rules.{rules}
 use mathlib.Core.Path.{◌∙◌, ap}
 use lib.Dec.{eqb}
 use Rattle.ruling.specs.Line.{says_environment}

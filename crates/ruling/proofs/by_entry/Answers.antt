@@ -1,5 +1,4 @@
 -- `ruling::by_entry` meets its contract: the newest entry, and the older ones. Assumes nothing.
-use borrow.Author.Rules.{rules}
 use native.Mathlib.Omega.{arith}
 use Rattle.ruling.specs.Line.{says_type, says_environment}
 use Rattle.shapes.specs.Shape.{made_type}

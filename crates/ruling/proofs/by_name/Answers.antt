@@ -1,6 +1,5 @@
 -- `ruling::by_name` meets its contract: the term is a name, and stands in the environment with its type. Assumes
 -- nothing.
-use borrow.Author.Rules.{rules}
 use mathlib.Core.Path.{sym, ◌∙◌, ap}
 use native.Mathlib.Omega.{arith}
 use Rattle.typing.specs.Term.{Term}

@@ -1,7 +1,6 @@
 -- `ruling::by_pair` meets its contract: the term and the type by their parts, and the second type with the first term
 -- put in. Assumes nothing.
-use borrow.Author.Rules.{rules}
-use mathlib.Core.Path.{sym, ◌∙◌, ap}
+use mathlib.Core.Path.{sym, ◌∙◌}
 use native.Mathlib.Omega.{arith}
 use Rattle.typing.specs.Reading.{term, type_at}
 use Rattle.changed.specs.Put.{change_by}

@@ -1,5 +1,4 @@
 -- `ruling::by_type_channel` meets its contract: the environments, and the type. Assumes nothing.
-use borrow.Author.Rules.{rules}
 use Rattle.ruling.specs.Line.{says_type}
 use Rattle.shapes.specs.Shape.{made_type}
 use Rattle.ruling.specs.Rules.First.{type-channel}

@@ -1,5 +1,4 @@
 -- `ruling::by_type_pair` meets its contract: the environments, and the type with the name bound. Assumes nothing.
-use borrow.Author.Rules.{rules}
 use native.Mathlib.Omega.{arith}
 use Rattle.ruling.specs.Line.{says_type}
 use Rattle.shapes.specs.Shape.{made_type}

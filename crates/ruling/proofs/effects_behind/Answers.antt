@@ -1,7 +1,6 @@
 -- `ruling::effects_behind` meets its contract: the first effect ends where its term does. Assumes nothing.
 use Prim.Native.Nat.{◌<◌}
 use lib.ListN.{length}
-use borrow.Author.Rules.{rules}
 use native.Mathlib.Omega.{arith}
 use Rattle.ruling.specs.Line.Laws.{behind-none, first-inside, behind-term, behind-others}
 use Rattle.ruling.proofs.effects_behind.Goals as goal

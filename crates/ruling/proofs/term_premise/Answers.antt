@@ -1,5 +1,4 @@
 -- `ruling::term_premise` meets its contract: both tests. Assumes nothing.
-use borrow.Author.Rules.{rules}
 use Rattle.ruling.specs.Rules.Decide.{two-tests}
 use Rattle.ruling.proofs.term_premise.Goals as goal
 

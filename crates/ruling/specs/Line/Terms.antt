@@ -1,7 +1,7 @@
 -- Terms by their first word. Assumes nothing.
 use Rattle.std.specs.Prelude.{ℕ, zero, suc, ◌+◌, ◌≤◌, ◌<◌, refl, length, get_or}
 use mathlib.Core.List.{List, [], ◌∷◌}
-use Rattle.std.proofs.Math.Option.{Option, none, some}
+use Rattle.std.proofs.Math.Option.{none, some}
 use Rattle.std.proofs.Math.Path.{◌≡◌, sym, ap}
 use Rattle.std.proofs.Common.{◌∙◌, arith, add-one, drop_of_length-le, drop-cons}
 use Rattle.std.proofs.Math.Decide.{dec_lt}
@@ -10,7 +10,7 @@ use Rattle.words.specs.Choice.{then}
 use Rattle.typing.specs.Term.{Term}
 use Rattle.typing.specs.Reading.{Read, ahead, joined, after, only, terms, term, several}
 use Rattle.typing.specs.Reading.Laws.{two_of, two-joined, some-joined}
-use Rattle.spans.specs.Behind.{rest_of, At, Ends}
+use Rattle.spans.specs.Behind.{rest_of, Ends}
 use Rattle.alike.specs.Same.{value_or, term_in}
 use Rattle.shapes.specs.Shape.{Reads}
 use Rattle.shapes.specs.Shape.Laws.{reads_at}

@@ -3,13 +3,12 @@ use Rattle.std.specs.Prelude.{Bool, ◌&&◌, List, ◌≡◌, refl}
 use Rattle.std.proofs.Math.Bool.{true, false}
 use Rattle.std.proofs.Common.{true≢false, sym, ◌∙◌, ap}
 use Rattle.words.specs.Choice.{choose}
-use Rattle.words.specs.Choice.Laws.{choose_yes, choose_no}
-use Rattle.words.specs.First.Laws.{clash}
+use Rattle.words.specs.Choice.Laws.{choose_yes}
 use Rattle.typing.specs.Judgement.{Judgement, same_judgement, same_judgements}
 use Rattle.typing.specs.Rule.{Rule}
 use Rattle.typing.specs.Check.{printed, asks, follows}
 use Rattle.alike.specs.Same.{test}
-use Rattle.alike.specs.Same.Laws.{test-yes, test-no, test-true}
+use Rattle.alike.specs.Same.Laws.{test-yes, test-true}
 
 -- as it is written out
 pub record Written (r : Rule) (Js : List Judgement) (J : Judgement) : Type 0 where

@@ -1,15 +1,15 @@
 -- The rules of environments, effects and types (definitions 9, 10 and 11), as tests of their parts. Assumes nothing.
-use Rattle.std.specs.Prelude.{ℕ, Bool, true, ◌&&◌, List, [], ◌∷◌, ◌≡◌, refl}
-use Rattle.std.proofs.Common.{sym, ◌∙◌}
+use Rattle.std.specs.Prelude.{ℕ, Bool, ◌&&◌, List, [], ◌∷◌, ◌≡◌, refl}
+use Rattle.std.proofs.Common.{◌∙◌}
 use Rattle.typing.specs.Term.{Term, Effect}
 use Rattle.typing.specs.Bag.{insert}
-use Rattle.typing.specs.Types.{Ty, Entry, Environment, ◌⦂◌, same_type, same_effects, same_environment}
+use Rattle.typing.specs.Types.{Ty, Environment, ◌⦂◌, same_type, same_effects, same_environment}
 use Rattle.typing.specs.Judgement.{Judgement}
 use Rattle.typing.specs.Rule.{Rule, binding}
 use Rattle.typing.specs.Check.{entry_name, entry_type, newest, older, environment_of, term_of, type_of, effects_of, first, rest, printed, asks, follows}
 use Rattle.typing.specs.Check.Laws.{both, and_both}
 use Rattle.alike.specs.Same.{test}
-use Rattle.ruling.specs.Rules.Decide.{Written, decide, held, holds-so}
+use Rattle.ruling.specs.Rules.Decide.{decide, held, holds-so}
 
 -- φ ⊢ ⋄
 pub empty : (E : Environment) (a : Bool) → a ≡ test (same_environment E []) → a ≡ follows Rule.empty [] (Judgement.environment E)

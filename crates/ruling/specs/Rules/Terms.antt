@@ -1,18 +1,16 @@
 -- The rules of terms (definition 13), as tests of their parts. Assumes nothing.
-use Rattle.std.specs.Prelude.{ℕ, Bool, true, false, not, ◌&&◌, List, [], ◌∷◌, ◌≡◌, refl}
+use Rattle.std.specs.Prelude.{ℕ, Bool, false, ◌&&◌, List, [], ◌∷◌, ◌≡◌, refl}
 use Rattle.std.proofs.Common.{sym, ◌∙◌, ap, arith}
-use Rattle.typing.specs.Term.{Term, Effect, closed, mentions}
-use Rattle.typing.specs.Bag.{insert, plus, minus}
-use Rattle.typing.specs.Types.{Ty, Environment, ◌⦂◌, generatable, same_type, same_effects, same_environment}
-use Rattle.typing.specs.Process.{Process, same_process}
+use Rattle.typing.specs.Term.{Term}
+use Rattle.typing.specs.Types.{Ty, Environment, ◌⦂◌, same_type, same_environment}
 use Rattle.typing.specs.Judgement.{Judgement}
-use Rattle.typing.specs.Rule.{Rule, binding, putting}
+use Rattle.typing.specs.Rule.{Rule, putting}
 use Rattle.typing.specs.Check.{left, right, name_of, second, promised, parts_of, environment_of, term_of, type_of, effects_of, process_of, first, rest, printed, asks, stands, follows}
 use Rattle.typing.specs.Check.Laws.{both, and_both}
 use Rattle.typing.specs.Term.{same_term}
 use Rattle.alike.specs.Same.{test}
 use Rattle.alike.specs.Same.Laws.{test-yes, test-true}
-use Rattle.ruling.specs.Rules.Decide.{Written, decide, held, holds-so}
+use Rattle.ruling.specs.Rules.Decide.{decide, held, holds-so}
 use Rattle.ruling.specs.Line.Terms.{code_of}
 
 -- E', x : T, E'' ⊢ ⋄  ⟹  E', x : T, E'' ⊢ x : T

@@ -1,5 +1,4 @@
 -- `running::entered` meets its contract: both tests. Assumes nothing.
-use borrow.Author.Rules.{rules}
 use Rattle.ruling.specs.Rules.Decide.{two-tests}
 use Rattle.running.proofs.entered.Goals as goal
 

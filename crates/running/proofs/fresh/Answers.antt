@@ -1,5 +1,4 @@
 -- `running::fresh` meets its contract: a multiset has the names of its list. Assumes nothing.
-use borrow.Author.Rules.{rules}
 use mathlib.Core.Bool.{not}
 use mathlib.Core.Path.{sym, ◌∙◌, ap}
 use Rattle.alike.specs.Same.Mentions.{mentions-bag}

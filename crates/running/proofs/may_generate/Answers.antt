@@ -1,5 +1,4 @@
 -- `running::may_generate` meets its contract: by the type's word. Assumes nothing.
-use borrow.Author.Rules.{rules}
 use Rattle.running.specs.Rules.Own.{no-pair, no-nonce}
 use Rattle.running.proofs.may_generate.Goals as goal
 

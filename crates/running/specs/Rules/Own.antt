@@ -1,9 +1,8 @@
 -- What `new` generates, and the name that its own words spell; the effects of a nonce. Assumes nothing.
-use Prim.Native.Nat.{ℕ, suc, ◌+◌, ◌≤◌, ◌<◌}
-use Rattle.std.specs.Prelude.{Bool, true, false, not, ◌≡◌, refl, eqb, length}
+use Prim.Native.Nat.{ℕ, suc, ◌+◌, ◌<◌}
+use Rattle.std.specs.Prelude.{true, false, not, ◌≡◌, refl, eqb, length}
 use mathlib.Core.List.{List, [], ◌∷◌}
-use Rattle.std.proofs.Common.{inr, sym, ◌∙◌, eq-eqb, ne_eqb}
-use Rattle.std.proofs.Math.Option.{some}
+use Rattle.std.proofs.Common.{sym, ◌∙◌, eq-eqb, ne_eqb}
 use Rattle.std.proofs.Math.Path.{ap}
 use native.Mathlib.Omega.{arith}
 use Rattle.std.proofs.Math.Decide.{ℕ_discrete as dec_eq}

@@ -1,8 +1,7 @@
 -- A process's pieces, by its first word. Assumes nothing.
-use Rattle.std.specs.Prelude.{ℕ, zero, suc, ◌+◌, ◌≤◌, ◌<◌, Bool, true, false, List, [], ◌∷◌, ◌≡◌, refl, length, drop, get_or}
+use Rattle.std.specs.Prelude.{ℕ, zero, suc, ◌+◌, ◌≤◌, ◌<◌, List, ◌≡◌, refl, length, drop, get_or}
 use Rattle.std.proofs.Math.Path.{sym}
-use Rattle.std.proofs.Common.{◌∙◌, ap, subst, arith}
-use Rattle.std.proofs.Math.Decide.{dec_lt, ℕ_discrete as dec_eq}
+use Rattle.std.proofs.Common.{◌∙◌, ap, arith}
 use Rattle.words.specs.Choice.{pick}
 use Rattle.typing.specs.Bag.{bag}
 use Rattle.typing.specs.Process.{Process}

@@ -1,6 +1,5 @@
 -- `scanning::in_event` meets its contract: by the code, and any other is END's. Assumes nothing.
 use mathlib.Core.Path.{sym, ap}
-use borrow.Author.Rules.{rules}
 use Rattle.scanning.specs.Scan.{in_event}
 use Rattle.scanning.specs.Scan.Laws.{event-other}
 use Rattle.scanning.proofs.in_event.Goals as goal

@@ -1,6 +1,5 @@
 -- `scanning::in_image` meets its contract: by the code, and any other is a half's. Assumes nothing.
 use mathlib.Core.Path.{refl, ap}
-use borrow.Author.Rules.{rules}
 use Rattle.scanning.specs.declared.Mode.TheVariants.{More}
 use Rattle.scanning.specs.Scan.Laws.{image-other, image_code}
 use Rattle.scanning.proofs.in_image.Goals as goal

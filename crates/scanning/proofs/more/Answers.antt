@@ -1,5 +1,4 @@
 -- `scanning::more` meets its contract: the sum below the cap, and else what there was. Assumes nothing.
-use borrow.Author.Rules.{rules}
 use Rattle.scanning.specs.Scan.Laws.{pending-more, pending-full}
 use Rattle.scanning.proofs.more.Goals as goal
 

@@ -1,5 +1,4 @@
 -- `scanning::resume` meets its contract: there is an image more, or none. Assumes nothing.
-use borrow.Author.Rules.{rules}
 use Rattle.scanning.specs.Scan.Laws.{resumed-image}
 use Rattle.scanning.proofs.resume.Goals as goal
 

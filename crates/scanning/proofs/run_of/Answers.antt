@@ -1,6 +1,5 @@
 -- `scanning::run_of` meets its contract: a run is where its first number is. Assumes nothing.
 use mathlib.Core.Path.{sym, ◌∙◌}
-use borrow.Author.Rules.{rules}
 use borrow.Author.Tests.{eq-eqb, ne_eqb}
 use Rattle.words.specs.Choice.Laws.{pick_true, pick-false}
 use Rattle.scanning.proofs.run_of.Goals as goal

@@ -1,11 +1,11 @@
 -- Laws of going through a program's words. Assumes nothing.
-use Rattle.std.specs.Prelude.{ℕ, zero, suc, ◌+◌, ◌-◌, ◌≤◌, ◌<◌, Bool, true, false, List, [], ◌∷◌, ◌++◌, ◌≡◌, refl, ltb}
-use Rattle.std.proofs.Common.{sym, ap, ◌∙◌, arith, sub-one, lt-ltb, le-ltb}
+use Rattle.std.specs.Prelude.{ℕ, zero, suc, ◌+◌, ◌-◌, ◌≤◌, ◌<◌, ◌≡◌, refl}
+use Rattle.std.proofs.Common.{sym, ap, ◌∙◌, arith, lt-ltb, le-ltb}
 use Rattle.words.specs.Choice.Laws.{pick_true, pick-false}
 use Rattle.words.specs.Overlay.{cap}
 use Rattle.scanning.specs.declared.Mode.{Mode}
-use Rattle.scanning.specs.declared.Mode.TheVariants.{Event, Image, Last, Tag, More, Step, First, Length, Use, Opened, Row, Stored, Since}
-use Rattle.scanning.specs.Scan.{more_pending, resumed, in_event, in_image, next_mode, scan}
+use Rattle.scanning.specs.declared.Mode.TheVariants.{Image, Since}
+use Rattle.scanning.specs.Scan.{more_pending, resumed, in_event, in_image}
 
 -- ---- what the next word is
 pub event-other : (w : ℕ) → (w ≡ 1 → ⊥) → (w ≡ 2 → ⊥) → (w ≡ 3 → ⊥) → (w ≡ 4 → ⊥) → (w ≡ 5 → ⊥)

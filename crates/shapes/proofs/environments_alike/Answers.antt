@@ -1,6 +1,5 @@
 -- `shapes::environments_alike` meets its contract: at one place they are the same, else they are compared. Assumes
 -- nothing.
-use borrow.Author.Rules.{rules}
 use Rattle.typing.specs.Types.{same_environment}
 use Rattle.typing.specs.Reading.{environment_at}
 use Rattle.alike.specs.Same.{environment_in}

@@ -1,6 +1,5 @@
 -- `shapes::processes_alike` meets its contract: at one place they are the same, else they are compared. Assumes
 -- nothing.
-use borrow.Author.Rules.{rules}
 use Rattle.typing.specs.Process.{same_process}
 use Rattle.typing.specs.Reading.{process_at}
 use Rattle.parts.specs.Place.{process_in}

@@ -1,5 +1,4 @@
 -- `shapes::terms_alike` meets its contract: at one place they are the same, else they are compared. Assumes nothing.
-use borrow.Author.Rules.{rules}
 use Rattle.typing.specs.Term.{same_term}
 use Rattle.typing.specs.Reading.{term}
 use Rattle.alike.specs.Same.{term_in}

@@ -1,5 +1,4 @@
 -- `shapes::types_alike` meets its contract: at one place they are the same, else they are compared. Assumes nothing.
-use borrow.Author.Rules.{rules}
 use Rattle.typing.specs.Types.{same_type}
 use Rattle.typing.specs.Reading.{type_at}
 use Rattle.alike.specs.Same.{type_in}

@@ -1,23 +1,23 @@
 -- Laws of the things that a line names. Assumes nothing.
 use Rattle.std.specs.Prelude.{ℕ, zero, suc, ◌+◌, ◌≤◌, ◌<◌, Bool, true, false, not, length, get_or}
-use Rattle.std.proofs.Common.{true≢false, inl, inr, ◌∙◌, subst, add-one, drop_of_length-le, drop-cons}
+use Rattle.std.proofs.Common.{inl, inr, ◌∙◌, subst, add-one, drop_of_length-le, drop-cons}
 use mathlib.Core.List.{List, [], ◌∷◌}
-use Rattle.std.proofs.Math.Option.{Option, none, some}
+use Rattle.std.proofs.Math.Option.{none, some}
 use Rattle.std.proofs.Math.Path.{◌≡◌, refl, sym, ap}
 use native.Mathlib.Omega.{arith}
 use Rattle.std.proofs.Math.Decide.{dec_lt, ℕ_discrete as dec_eq}
 use Rattle.std.proofs.Math.Dec.{eqb}
 use Rattle.std.proofs.Math.ListN.{drop}
-use borrow.Author.Tests.{eq-eqb, ne_eqb, eqb-true, not-true, not-false}
+use borrow.Author.Tests.{eq-eqb, ne_eqb, not-true, not-false}
 use Rattle.words.specs.Choice.{pick, then}
 use Rattle.words.specs.Choice.Laws.{pick_true, pick-false}
 use Rattle.words.specs.First.Laws.{clash}
-use Rattle.typing.specs.Term.{Effect, Change}
+use Rattle.typing.specs.Term.{Effect}
 use Rattle.typing.specs.Bag.{bag}
 use Rattle.typing.specs.Types.{Ty, Entry, Environment, ◌⦂◌, same_type, same_effects, same_environment}
 use Rattle.typing.specs.Rule.{binding}
 use Rattle.typing.specs.Reading.{Read, after, only, types, type_at, effects, with_effects, entries, environment_at}
-use Rattle.typing.specs.Reading.Laws.{type-Un, type-pair, type-channel, type-symkey, type-nonce, environment-none, environment-entry}
+use Rattle.typing.specs.Reading.Laws.{type-Un, type-pair, type-channel, type-symkey, type-nonce, environment-entry}
 use Rattle.spans.specs.Behind.{rest_of, At, Ends}
 use Rattle.alike.specs.Same.{value_or, effects_in, type_in, environment_in, test}
 use Rattle.alike.specs.Same.Laws.{test-yes, test-no, test-true}

@@ -1,8 +1,5 @@
 -- `spans::effects_end` meets its contract: of k effects from the place a, j are behind the place i. Assumes nothing.
-use Prim.Native.Nat.{◌-◌}
-use borrow.Author.Rules.{rules}
-use native.Mathlib.Omega.{arith}
-use Rattle.spans.specs.Behind.Effects.{Walk, walk-begin, walk-past, walk-zero, walk_more, walk-no-term, walk-again, walk-done}
+use Rattle.spans.specs.Behind.Effects.{walk-begin, walk-past, walk-zero, walk_more, walk-no-term, walk-again, walk-done}
 use Rattle.spans.proofs.effects_end.Goals as goal
 
 pub loop-j-init : goal.loop-j-init

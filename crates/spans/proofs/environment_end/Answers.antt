@@ -1,10 +1,7 @@
 -- `spans::environment_end` meets its contract: the older entries begin at the place i. Assumes nothing.
-use Prim.Native.Nat.{◌-◌}
-use lib.ListN.{length}
-use borrow.Author.Rules.{rules}
 use native.Mathlib.Omega.{arith}
 use Rattle.spans.specs.Behind.Laws.{ends_at}
-use Rattle.spans.specs.Behind.Environments.{Walk, walk-begin, walk-last, walk-other, walk-cut, walk-no-type, walk-again, walk-past}
+use Rattle.spans.specs.Behind.Environments.{walk-begin, walk-last, walk-other, walk-cut, walk-no-type, walk-again, walk-past}
 use Rattle.spans.proofs.environment_end.Goals as goal
 
 pub loop-i-init : goal.loop-i-init

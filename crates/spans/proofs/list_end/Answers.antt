@@ -1,5 +1,4 @@
 -- `spans::list_end` meets its contract: the effects stand behind their count. Assumes nothing.
-use borrow.Author.Rules.{rules}
 use native.Mathlib.Omega.{arith}
 use Rattle.spans.specs.Behind.Processes.{list-cut, list_done}
 use Rattle.spans.proofs.list_end.Goals as goal

@@ -1,11 +1,8 @@
 -- `spans::process_end` meets its contract: what is read from the place a ends where what is still due from the place
 -- i on does. Assumes nothing.
-use Prim.Native.Nat.{◌-◌}
-use lib.ListN.{length}
-use borrow.Author.Rules.{rules}
 use native.Mathlib.Omega.{arith}
 use Rattle.spans.specs.Behind.Laws.{ends_at}
-use Rattle.spans.specs.Behind.Processes.{Walk, walk-begin, walk-past, walk_none, walk-again, walk-done}
+use Rattle.spans.specs.Behind.Processes.{walk-begin, walk-past, walk_none, walk-again, walk-done}
 use Rattle.spans.proofs.process_end.Goals as goal
 
 pub loop-due-init : goal.loop-due-init

@@ -2,10 +2,7 @@
 -- i on does. Assumes nothing.
 use Prim.Native.Nat.{◌-◌}
 use lib.ListN.{length}
-use borrow.Author.Rules.{rules}
-use native.Mathlib.Omega.{arith}
-use Rattle.spans.specs.Behind.Laws.{ends_at}
-use Rattle.spans.specs.Behind.Processes.{Walk, walk-begin, walk-past, walk_none, walk-again, walk-done}
+use Rattle.spans.specs.Behind.Processes.{Walk}
 use Rattle.spans.proofs.process_end.Given as goal
 
 abbrev pub invariant-loop-due : goal.invariant-loop-due

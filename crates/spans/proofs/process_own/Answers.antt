@@ -1,5 +1,4 @@
 -- `spans::process_own` meets its contract, word by word of the table. Assumes nothing.
-use borrow.Author.Rules.{rules}
 use native.Mathlib.Omega.{arith}
 use Rattle.spans.specs.Behind.Laws.{ends_at}
 use Rattle.spans.specs.Behind.Processes.{own_new, own_out, own-inp, own-parallel, own-stop, own_split, own-match, own-decrypt, own-begin, own-end}

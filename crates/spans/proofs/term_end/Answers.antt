@@ -1,11 +1,7 @@
 -- `spans::term_end` meets its contract: what is read from the place a ends where what is still due from the place i
 -- on does.
 -- Assumes nothing.
-use Prim.Native.Nat.{◌-◌}
-use lib.ListN.{length}
-use borrow.Author.Rules.{rules}
-use native.Mathlib.Omega.{arith}
-use Rattle.spans.specs.Behind.Laws.{Terms, terms-begin, terms-past, terms-none, terms-short, terms-again, terms-done}
+use Rattle.spans.specs.Behind.Laws.{terms-begin, terms-past, terms-none, terms-short, terms-again, terms-done}
 use Rattle.spans.proofs.term_end.Goals as goal
 
 pub loop-due-init : goal.loop-due-init

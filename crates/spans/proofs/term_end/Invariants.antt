@@ -3,9 +3,7 @@
 -- Assumes nothing.
 use Prim.Native.Nat.{◌-◌}
 use lib.ListN.{length}
-use borrow.Author.Rules.{rules}
-use native.Mathlib.Omega.{arith}
-use Rattle.spans.specs.Behind.Laws.{Terms, terms-begin, terms-past, terms-none, terms-short, terms-again, terms-done}
+use Rattle.spans.specs.Behind.Laws.{Terms}
 use Rattle.spans.proofs.term_end.Given as goal
 
 abbrev pub invariant-loop-due : goal.invariant-loop-due

@@ -1,12 +1,9 @@
 -- `spans::type_end` meets its contract: what is read from the place a ends where what is still due from the place i
 -- on does.
 -- Assumes nothing.
-use Prim.Native.Nat.{◌-◌}
-use lib.ListN.{length}
-use borrow.Author.Rules.{rules}
 use native.Mathlib.Omega.{arith}
 use Rattle.spans.specs.Behind.Laws.{ends_at}
-use Rattle.spans.specs.Behind.Types.{Walk, walk-begin, walk-past, walk_none, walk-again, walk-done}
+use Rattle.spans.specs.Behind.Types.{walk-begin, walk-past, walk_none, walk-again, walk-done}
 use Rattle.spans.proofs.type_end.Goals as goal
 
 pub loop-due-init : goal.loop-due-init

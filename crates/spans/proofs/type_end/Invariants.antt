@@ -3,10 +3,7 @@
 -- Assumes nothing.
 use Prim.Native.Nat.{◌-◌}
 use lib.ListN.{length}
-use borrow.Author.Rules.{rules}
-use native.Mathlib.Omega.{arith}
-use Rattle.spans.specs.Behind.Laws.{ends_at}
-use Rattle.spans.specs.Behind.Types.{Walk, walk-begin, walk-past, walk_none, walk-again, walk-done}
+use Rattle.spans.specs.Behind.Types.{Walk}
 use Rattle.spans.proofs.type_end.Given as goal
 
 abbrev pub invariant-loop-due : goal.invariant-loop-due

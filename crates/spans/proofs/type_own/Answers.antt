@@ -1,7 +1,6 @@
 -- `spans::type_own` meets its contract: a nonce has its effects behind its count, and no other type has words of its
 -- own but its
 -- first. Assumes nothing.
-use borrow.Author.Rules.{rules}
 use native.Mathlib.Omega.{arith}
 use Rattle.spans.specs.Behind.Types.{type-zero, type-small, type-large, type-cut, type-nonce}
 use Rattle.spans.proofs.type_own.Goals as goal

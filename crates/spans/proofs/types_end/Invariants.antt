@@ -1,9 +1,7 @@
 -- `spans::types_end` meets its contract: of k things from the place a, j are behind the place i. Assumes nothing.
 use Prim.Native.Nat.{◌-◌}
-use borrow.Author.Rules.{rules}
-use native.Mathlib.Omega.{arith}
 use Rattle.spans.specs.Behind.{skip_type}
-use Rattle.spans.specs.Behind.Times.{Walk, walk-begin, walk_none, walk-again, walk-done}
+use Rattle.spans.specs.Behind.Times.{Walk}
 use Rattle.spans.proofs.types_end.Given as goal
 
 abbrev pub invariant-loop-j : goal.invariant-loop-j

@@ -3,7 +3,7 @@ use Rattle.std.specs.Prelude.{ℕ, zero, suc, ◌+◌, ◌-◌, ◌≤◌, ◌<�
 use Rattle.std.proofs.Common.{inr, ◌∙◌, subst, arith, add-one, drop_of_length-le, drop-cons}
 use Rattle.std.proofs.Math.Option.{Option, none, some}
 use Rattle.words.specs.Choice.{then}
-use Rattle.typing.specs.Reading.{Read, after, term, effect_of, effects}
+use Rattle.typing.specs.Reading.{Read, term, effect_of, effects}
 use Rattle.spans.specs.Behind.{rest_of, Ends}
 use Rattle.spans.specs.Behind.Laws.{rest-ahead, rest-after, ends-none, ends_at, ends-nothing}
 

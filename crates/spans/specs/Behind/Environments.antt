@@ -3,7 +3,7 @@ use Rattle.std.specs.Prelude.{ℕ, zero, suc, ◌+◌, ◌-◌, ◌≤◌, ◌<�
 use Rattle.std.proofs.Common.{inr, ◌∙◌, ap, arith, add-one, length-drop, drop_of_length-le, drop-cons}
 use Rattle.std.proofs.Math.Option.{none, some}
 use Rattle.typing.specs.Types.{Environment, ◌⦂◌}
-use Rattle.typing.specs.Reading.{after, type_at, entries, environment_at}
+use Rattle.typing.specs.Reading.{type_at, entries, environment_at}
 use Rattle.spans.specs.Behind.{rest_of, Ends}
 use Rattle.spans.specs.Behind.Laws.{rest-after, ends-none, ends_at, ends-nothing}
 use Rattle.spans.specs.Behind.Effects.{then-none, then_some}

@@ -11,7 +11,7 @@ use Rattle.words.specs.Choice.Laws.{pick_true, pick-false}
 use Rattle.typing.specs.Term.{Term, Effect}
 use Rattle.typing.specs.Bag.{bag}
 use Rattle.typing.specs.Types.{Ty}
-use Rattle.typing.specs.Reading.{Read, after, term, effects, type_at, with_effects, with_term, with_type, processes, process_at}
+use Rattle.typing.specs.Reading.{Read, term, effects, type_at, with_effects, with_term, with_type, processes, process_at}
 use Rattle.spans.specs.Behind.{rest_of, Ends, skip_name, skip_term, skip_type, skip_effects, times, skips, process_own, process_parts}
 use Rattle.spans.specs.Behind.Laws.{rest-ahead, rest-after, ends-none, ends_at, ends-nothing, Counted, counted-ahead, counted-joined, counted-altered, counted_none, counted-zero, counted-then, rest-only}
 

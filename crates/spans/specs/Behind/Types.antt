@@ -4,7 +4,7 @@ use Rattle.std.proofs.Common.{inl, inr, sym, ◌∙◌, ap, arith, add-one, leng
 use Rattle.std.proofs.Math.Option.{Option, none, some}
 use Rattle.typing.specs.Bag.{bag}
 use Rattle.typing.specs.Types.{Ty}
-use Rattle.typing.specs.Reading.{joined, altered, after, effects, with_effects, types, type_at}
+use Rattle.typing.specs.Reading.{joined, altered, effects, with_effects, types, type_at}
 use Rattle.spans.specs.Behind.{rest_of, Ends, type_own, type_parts}
 use Rattle.spans.specs.Behind.Laws.{rest-ahead, rest-after, ends-none, ends_at, ends-nothing, Counted, counted-ahead, counted-joined, counted-altered, counted_none, counted-zero, counted-then, rest-only}
 use Rattle.spans.specs.Behind.Effects.{then-none, then_some}

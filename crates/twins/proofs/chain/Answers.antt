@@ -1,7 +1,6 @@
 -- `twins::chain` meets its contract: each row, from the last on, comes in front of its chain (`chained-on`). Assumes
 -- nothing.
 use Rattle.std.proofs.Common.{◌≤◌, refl, arith, rules}
-use Rattle.twins.specs.Keys.{ChainedFrom}
 use Rattle.twins.specs.Keys.Laws.{chained-on, chained-done}
 use Rattle.twins.proofs.chain.Goals as goal
 use Rattle.twins.proofs.chain.Goals.{In-loop-row}

@@ -1,5 +1,4 @@
 -- `twins::heads_differ` meets its contract: the tests of two rows' heads, one after the other. Assumes nothing.
-use Rattle.std.proofs.Common.{rules}
 use Rattle.twins.proofs.Twins.{kind-differs, tag-differs, count-differs}
 use Rattle.twins.proofs.heads_differ.Goals as goal
 

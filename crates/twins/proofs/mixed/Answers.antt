@@ -1,5 +1,4 @@
 -- `twins::mixed` meets its contract: the sums are the definition's own. Assumes nothing.
-use Rattle.std.proofs.Common.{rules}
 use Rattle.twins.specs.Keys.{mixed}
 use Rattle.twins.proofs.mixed.Goals as goal
 

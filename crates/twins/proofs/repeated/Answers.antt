@@ -1,8 +1,6 @@
 -- `twins::repeated` meets its contract: no row that the loop has passed repeats an earlier one. Assumes nothing.
-use Rattle.std.proofs.Common.{◌-◌, arith, rules}
-use Rattle.book.specs.Rules.{repeats}
+use Rattle.std.proofs.Common.{arith, rules}
 use Rattle.twins.specs.Keys.Laws.{chained-start}
-use Rattle.header.specs.Scans.{Scanning}
 use Rattle.header.specs.Scans.Laws.{scan_begins, scan-goes, stops_at, ends_at}
 use Rattle.twins.proofs.repeated.Goals as goal
 

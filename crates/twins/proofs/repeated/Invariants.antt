@@ -1,9 +1,7 @@
 -- `twins::repeated` meets its contract: no row that the loop has passed repeats an earlier one. Assumes nothing.
-use Rattle.std.proofs.Common.{◌-◌, arith, rules}
+use Rattle.std.proofs.Common.{◌-◌}
 use Rattle.book.specs.Rules.{repeats}
-use Rattle.twins.specs.Keys.Laws.{chained-start}
 use Rattle.header.specs.Scans.{Scanning}
-use Rattle.header.specs.Scans.Laws.{scan_begins, scan-goes, stops_at, ends_at}
 use Rattle.twins.proofs.repeated.Given as goal
 
 abbrev pub invariant-loop-row : goal.invariant-loop-row

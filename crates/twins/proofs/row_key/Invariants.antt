@@ -1,8 +1,6 @@
 -- `twins::row_key` meets its contract: the parts are mixed in one after another (`mixing-on`). Assumes nothing.
-use Rattle.std.proofs.Common.{◌-◌, ◌≤◌, arith, rules}
-use Rattle.twins.specs.Keys.Laws.{Mixing, mixing-starts, mixing-on, mixing-ends}
-use Rattle.rows.specs.Parts.{Parts}
-use Rattle.rows.specs.Parts.Laws.{parts-of}
+use Rattle.std.proofs.Common.{◌-◌, ◌≤◌}
+use Rattle.twins.specs.Keys.Laws.{Mixing}
 use Rattle.twins.proofs.row_key.Given as goal
 
 abbrev pub invariant-loop-j : goal.invariant-loop-j

@@ -1,6 +1,5 @@
 -- `twins::row_repeats` meets its contract: an atom repeats nothing; any other row does, if its twin is an earlier one.
 -- Assumes nothing.
-use Rattle.std.proofs.Common.{rules}
 use Rattle.twins.proofs.Twins.{repeats-atom, repeats-twin}
 use Rattle.twins.proofs.row_repeats.Goals as goal
 

@@ -1,12 +1,12 @@
 -- `twins::twin` meets its contract: no row passed agrees, since it is in another chain or differs in key, head or part;
 -- the row that is returned is alike in all of them. Assumes nothing.
 use Rattle.std.proofs.Common.{not}
-use Rattle.std.proofs.Common.{◌-◌, ◌%◌, refl, ap, ◌∙◌, inl, inr, arith, rules}
+use Rattle.std.proofs.Common.{◌%◌, refl, ap, ◌∙◌, arith, rules}
 use Rattle.words.specs.First.Laws.{first-at, first-end}
 use Rattle.twins.specs.Keys.{chains}
 use Rattle.twins.specs.Keys.Laws.{key-differs}
 use Rattle.rows.specs.Parts.Laws.{parts-of}
-use Rattle.twins.proofs.Twins.{heads-differ, SameTo, same-begins, same-goes, same_alike, part-differs, Own, Hunting, key-read, hunting-starts, hunting-goes, hunting-on}
+use Rattle.twins.proofs.Twins.{heads-differ, same-begins, same-goes, same_alike, part-differs, key-read, hunting-starts, hunting-goes, hunting-on}
 use Rattle.twins.proofs.twin.Goals as goal
 
 pub heads_differ-requires : goal.heads_differ-requires
@@ -17,31 +17,31 @@ row_first-other-requires c = (search rules, omega arith)
 
 -- behind the two tests the rows are alike, but for their parts
 pub parts-init : goal.parts-init
-parts-init c =                 same-begins c.rows.invariant.0 _ _ c.heads_differ.ensures (ap not c.if-not-heads_differ.true) _
+parts-init c = same-begins c.rows.invariant.0 _ _ c.heads_differ.ensures (ap not c.if-not-heads_differ.true) _
     c.row_first-other.ensures.0
 
 -- both rows keep their rules, so that their parts lie in the pool
 pub pooled-requires : goal.pooled-requires
-pooled-requires c =                 let (headed, keep, chained, inside) = c.requires in
+pooled-requires c = let (headed, keep, chained, inside) = c.requires in
     let within = c.rows.invariant.1.scan.within in
     let heads = c.parts.invariant.heads in
     let other = parts-of _ keep _ (omega arith) _ _ heads.other-first heads.other-count in
     (headed, omega arith)
 
 pub pooled-requires-in-parts : goal.pooled-requires-in-parts
-pooled-requires-in-parts c =             let (headed, keep, chained, inside) = c.requires in
+pooled-requires-in-parts c = let (headed, keep, chained, inside) = c.requires in
     let heads = c.parts.invariant.heads in
     let own = parts-of _ keep _ inside _ _ heads.own_first heads.own-count in
     (headed, omega arith)
 
 -- the parts that were read are equal too
 pub parts-preserved : goal.parts-preserved
-parts-preserved c =                     same-goes _ _ _ _ _ _ _ c.parts.invariant c.if-j-n.false _ _ c.pooled.ensures
+parts-preserved c = same-goes _ _ _ _ _ _ _ c.parts.invariant c.if-j-n.false _ _ c.pooled.ensures
     c.pooled-in-parts.ensures c.if-pooled.false
 
 -- a chain rises
 pub rows-smaller : goal.rows-smaller
-rows-smaller c =                     let (headed, keep, chained, inside) = c.requires in
+rows-smaller c = let (headed, keep, chained, inside) = c.requires in
     let (own, hunt) = c.rows.invariant in
     let within = hunt.scan.within in
     let on = hunting-on chained inside hunt c.if-k-row.false c.wide-in-rows-2.ensures.0 in
@@ -49,17 +49,18 @@ rows-smaller c =                     let (headed, keep, chained, inside) = c.req
 
 -- no row before the row itself agrees
 pub returns-then-k-row : goal.returns-then-k-row
-returns-then-k-row c =         first-end _ _ _ refl (λ m h. c.rows.invariant.1.scan.passed m (omega arith))
+returns-then-k-row c = first-end _ _ _ refl (λ m h. c.rows.invariant.1.scan.passed m (omega arith))
 
 -- the other row is alike in every part
 pub returns-then-j-n : goal.returns-then-j-n
-returns-then-j-n c =                 let hunt = c.rows.invariant.1 in
+returns-then-j-n c = let hunt = c.rows.invariant.1 in
     let within = hunt.scan.within in
     first-at _ _ _ (omega (arith, within, c.if-k-row.false)) hunt.scan.passed
     (same_alike _ _ _ _ _ _ _ c.parts.invariant c.if-j-n.true)
+
 -- what was read of the row, and the first row of its own chain
 pub rows-init : goal.rows-init
-rows-init c =                         let (headed, keep, chained, inside) = c.requires in
+rows-init c = let (headed, keep, chained, inside) = c.requires in
     let key = key-read chained inside c.wide.ensures.0 in (
       record {
         key = key;
@@ -71,7 +72,7 @@ rows-init c =                         let (headed, keep, chained, inside) = c.re
 
 -- the other row differs in a part, in its head or in its key; the hunt goes on along the chain
 pub rows-preserved : goal.rows-preserved
-rows-preserved c =                             let (headed, keep, chained, inside) = c.requires in
+rows-preserved c = let (headed, keep, chained, inside) = c.requires in
     let (own, hunt) = c.rows.invariant in
     let within = hunt.scan.within in
     let key = key-read chained (omega arith) c.wide-in-rows.ensures.0 in (
@@ -84,4 +85,3 @@ rows-preserved c =                             let (headed, keep, chained, insid
             | goal.else-keys-wide w ↦ key-differs _ _ _ _ _ own.key key w.if-keys-wide.false
           ]) c.wide-in-rows-2.ensures.0,
     )
-

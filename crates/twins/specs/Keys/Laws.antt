@@ -1,5 +1,5 @@
 -- Laws of row keys and of chains. Assumes nothing.
-use Rattle.std.specs.Prelude.{◌≡◌, ℕ, ◌+◌, ◌-◌, ◌%◌, ◌<◌, ◌≤◌, false, List, [], ◌∷◌, length, replicate, ◌≢◌, slice_index, slice_index_or, slice_set, refl}
+use Rattle.std.specs.Prelude.{◌≡◌, ℕ, ◌+◌, ◌-◌, ◌%◌, ◌<◌, ◌≤◌, false, List, ◌∷◌, replicate, ◌≢◌, slice_index, slice_index_or, slice_set, refl}
 use Rattle.std.proofs.Math.Path.{sym, ap}
 use Rattle.std.proofs.Common.{◌∙◌, get_or-set_same}
 use native.Mathlib.Omega.{arith}
@@ -7,7 +7,7 @@ use Rattle.std.proofs.Math.Decide.{ℕ_discrete, dec_lt}
 use Rattle.std.proofs.Math.ListN.{length-set}
 use Rattle.std.proofs.lemmas.List.{length-replicate, get_or-replicate}
 use Rattle.std.proofs.Math.Seq.{get_or-set_other}
-use Rattle.book.specs.Layout.{most, rows, kind, tag, row_first, row_count, parts, pooled, list_at}
+use Rattle.book.specs.Layout.{most, rows, kind, tag, row_first, row_count, pooled, list_at}
 use Rattle.book.specs.Rules.{Alike, alike}
 use Rattle.book.specs.Rules.Laws.{not_alike}
 use Rattle.book.specs.Span.Laws.{list-none, list-more}

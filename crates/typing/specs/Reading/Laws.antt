@@ -1,7 +1,7 @@
 -- What is read, by its first word: as much fuel as there are words is enough, so that types and environments are read part by part
 -- (`types-several`, `type-pair`, `environment-entry` and their kin). Assumes nothing.
 use Rattle.std.specs.Prelude.{ℕ, zero, suc, ◌≤◌, List, [], ◌∷◌, ◌≡◌, length}
-use Rattle.std.proofs.Math.Option.{Option, none, some}
+use Rattle.std.proofs.Math.Option.{none, some}
 use Rattle.std.proofs.Math.Path.{refl}
 use Rattle.std.proofs.Common.{sym, ◌∙◌, ap, arith}
 use Rattle.words.specs.Choice.{then}

@@ -1,6 +1,5 @@
 -- `words::put2` meets its contract: the first word is written, and the rest at the place behind it. Assumes nothing.
 use mathlib.Core.Path.{refl}
-use borrow.Author.Rules.{rules}
 use Rattle.words.specs.Overlay.Laws.{wrote-next}
 use Rattle.words.proofs.put2.Goals as goal
 

@@ -1,5 +1,4 @@
 -- `words::put3` meets its contract: the first word is written, and the rest at the place behind it. Assumes nothing.
-use borrow.Author.Rules.{rules}
 use Rattle.words.specs.Overlay.Laws.{wrote-cons}
 use Rattle.words.proofs.put3.Goals as goal
 

@@ -1,11 +1,7 @@
 -- `words::put_all` meets its contract: word by word, the first i words are written. Assumes nothing.
-use mathlib.Core.Path.{◌≡◌, refl}
 use Prim.Native.Nat.{◌-◌, ◌≤◌}
 use lib.ListN.{take}
-use Rattle.words.specs.Overlay.Laws.{wrote_none, wrote-more, wrote-length}
 use Rattle.words.specs.Overlay.{Wrote}
-use borrow.Author.Rules.{rules}
-use native.Mathlib.Omega.{arith}
 use Rattle.words.proofs.put_all.Given as goal
 
 abbrev pub invariant-loop-i : goal.invariant-loop-i

@@ -1,5 +1,3 @@
-use borrow.Author.Rules.{rules}
-use Rattle.scanning.proofs.Mode.next.Lts as lts
 use Rattle.scanning.proofs.Mode.next.Goals as goal
 
 -- src/lib.rt:128:5

@@ -20,7 +20,7 @@ pub slice_bounds-a-end : goal.slice_bounds-a-end
 slice_bounds-a-end c = omega (arith, few (goal.at.slice_bounds-a-end c).After-load-n)
 
 pub slice_bounds-keeps_apart-end : goal.slice_bounds-keeps_apart-end
-slice_bounds-keeps_apart-end c = sym (length-take-le _ _ (array-share-prefix-a (search)))
+slice_bounds-keeps_apart-end c = sym (length-take-le _ _ (omega (arith, few (goal.at.slice_bounds-keeps_apart-end c).After-load-n)))
 
 pub returns-then-keeps_apart : goal.returns-then-keeps_apart
 returns-then-keeps_apart c = let all = loaded-words c.args.asked.now refl c.load-n.ensures c.requires in

@@ -22,14 +22,14 @@ derivation-few c = loaded-many _ refl c.load-n.ensures
 pub slice_bounds-a-end : goal.slice_bounds-a-end
 slice_bounds-a-end c = omega (arith, asked-few (goal.at.slice_bounds-a-end c).After-load-m)
 
-pub slice_bounds-check-end : goal.slice_bounds-check-end
-slice_bounds-check-end c = sym (length-take-le _ _ (array-share-prefix-a (search)))
-
 pub slice_bounds-d-end : goal.slice_bounds-d-end
 slice_bounds-d-end c = omega (arith, derivation-few (goal.at.slice_bounds-d-end c).After-load-n)
 
+pub slice_bounds-check-end : goal.slice_bounds-check-end
+slice_bounds-check-end c = sym (length-take-le _ _ (omega (arith, asked-few (goal.at.slice_bounds-check-end c).After-load-m)))
+
 pub slice_bounds-check-end-2 : goal.slice_bounds-check-end-2
-slice_bounds-check-end-2 c = sym (length-take-le _ _ (array-share-prefix-d (search)))
+slice_bounds-check-end-2 c = sym (length-take-le _ _ (omega (arith, derivation-few (goal.at.slice_bounds-check-end-2 c).After-load-n)))
 
 pub returns : goal.returns
 returns c = let args = c.args in

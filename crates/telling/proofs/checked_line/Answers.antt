@@ -1,16 +1,14 @@
 -- `telling::checked_line` meets its contract: what is found, or a refusal (`line-found`, `line-unchecked`). Assumes
 -- nothing.
 use mathlib.Core.Path.{◌∙◌}
-use borrow.Author.Rules.{rules}
 use Rattle.telling.specs.Found.Laws.{line-found, line-unchecked}
 use Rattle.telling.proofs.checked_line.Goals as goal
 
-pub returns-in-Found : goal.returns-in-Found
-returns-in-Found c = let given = c.checked-1.given in
-    let (counts, line) = c.finding_line.ensures in
-    (counts, line ∙ line-found given.0.0 given.1)
+-- what was found
+pub returns-in-Found-clause-line_after : goal.returns-in-Found-clause-line_after
+returns-in-Found-clause-line_after c = c.finding_line.ensures.line_after ∙ line-found c.in-Found.finding c.in-Found.is
 
-pub returns-in-Refused : goal.returns-in-Refused
-returns-in-Refused c = let given = c.checked-in-Refused-1.given in
-    let (counts, line) = c.refusal_line.ensures in
-    (counts, line ∙ line-unchecked given.0.0 given.1)
+-- a refusal
+pub returns-in-Refused-clause-line_after : goal.returns-in-Refused-clause-line_after
+returns-in-Refused-clause-line_after c =
+    c.refusal_line.ensures.line_after ∙ line-unchecked c.in-Refused.refusal c.in-Refused.is

@@ -22,13 +22,13 @@ pub slice_bounds-words-end : goal.slice_bounds-words-end
 slice_bounds-words-end c = omega (arith, book-few (goal.at.slice_bounds-words-end c).After-load-n)
 
 pub slice_bounds-judge-end : goal.slice_bounds-judge-end
-slice_bounds-judge-end c = sym (length-take-le _ _ (array-share-prefix-words (search)))
+slice_bounds-judge-end c = sym (length-take-le _ _ (omega (arith, book-few (goal.at.slice_bounds-judge-end c).After-load-n)))
 
 pub slice_bounds-theirs-end : goal.slice_bounds-theirs-end
 slice_bounds-theirs-end c = omega (arith, listing-few (goal.at.slice_bounds-theirs-end c).After-load-m)
 
 pub slice_bounds-judge-end-2 : goal.slice_bounds-judge-end-2
-slice_bounds-judge-end-2 c = sym (length-take-le _ _ (array-share-prefix-theirs (search)))
+slice_bounds-judge-end-2 c = sym (length-take-le _ _ (omega (arith, listing-few (goal.at.slice_bounds-judge-end-2 c).After-load-m)))
 
 pub returns : goal.returns
 returns c = let args = c.args in

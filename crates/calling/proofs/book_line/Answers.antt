@@ -9,24 +9,9 @@ use Rattle.calling.proofs.book_line.Goals as goal
 pub question_line-requires : goal.question_line-requires
 question_line-requires c = (sym c.is_question.ensures ∙ c.if-is_question.true, c.requires.1, omega (arith, c.requires.4))
 
--- a question
-pub returns-then-is_question : goal.returns-then-is_question
-returns-then-is_question c = let args = c.args in
-    let (counts, line) = c.question_line.ensures in
-    let picks = calls-question args.function args.first.now args.second.now args.third.now in
-    (counts, line ∙ picks c.is_question.ensures c.if-is_question.true)
-
 pub judge_line-requires : goal.judge_line-requires
 judge_line-requires c = let (_, first, second, _, room) = c.requires in
     (sym c.is_judgement.ensures ∙ c.if-is_judgement.true, first, second, omega (arith, room))
-
--- a judgement
-pub returns-then-is_judgement : goal.returns-then-is_judgement
-returns-then-is_judgement c = let args = c.args in
-    let (counts, line) = c.judge_line.ensures in
-    let picks = calls-judgement args.function args.first.now args.second.now args.third.now in
-    let judges = picks c.is_question.ensures c.if-is_question.false c.is_judgement.ensures in
-    (counts, line ∙ judges c.if-is_judgement.true)
 
 pub bytes_line-requires : goal.bytes_line-requires
 bytes_line-requires c = let (known, _, second, third, room) = c.requires in
@@ -34,26 +19,37 @@ bytes_line-requires c = let (known, _, second, third, room) = c.requires in
     let bytes = no-question c.is_judgement.ensures c.if-is_judgement.false c.on_bytes.ensures in
     (bytes c.if-on_bytes.true, second, third, room)
 
--- on bytes
-pub returns-then-on_bytes : goal.returns-then-on_bytes
-returns-then-on_bytes c = let args = c.args in
-    let (counts, line) = c.bytes_line.ensures in
-    let picks = calls-bytes args.function args.first.now args.second.now args.third.now in
-    let no-question = picks c.is_question.ensures c.if-is_question.false in
-    let bytes = no-question c.is_judgement.ensures c.if-is_judgement.false c.on_bytes.ensures in
-    (counts, line ∙ bytes c.if-on_bytes.true)
-
 pub loaded_line-requires : goal.loaded_line-requires
 loaded_line-requires c = let (known, first, second, third, room) = c.requires in
     let no-question = on-words known c.is_question.ensures c.if-is_question.false in
     let words = no-question c.is_judgement.ensures c.if-is_judgement.false c.on_bytes.ensures in
     (words c.if-on_bytes.false, first, second, third, room)
 
+-- a question
+pub returns-then-is_question-clause-line_after : goal.returns-then-is_question-clause-line_after
+returns-then-is_question-clause-line_after c = let args = c.args in
+    let picks = calls-question args.function args.first.now args.second.now args.third.now in
+    c.question_line.ensures.line_after ∙ picks c.is_question.ensures c.if-is_question.true
+
+-- a judgement
+pub returns-then-is_judgement-clause-line_after : goal.returns-then-is_judgement-clause-line_after
+returns-then-is_judgement-clause-line_after c = let args = c.args in
+    let picks = calls-judgement args.function args.first.now args.second.now args.third.now in
+    let judges = picks c.is_question.ensures c.if-is_question.false c.is_judgement.ensures in
+    c.judge_line.ensures.line_after ∙ judges c.if-is_judgement.true
+
+-- on bytes
+pub returns-then-on_bytes-clause-line_after : goal.returns-then-on_bytes-clause-line_after
+returns-then-on_bytes-clause-line_after c = let args = c.args in
+    let picks = calls-bytes args.function args.first.now args.second.now args.third.now in
+    let no-question = picks c.is_question.ensures c.if-is_question.false in
+    let bytes = no-question c.is_judgement.ensures c.if-is_judgement.false c.on_bytes.ensures in
+    c.bytes_line.ensures.line_after ∙ bytes c.if-on_bytes.true
+
 -- on words
-pub returns : goal.returns
-returns c = let args = c.args in
-    let (counts, line) = c.loaded_line.ensures in
+pub returns-clause-line_after : goal.returns-clause-line_after
+returns-clause-line_after c = let args = c.args in
     let picks = calls-words args.function args.first.now args.second.now args.third.now in
     let no-question = picks c.is_question.ensures c.if-is_question.false in
     let words = no-question c.is_judgement.ensures c.if-is_judgement.false c.on_bytes.ensures in
-    (counts, line ∙ words c.if-on_bytes.false)
+    c.loaded_line.ensures.line_after ∙ words c.if-on_bytes.false

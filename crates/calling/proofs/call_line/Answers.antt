@@ -10,20 +10,18 @@ pub typing_line-requires : goal.typing_line-requires
 typing_line-requires c = let (known, first, second, _, room) = c.requires in
     ((omega (arith, c.if-function-gt-JUDGE_BYTES.true), known.1), first, second, omega (arith, room))
 
--- of derivations
-pub returns-then-function-gt-JUDGE_BYTES : goal.returns-then-function-gt-JUDGE_BYTES
-returns-then-function-gt-JUDGE_BYTES c = let args = c.args in
-    let (counts, line) = c.typing_line.ensures in
-    let picks = calls-typing args.function args.first.now args.second.now args.third.now in
-    (counts, line ∙ picks (omega (arith, c.if-function-gt-JUDGE_BYTES.true)))
-
 pub book_line-requires : goal.book_line-requires
 book_line-requires c = let (known, first, second, third, room) = c.requires in
     ((known.0, omega (arith, c.if-function-gt-JUDGE_BYTES.false)), first, second, third, room)
 
+-- of derivations
+pub returns-then-function-gt-JUDGE_BYTES-clause-line_after : goal.returns-then-function-gt-JUDGE_BYTES-clause-line_after
+returns-then-function-gt-JUDGE_BYTES-clause-line_after c = let args = c.args in
+    let picks = calls-typing args.function args.first.now args.second.now args.third.now in
+    c.typing_line.ensures.line_after ∙ picks (omega (arith, c.if-function-gt-JUDGE_BYTES.true))
+
 -- of books
-pub returns : goal.returns
-returns c = let args = c.args in
-    let (counts, line) = c.book_line.ensures in
+pub returns-clause-line_after : goal.returns-clause-line_after
+returns-clause-line_after c = let args = c.args in
     let picks = calls-book args.function args.first.now args.second.now args.third.now in
-    (counts, line ∙ picks (omega (arith, c.if-function-gt-JUDGE_BYTES.false)))
+    c.book_line.ensures.line_after ∙ picks (omega (arith, c.if-function-gt-JUDGE_BYTES.false))

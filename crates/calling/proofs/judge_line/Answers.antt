@@ -8,16 +8,14 @@ use Rattle.calling.specs.Call.Laws.{calls-judge, calls-judge-bytes}
 use Rattle.calling.proofs.judge_line.Goals as goal
 
 -- on words
-pub returns-then-function-eq-JUDGE : goal.returns-then-function-eq-JUDGE
-returns-then-function-eq-JUDGE c = let args = c.args in
-    let (counts, line) = c.judgement_line.ensures in
+pub returns-then-function-eq-JUDGE-clause-line_after : goal.returns-then-function-eq-JUDGE-clause-line_after
+returns-then-function-eq-JUDGE-clause-line_after c = let args = c.args in
     let judges = calls-judge args.function args.book.now args.listing.now args.number.now in
-    (counts, line ∙ judges c.word_at-party.ensures (omega arith) c.judge_words.ensures)
+    c.judgement_line.ensures.line_after ∙ judges c.word_at-party.ensures (omega arith) c.judge_words.ensures
 
 -- and on bytes: no other number is left
-pub returns : goal.returns
-returns c = let args = c.args in
-    let (counts, line) = c.judgement_line-2.ensures in
+pub returns-clause-line_after : goal.returns-clause-line_after
+returns-clause-line_after c = let args = c.args in
     let judges = calls-judge-bytes args.function args.book.now args.listing.now args.number.now in
     let is-bytes = judges-bytes args.function c.requires.0 c.if-function-eq-JUDGE.false in
-    (counts, line ∙ judges c.word_at-party.ensures is-bytes c.judge.ensures)
+    c.judgement_line-2.ensures.line_after ∙ judges c.word_at-party.ensures is-bytes c.judge.ensures

@@ -29,9 +29,8 @@ answer_line-requires c = let lent = c.args.lent.now in
     let many = ap length all ∙ words-length lent in
     (omega arith, omega (arith, c.requires.1), rw many c.requires.2)
 
-pub returns : goal.returns
-returns c = let args = c.args in
-    let (counts, line) = c.answer_line.ensures in
+pub returns-clause-line_after : goal.returns-clause-line_after
+returns-clause-line_after c = let args = c.args in
     let lent = args.lent.now in
     let all = loaded-words lent refl c.load-n.ensures c.requires.0 in
-    (counts, line ∙ ap (λ ws. line_of (came args.answer ws)) all)
+    c.answer_line.ensures.line_after ∙ ap (λ ws. line_of (came args.answer ws)) all

@@ -27,19 +27,19 @@ pub slice_bounds-a-end : goal.slice_bounds-a-end
 slice_bounds-a-end c = omega (arith, first-few (goal.at.slice_bounds-a-end c).After-load-l)
 
 pub slice_bounds-words_line-end : goal.slice_bounds-words_line-end
-slice_bounds-words_line-end c = sym (length-take-le _ _ (array-share-prefix-a (search)))
+slice_bounds-words_line-end c = sym (length-take-le _ _ (omega (arith, first-few (goal.at.slice_bounds-words_line-end c).After-load-l)))
 
 pub slice_bounds-b-end : goal.slice_bounds-b-end
 slice_bounds-b-end c = omega (arith, second-few (goal.at.slice_bounds-b-end c).After-load-m)
 
 pub slice_bounds-words_line-end-2 : goal.slice_bounds-words_line-end-2
-slice_bounds-words_line-end-2 c = sym (length-take-le _ _ (array-borrow-prefix-b (search)))
+slice_bounds-words_line-end-2 c = sym (length-take-le _ _ (omega (arith, second-few (goal.at.slice_bounds-words_line-end-2 c).After-load-m)))
 
 pub slice_bounds-c-end : goal.slice_bounds-c-end
 slice_bounds-c-end c = omega (arith, third-few (goal.at.slice_bounds-c-end c).After-load-n)
 
 pub slice_bounds-words_line-end-3 : goal.slice_bounds-words_line-end-3
-slice_bounds-words_line-end-3 c = sym (length-take-le _ _ (array-borrow-prefix-c (search)))
+slice_bounds-words_line-end-3 c = sym (length-take-le _ _ (omega (arith, third-few (goal.at.slice_bounds-words_line-end-3 c).After-load-n)))
 
 pub words_line-requires : goal.words_line-requires
 words_line-requires c = let (known, _, _, _, room) = c.requires in (
@@ -50,12 +50,11 @@ words_line-requires c = let (known, _, _, _, room) = c.requires in (
 )
 
 -- each slice's words are those of its own bytes
-pub returns : goal.returns
-returns c = let args = c.args in
-    let (counts, line) = c.words_line.ensures in
+pub returns-clause-line_after : goal.returns-clause-line_after
+returns-clause-line_after c = let args = c.args in
     let (_, few, few2, few3, _) = c.requires in
     let a = loaded-words _ refl c.load-l.ensures few in
     let b = loaded-words _ refl c.load-m.ensures few2 in
-    let c = loaded-words _ refl c.load-n.ensures few3 in
+    let d = loaded-words _ refl c.load-n.ensures few3 in
     let all = words-loaded args.function args.first.now args.second.now args.third.now in
-    (counts, line ∙ all a b c)
+    c.words_line.ensures.line_after ∙ all a b d

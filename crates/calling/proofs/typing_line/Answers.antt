@@ -7,31 +7,27 @@ use Rattle.calling.specs.Call.Laws.{calls-check, calls-check-bytes, calls-apart,
 use Rattle.calling.proofs.typing_line.Goals as goal
 
 -- a derivation, on words
-pub returns-then-function-eq-CHECK : goal.returns-then-function-eq-CHECK
-returns-then-function-eq-CHECK c = let args = c.args in
-    let (counts, line) = c.finding_line.ensures in
+pub returns-then-function-eq-CHECK-clause-line_after : goal.returns-then-function-eq-CHECK-clause-line_after
+returns-then-function-eq-CHECK-clause-line_after c = let args = c.args in
     let checks = calls-check args.function args.asked.now args.derivation.now in
-    (counts, line ∙ checks (omega arith) c.check_words.ensures)
+    c.finding_line.ensures.line_after ∙ checks (omega arith) c.check_words.ensures
 
 -- and on bytes
-pub returns-then-function-eq-CHECK_BYTES : goal.returns-then-function-eq-CHECK_BYTES
-returns-then-function-eq-CHECK_BYTES c = let args = c.args in
-    let (counts, line) = c.checked_line.ensures in
+pub returns-then-function-eq-CHECK_BYTES-clause-line_after : goal.returns-then-function-eq-CHECK_BYTES-clause-line_after
+returns-then-function-eq-CHECK_BYTES-clause-line_after c = let args = c.args in
     let checks = calls-check-bytes args.function args.asked.now args.derivation.now in
-    (counts, line ∙ checks (omega arith) c.check_bytes.ensures)
+    c.checked_line.ensures.line_after ∙ checks (omega arith) c.check_bytes.ensures
 
 -- bound names, on words
-pub returns-then-function-eq-APART : goal.returns-then-function-eq-APART
-returns-then-function-eq-APART c = let args = c.args in
-    let (counts, line) = c.reply_line.ensures in
+pub returns-then-function-eq-APART-clause-line_after : goal.returns-then-function-eq-APART-clause-line_after
+returns-then-function-eq-APART-clause-line_after c = let args = c.args in
     let asks = calls-apart args.function args.asked.now args.derivation.now in
-    (counts, line ∙ asks (omega arith) c.apart_words.ensures)
+    c.reply_line.ensures.line_after ∙ asks (omega arith) c.apart_words.ensures
 
 -- and on bytes: no other number is left
-pub returns : goal.returns
-returns c = let args = c.args in
-    let (counts, line) = c.reply_line-2.ensures in
+pub returns-clause-line_after : goal.returns-clause-line_after
+returns-clause-line_after c = let args = c.args in
     let asks = calls-apart-bytes args.function args.asked.now args.derivation.now in
     let last = last-typing args.function c.requires.0.0 c.requires.0.1 in
     let is_last = last c.if-function-eq-CHECK.false c.if-function-eq-CHECK_BYTES.false c.if-function-eq-APART.false in
-    (counts, line ∙ asks is_last c.apart_bytes.ensures)
+    c.reply_line-2.ensures.line_after ∙ asks is_last c.apart_bytes.ensures

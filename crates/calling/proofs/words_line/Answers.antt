@@ -12,43 +12,39 @@ use Rattle.calling.proofs.words_line.Goals as goal
 pub verdict_line-requires : goal.verdict_line-requires
 verdict_line-requires c = (omega arith, omega arith, omega arith)
 
--- the line of a verdict
-pub returns-then-function-lt-TRANSLATE : goal.returns-then-function-lt-TRANSLATE
-returns-then-function-lt-TRANSLATE c = let args = c.args in
-    let (counts, line) = c.verdict_line.ensures in
-    let picks = calls-verdict args.function args.first.now args.second.now args.third.now in
-    (counts, line ∙ picks (omega arith))
-
 -- what was written had room
 pub answer_line-requires : goal.answer_line-requires
 answer_line-requires c = let came = c.translate-answer in
     (search rules, search rules, inside-outcome came.result _ _ _ came.ensures (omega arith))
 
--- the line of what came of the translation
-pub returns-then-function-eq-TRANSLATE : goal.returns-then-function-eq-TRANSLATE
-returns-then-function-eq-TRANSLATE c = let args = c.args in
-    let (counts, line) = c.answer_line.ensures in
-    let picks = calls-translate args.function args.first.now args.second.now args.third.now in
-    (counts, line ∙ picks (omega arith) c.translate-answer.ensures)
-
 pub answer_line-requires-then-function-eq-WRITE_SUMMARY : goal.answer_line-requires-then-function-eq-WRITE_SUMMARY
 answer_line-requires-then-function-eq-WRITE_SUMMARY c = let came = c.write_summary-answer in
     (search rules, search rules, inside-summarized came.result _ _ _ came.ensures (omega arith))
-
--- of the summary
-pub returns-then-function-eq-WRITE_SUMMARY : goal.returns-then-function-eq-WRITE_SUMMARY
-returns-then-function-eq-WRITE_SUMMARY c = let args = c.args in
-    let (counts, line) = c.answer_line-then-function-eq-WRITE_SUMMARY.ensures in
-    let picks = calls-summary args.function args.first.now args.second.now args.third.now in
-    (counts, line ∙ picks (omega arith) c.write_summary-answer.ensures)
 
 pub answer_line-requires-2 : goal.answer_line-requires-2
 answer_line-requires-2 c = let came = c.rehearse-answer in
     (search rules, search rules, inside-rehearsal came.result _ _ _ _ came.ensures (omega arith))
 
+-- the line of a verdict
+pub returns-then-function-lt-TRANSLATE-clause-line_after : goal.returns-then-function-lt-TRANSLATE-clause-line_after
+returns-then-function-lt-TRANSLATE-clause-line_after c = let args = c.args in
+    let picks = calls-verdict args.function args.first.now args.second.now args.third.now in
+    c.verdict_line.ensures.line_after ∙ picks (omega arith)
+
+-- the line of what came of the translation
+pub returns-then-function-eq-TRANSLATE-clause-line_after : goal.returns-then-function-eq-TRANSLATE-clause-line_after
+returns-then-function-eq-TRANSLATE-clause-line_after c = let args = c.args in
+    let picks = calls-translate args.function args.first.now args.second.now args.third.now in
+    c.answer_line.ensures.line_after ∙ picks (omega arith) c.translate-answer.ensures
+
+-- of the summary
+pub returns-then-function-eq-WRITE_SUMMARY-clause-line_after : goal.returns-then-function-eq-WRITE_SUMMARY-clause-line_after
+returns-then-function-eq-WRITE_SUMMARY-clause-line_after c = let args = c.args in
+    let picks = calls-summary args.function args.first.now args.second.now args.third.now in
+    c.answer_line-then-function-eq-WRITE_SUMMARY.ensures.line_after ∙ picks (omega arith) c.write_summary-answer.ensures
+
 -- and of the rehearsal: no other number is left
-pub returns : goal.returns
-returns c = let args = c.args in
-    let (counts, line) = c.answer_line-2.ensures in
+pub returns-clause-line_after : goal.returns-clause-line_after
+returns-clause-line_after c = let args = c.args in
     let picks = calls-rehearse args.function args.first.now args.second.now args.third.now in
-    (counts, line ∙ picks (omega arith) c.rehearse-answer.ensures)
+    c.answer_line-2.ensures.line_after ∙ picks (omega arith) c.rehearse-answer.ensures

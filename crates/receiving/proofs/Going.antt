@@ -9,7 +9,7 @@ use Rattle.terms.specs.Term.{Terms, count, listed}
 use Rattle.terms.specs.Term.Laws.{count-listed}
 use Rattle.terms.specs.Table.{terms}
 use Rattle.book.specs.Layout.{table, rows, list_at}
-use Rattle.book.specs.Span.{entry, Span}
+use Rattle.book.specs.Span.{entry}
 use Rattle.book.specs.Span.Laws.{list-none, span_tail}
 use Rattle.book.specs.Valid.{Valid}
 use Rattle.translation.specs.Receive.{Did, nothing, followed, receive_all}

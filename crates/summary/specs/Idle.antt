@@ -1,7 +1,7 @@
 -- Idle writers and idle askers. Each is caught: it breaks the promise at a computed input. A writer that leaves the lent words as they were,
 -- whatever it answers, and one that does the same for every book; an asker that doesn't look at the step, as one that always says yes, and
 -- one that doesn't look at the summary's words behind its counts.
-use Rattle.std.specs.Prelude.{ℕ, List, [], ◌∷◌, ◌≡◌, refl, get_or, replicate}
+use Rattle.std.specs.Prelude.{ℕ, List, [], ◌∷◌, ◌≡◌, get_or, replicate}
 use Rattle.std.proofs.Common.{sym, ap, ◌∙◌, arith}
 use Rattle.book.specs.Said.{Said}
 use Rattle.translation.specs.Outcome.{Outcome}

@@ -11,7 +11,7 @@ use Rattle.book.specs.Layout.{parties, steps}
 use Rattle.book.specs.declared.Refusal.{Refusal}
 use Rattle.book.specs.declared.Reading.{Reading}
 use Rattle.book.specs.declared.Reading.TheVariants as reading
-use Rattle.book.specs.Said.{Said, said, accepted, refusal_says, reading_says}
+use Rattle.book.specs.Said.{Said, accepted, refusal_says, reading_says}
 use Rattle.book.specs.Said.Laws.{refusal-number}
 use Rattle.book.specs.Refusals.{Line, first_of, reading_table, verdict}
 use Rattle.book.specs.Refusals.Laws.{first_of-none, first_of-stop, line-here, line_on, all_keep}

@@ -1,6 +1,4 @@
 -- `checking::first_bad` meets its contract: the lines before i pass. Assumes nothing.
-use Rattle.std.proofs.Common.{ap, not}
-use borrow.Author.Tests.{not-true, not-false}
 use native.Mathlib.Omega.{arith}
 use Rattle.checking.specs.Finding.Laws.{scanned-none, scanned-next, scanned-bad, scanned-all}
 use Rattle.checking.proofs.first_bad.Goals as goal

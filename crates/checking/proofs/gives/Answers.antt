@@ -1,8 +1,6 @@
 -- `checking::gives` meets its contract: what is asked, where it is spelled, against the line's own environment, process and effects.
 -- Assumes nothing.
-use Rattle.std.proofs.Common.{ap, not}
 use mathlib.Core.Path.{sym, ◌∙◌}
-use borrow.Author.Tests.{not-true, not-false}
 use Rattle.spans.specs.Behind.Laws.{ends_at}
 use Rattle.checking.specs.Finding.Laws.{no-environment, no-process, more-words, asked_is, kind-is, given-other, line-environment, line-process}
 use Rattle.checking.specs.Finding.Laws.{given-effects, given-environment, given-process}

@@ -1,11 +1,6 @@
 -- `checking::line_passes` meets its contract: a line whose things are there and whose premises fit follows by its rule or not, and any
 -- other is no instance. Assumes nothing.
-use Rattle.std.proofs.Common.{not}
-use Prim.Native.Nat.{◌^◌, ◌<◌}
-use borrow.Author.Rules.{rules}
-use borrow.Author.Tests.{not-true, not-false}
 use mathlib.Core.Path.{sym, ◌∙◌, ap}
-use native.Mathlib.Omega.{arith}
 use Rattle.checking.specs.Lines.{line_of}
 use Rattle.checking.specs.Lines.Laws.{ruled-range, line-not-there, line-unfit, there-at, Named, line-ready, line-by}
 use Rattle.checking.proofs.line_passes.Goals as goal

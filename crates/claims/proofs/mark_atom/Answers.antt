@@ -1,7 +1,5 @@
 -- `claims::mark_atom` meets its contract: only the atom's entry is written, and only where it is 0. Assumes nothing.
 use Rattle.claims.proofs.Marks.{new-marked, old-marked}
-use native.Mathlib.Omega.{arith}
-use borrow.Author.Rules.{rules}
 use Rattle.claims.proofs.mark_atom.Goals as goal
 
 -- the entry read and the entry written are the atom's

@@ -1,9 +1,7 @@
 -- `claims::mark_knowledge` meets its contract: party by party, what those passed know is marked. Assumes nothing.
-use Rattle.claims.proofs.Passed.{Knowledge, knowledge-start, knowledge-on, knowledge-end}
+use Rattle.claims.proofs.Passed.{knowledge-start, knowledge-on, knowledge-end}
 use mathlib.Core.Path.{refl}
-use Rattle.claims.specs.Marked.{Ready}
 use Rattle.book.specs.Headed.Laws.{valid-headed}
-use Prim.Native.Nat.{◌-◌}
 use borrow.Author.Rules.{rules}
 use native.Mathlib.Omega.{arith}
 use Rattle.claims.proofs.mark_knowledge.Goals as goal

@@ -1,11 +1,7 @@
 -- `claims::mark_knowledge` meets its contract: party by party, what those passed know is marked. Assumes nothing.
-use Rattle.claims.proofs.Passed.{Knowledge, knowledge-start, knowledge-on, knowledge-end}
-use mathlib.Core.Path.{refl}
+use Rattle.claims.proofs.Passed.{Knowledge}
 use Rattle.claims.specs.Marked.{Ready}
-use Rattle.book.specs.Headed.Laws.{valid-headed}
 use Prim.Native.Nat.{◌-◌}
-use borrow.Author.Rules.{rules}
-use native.Mathlib.Omega.{arith}
 use Rattle.claims.proofs.mark_knowledge.Given as goal
 
 abbrev pub invariant-loop-party : goal.invariant-loop-party

@@ -1,11 +1,7 @@
 -- `claims::mark_known` meets its contract: row by row, the known rows passed are marked. Assumes nothing.
-use Rattle.claims.proofs.Passed.{Knows, knows_start, known-inside, known-low, knows_on, knows-end}
-use mathlib.Core.Path.{refl}
+use Rattle.claims.proofs.Passed.{Knows}
 use Rattle.claims.specs.Marked.{Ready}
-use Rattle.book.specs.Headed.Laws.{valid-headed}
 use Prim.Native.Nat.{◌-◌}
-use borrow.Author.Rules.{rules}
-use native.Mathlib.Omega.{arith}
 use Rattle.claims.proofs.mark_known.Given as goal
 
 abbrev pub invariant-loop-j : goal.invariant-loop-j

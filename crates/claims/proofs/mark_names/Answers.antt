@@ -1,8 +1,6 @@
 -- `claims::mark_names` meets its contract: party by party, the names of those passed are marked. Assumes nothing.
-use Rattle.claims.proofs.Passed.{Names, names-start, name-low, names-on, names-end}
-use Rattle.claims.specs.Marked.{Ready}
+use Rattle.claims.proofs.Passed.{names-start, name-low, names-on, names-end}
 use Rattle.book.specs.Headed.Laws.{valid-headed}
-use Prim.Native.Nat.{◌-◌}
 use borrow.Author.Rules.{rules}
 use Rattle.claims.proofs.mark_names.Goals as goal
 

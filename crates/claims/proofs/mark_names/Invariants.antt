@@ -1,9 +1,7 @@
 -- `claims::mark_names` meets its contract: party by party, the names of those passed are marked. Assumes nothing.
-use Rattle.claims.proofs.Passed.{Names, names-start, name-low, names-on, names-end}
+use Rattle.claims.proofs.Passed.{Names}
 use Rattle.claims.specs.Marked.{Ready}
-use Rattle.book.specs.Headed.Laws.{valid-headed}
 use Prim.Native.Nat.{◌-◌}
-use borrow.Author.Rules.{rules}
 use Rattle.claims.proofs.mark_names.Given as goal
 
 abbrev pub invariant-loop-party : goal.invariant-loop-party

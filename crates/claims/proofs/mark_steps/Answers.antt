@@ -1,11 +1,8 @@
 -- `claims::mark_steps` meets its contract: step by step, the table is that of the narration cut after the steps passed.
 -- Assumes nothing.
 use Rattle.claims.proofs.Passed.{step-span, step-claimed, steps-claimed}
-use Rattle.claims.specs.Claims.{ClaimsBefore}
-use Rattle.claims.specs.Marked.{Ready}
 use Rattle.book.specs.Headed.Laws.{valid-headed, few-steps}
 use mathlib.Core.Path.{refl}
-use Prim.Native.Nat.{◌-◌, ◌≤◌}
 use borrow.Author.Rules.{rules}
 use native.Mathlib.Omega.{arith}
 use Rattle.claims.proofs.mark_steps.Goals as goal

@@ -1,7 +1,6 @@
 -- `editor::ask` meets its contract: bytes that make no whole words are refused, and of others their words are asked.
 -- Assumes nothing.
 use mathlib.Core.Path.{sym, ◌∙◌}
-use borrow.Author.Rules.{rules}
 use Rattle.editor.specs.Bytes.Laws.{of-whole-summary, of-odd-summary}
 use Rattle.editor.proofs.ask.Goals as goal
 

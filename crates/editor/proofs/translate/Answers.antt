@@ -6,7 +6,6 @@ use mathlib.Core.List.{List}
 use Prim.Native.Nat.{ℕ}
 use native.Mathlib.Omega.{arith}
 use lib.ListN.{length-take}
-use borrow.Author.Rules.{rules}
 use Rattle.octets.specs.Octets.{words_in}
 use Rattle.octets.specs.Octets.Laws.{loaded-many, loaded-front}
 use Rattle.book.specs.Layout.{loaded}

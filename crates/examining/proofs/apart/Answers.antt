@@ -1,8 +1,7 @@
 -- `examining::apart` meets its contract: bytes that make no whole words and too little room are refused, and else their
 -- words are asked about in the room (`apart-enough` and its kin). Assumes nothing.
-use mathlib.Core.Path.{sym, ap, ap₂, ◌∙◌}
+use mathlib.Core.Path.{sym, ◌∙◌}
 use native.Mathlib.Omega.{arith}
-use borrow.Author.Rules.{rules}
 use Rattle.examining.specs.Checked.Laws.{apart-odd, apart-short, apart-enough, replied-yes, replied-no}
 use Rattle.examining.proofs.apart.Goals as goal
 

@@ -4,7 +4,6 @@ use Prim.Native.Nat.{◌/◌}
 use mathlib.Core.Path.{◌≡◌, ◌∙◌}
 use native.Mathlib.Omega.{arith}
 use lib.ListN.{length, length-take}
-use borrow.Author.Rules.{rules}
 use Rattle.words.specs.Overlay.Laws.{wrote-length}
 use Rattle.octets.specs.Octets.Laws.{words-length}
 use Rattle.examining.specs.Checked.Laws.{laid-many, apart-loaded}

@@ -2,7 +2,6 @@
 -- both are checked in the room (`checked-enough` and its kin). Assumes nothing.
 use mathlib.Core.Path.{sym, ap, ◌∙◌}
 use native.Mathlib.Omega.{arith}
-use borrow.Author.Rules.{rules}
 use Rattle.examining.specs.Checked.{many}
 use Rattle.examining.specs.Checked.Laws.{checked-odd-asked, checked-odd-derivation, checked-many, checked-short, checked-enough}
 use Rattle.examining.proofs.check.Goals as goal

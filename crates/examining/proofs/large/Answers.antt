@@ -3,7 +3,6 @@ use Prim.Native.Nat.{◌≤◌}
 use mathlib.Core.Path.{refl}
 use native.Mathlib.Omega.{arith}
 use lib.ListN.{length-take}
-use borrow.Author.Rules.{rules}
 use Rattle.octets.specs.Octets.Laws.{loaded-many}
 use Rattle.examining.specs.Checked.Laws.{large-loaded}
 use Rattle.examining.proofs.large.Goals as goal

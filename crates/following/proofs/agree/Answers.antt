@@ -1,6 +1,5 @@
 -- `following::agree` meets its contract: by what the word is (`agree-use`, `agree-first`, `agree-plain`), if there is one.
 -- Assumes nothing.
-use borrow.Author.Rules.{rules}
 use Rattle.following.specs.Agreeing.Laws.{agree-past, agree-use, agree-first, agree-ranged, agree-plain}
 use Rattle.following.proofs.agree.Goals as goal
 

@@ -1,10 +1,7 @@
 -- `following::follow_step` meets its contract: the step's words agree, and what they call what it stored is kept
 -- (`stepped-on`), or they don't
 -- (`stepped-broken`). Assumes nothing.
-use Rattle.std.proofs.Common.{ap, not}
 use mathlib.Core.Path.{refl}
-use native.Mathlib.Omega.{arith}
-use borrow.Author.Rules.{rules}
 use borrow.Author.Tests.{not-true, not-false}
 use Rattle.following.specs.Stepping.Step.{stepped-ready, stepped-few, stepped-sized, stepped-compare, stepped-broken, stepped-keep, stepped-on}
 use Rattle.following.proofs.follow_step.Goals as goal

@@ -1,18 +1,14 @@
 -- `following::follow_steps` meets its contract: the steps before the party's next one agree (`Stepped`), and each turn
 -- compares one step.
 -- Assumes nothing.
-use Rattle.std.proofs.Common.{ap, not}
-use Prim.Native.Nat.{◌-◌, ◌<◌}
-use mathlib.Core.Bool.{true}
-use mathlib.Core.Path.{◌≡◌, refl, sym, ◌∙◌}
+use Prim.Native.Nat.{◌<◌}
+use mathlib.Core.Path.{refl}
 use native.Mathlib.Omega.{arith}
 use borrow.Author.Rules.{rules}
-use borrow.Author.Tests.{not-true, not-false}
+use borrow.Author.Tests.{not-false}
 use Rattle.book.specs.Layout.{steps}
 use Rattle.book.specs.Headed.Laws.{valid-headed, few-steps}
-use Rattle.naming.specs.Mirror.{theirs}
-use Rattle.following.specs.Stepping.{Stepped}
-use Rattle.following.specs.Stepping.Step.{stepped_start, stepped-skip, steps-broken, steps_all}
+use Rattle.following.specs.Stepping.Step.{stepped_start, stepped-skip, steps_all}
 use Rattle.following.proofs.follow_steps.Goals as goal
 use Rattle.following.proofs.follow_steps.Goals.{In-loop-i}
 

@@ -1,17 +1,11 @@
 -- `following::follow_steps` meets its contract: the steps before the party's next one agree (`Stepped`), and each turn
 -- compares one step.
 -- Assumes nothing.
-use Prim.Native.Nat.{◌-◌, ◌<◌}
+use Prim.Native.Nat.{◌-◌}
 use mathlib.Core.Bool.{true}
-use mathlib.Core.Path.{◌≡◌, refl, sym, ◌∙◌}
-use native.Mathlib.Omega.{arith}
-use borrow.Author.Rules.{rules}
-use borrow.Author.Tests.{not-true, not-false}
-use Rattle.book.specs.Layout.{steps}
-use Rattle.book.specs.Headed.Laws.{valid-headed, few-steps}
+use mathlib.Core.Path.{◌≡◌}
 use Rattle.naming.specs.Mirror.{theirs}
 use Rattle.following.specs.Stepping.{Stepped}
-use Rattle.following.specs.Stepping.Step.{stepped_start, stepped-skip, steps-broken, steps_all}
 use Rattle.following.proofs.follow_steps.Given as goal
 
 abbrev pub invariant-loop-i : goal.invariant-loop-i

@@ -1,14 +1,9 @@
 -- `following::follow_words` meets its contract: ours are compared up to a word (`UpTo`), and each turn goes a word on.
 -- Assumes nothing.
-use Rattle.std.proofs.Common.{ap, not}
-use Prim.Native.Nat.{◌+◌, ◌-◌, ◌<◌}
-use mathlib.Core.Path.{refl, sym, ◌∙◌}
+use Prim.Native.Nat.{◌+◌, ◌<◌}
+use mathlib.Core.Path.{refl}
 use lib.ListN.{length}
-use borrow.Author.Rules.{rules}
-use borrow.Author.Tests.{not-true, not-false}
 use native.Mathlib.Omega.{arith}
-use Rattle.naming.specs.Mirror.{theirs}
-use Rattle.following.specs.Agreeing.{UpTo}
 use Rattle.following.specs.Agreeing.Following.{up_start, up-ready, up-off, up-there, up_fits, up-on, up-end}
 use Rattle.following.proofs.follow_words.Goals as goal
 use Rattle.following.proofs.follow_words.Goals.{In-loop-k}

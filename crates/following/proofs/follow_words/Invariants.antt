@@ -1,14 +1,8 @@
 -- `following::follow_words` meets its contract: ours are compared up to a word (`UpTo`), and each turn goes a word on.
 -- Assumes nothing.
-use Prim.Native.Nat.{◌+◌, ◌-◌, ◌<◌}
-use mathlib.Core.Path.{refl, sym, ◌∙◌}
-use lib.ListN.{length}
-use borrow.Author.Rules.{rules}
-use borrow.Author.Tests.{not-true, not-false}
-use native.Mathlib.Omega.{arith}
+use Prim.Native.Nat.{◌-◌}
 use Rattle.naming.specs.Mirror.{theirs}
 use Rattle.following.specs.Agreeing.{UpTo}
-use Rattle.following.specs.Agreeing.Following.{up_start, up-ready, up-off, up-there, up_fits, up-on, up-end}
 use Rattle.following.proofs.follow_words.Given as goal
 
 abbrev pub invariant-loop-k : goal.invariant-loop-k

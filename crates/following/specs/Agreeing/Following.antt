@@ -1,14 +1,13 @@
 -- Their words compared with ours word by word: laws of `UpTo`. Assumes nothing.
-use Rattle.std.specs.Prelude.{ℕ, zero, suc, ◌+◌, ◌-◌, ◌≤◌, ◌<◌, Bool, true, false, List, [], ◌∷◌, ◌++◌, ◌⊎◌, ◌≡◌, refl, length, get_or, drop, eqb, leb}
-use Rattle.std.proofs.Common.{append-nil, inl, inr, sym, ap, ap₂, ◌∙◌, arith, add-zero, add-one, length-append, drop-cons, get_or-drop, ne_eqb, leb-true}
+use Rattle.std.specs.Prelude.{ℕ, zero, suc, ◌+◌, ◌≤◌, ◌<◌, Bool, true, false, List, [], ◌∷◌, ◌++◌, ◌⊎◌, ◌≡◌, refl, length, get_or, drop, eqb, leb}
+use Rattle.std.proofs.Common.{append-nil, inl, inr, sym, ap, ap₂, ◌∙◌, arith, add-one, length-append, drop-cons, get_or-drop, ne_eqb, leb-true}
 use Rattle.std.proofs.Math.ListN.{get_or-eq_default}
 use Rattle.std.proofs.Math.Seq.{drop-length}
 use Rattle.words.specs.Choice.{pick}
-use Rattle.words.specs.Choice.Laws.{pick_true, pick-false}
+use Rattle.words.specs.Choice.Laws.{pick-false}
 use Rattle.words.specs.First.Laws.{clash}
 use Rattle.words.specs.Run.{values}
 use Rattle.words.specs.Overlay.{Wrote}
-use Rattle.translation.specs.Long.{step_size}
 use Rattle.translation.specs.Low.{word_limit}
 use Rattle.renaming.specs.Slot.{Slot, InOrder, handed}
 use Rattle.renaming.specs.Renaming.{numbers, agrees, named, stands, Followed, follow}
@@ -19,9 +18,9 @@ use Rattle.following.specs.declared.Far.{Far}
 use Rattle.scanning.specs.Scan.{next_mode, class_of, slot_of, run_of, scan, after}
 use Rattle.naming.specs.Mirror.{mode_at, handed_by, told}
 use Rattle.naming.specs.Mirror.Laws.{mode-on, told-on}
-use Rattle.naming.specs.Called.{Ranged, Wider, Called, StoredIn}
+use Rattle.naming.specs.Called.{Wider}
 use Rattle.naming.specs.Called.Laws.{ranged-run, called-run, filled_on}
-use Rattle.following.specs.Agreeing.{AgreeReady, WordsReady, AllFollowed, WordsFollowed, UpTo}
+use Rattle.following.specs.Agreeing.{AgreeReady, WordsReady, WordsFollowed, UpTo}
 
 -- ---- what a slot hands out, by its class
 abbrev run_by : ℕ → ℕ → ℕ

@@ -1,14 +1,14 @@
 -- Laws of comparing their words with ours. Assumes nothing.
-use Rattle.std.specs.Prelude.{ℕ, zero, suc, ◌+◌, ◌-◌, ◌≤◌, ◌<◌, Bool, true, false, List, [], ◌∷◌, ◌++◌, ◌⊎◌, ◌≡◌, refl, length, get_or, eqb, ltb}
-use Rattle.std.proofs.Common.{append-nil, inl, inr, ⊎_elim, sym, ap, ap₂, ◌∙◌, arith, lt-ltb, le-ltb, eq-eqb}
+use Rattle.std.specs.Prelude.{ℕ, zero, suc, ◌≤◌, ◌<◌, Bool, false, List, ◌⊎◌, ◌≡◌, refl, length, get_or, eqb}
+use Rattle.std.proofs.Common.{append-nil, inl, inr, sym, ap, ap₂, ◌∙◌, arith, lt-ltb, le-ltb}
 use Rattle.words.specs.Choice.{pick}
 use Rattle.words.specs.Choice.Laws.{pick_true, pick-false}
 use Rattle.renaming.specs.Slot.{Slot}
 use Rattle.renaming.specs.Renaming.{agrees, stands}
 use Rattle.scanning.specs.declared.Mode.{Mode}
 use Rattle.scanning.specs.Scan.{class_of, slot_of}
-use Rattle.naming.specs.Mirror.{mode_at, handed_by, told}
-use Rattle.naming.specs.Called.{Ranged, name_of, Called, StoredIn}
+use Rattle.naming.specs.Mirror.{handed_by, told}
+use Rattle.naming.specs.Called.{Ranged, name_of, StoredIn}
 use Rattle.naming.specs.Called.Laws.{called-recent, called-older}
 use Rattle.following.specs.Agreeing.{AgreeReady}
 

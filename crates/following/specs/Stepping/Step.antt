@@ -1,6 +1,6 @@
 -- A party's steps compared with their words, one after another: laws of `Stepped`. Assumes nothing.
-use Rattle.std.specs.Prelude.{ℕ, zero, suc, ◌+◌, ◌-◌, ◌*◌, ◌/◌, ◌≤◌, ◌<◌, Bool, true, false, List, [], ◌∷◌, ◌++◌, map, ◌≡◌, refl, length, get_or, take, ltb}
-use Rattle.std.proofs.Common.{arith, add-one, append-nil, append_assoc, sym, ap, ap₂, ◌∙◌, length-append, length-take-le, ltb-true, ltb-false}
+use Rattle.std.specs.Prelude.{ℕ, zero, suc, ◌+◌, ◌-◌, ◌*◌, ◌/◌, ◌≤◌, ◌<◌, Bool, true, false, List, [], ◌++◌, map, ◌≡◌, refl, length, get_or, take, ltb}
+use Rattle.std.proofs.Common.{arith, append-nil, append_assoc, sym, ap, ap₂, ◌∙◌, length-append, length-take-le, ltb-true, ltb-false}
 use Rattle.words.specs.First.Laws.{clash}
 use Rattle.words.specs.Overlay.{forward, Wrote}
 use Rattle.words.specs.Overlay.Laws.{wrote-length, wrote-take}
@@ -11,13 +11,13 @@ use Rattle.book.specs.declared.Stop.{Stop}
 use Rattle.book.specs.Valid.{Valid}
 use Rattle.book.specs.Headed.Laws.{valid-headed}
 use Rattle.translation.specs.Dictionary.{start}
-use Rattle.translation.specs.Receive.{Event, Did, nothing, followed}
+use Rattle.translation.specs.Receive.{Event, Did, nothing}
 use Rattle.translation.specs.Listing.{program_words, triple_words}
 use Rattle.translation.specs.Steps.{step_did, before}
 use Rattle.translation.specs.Steps.Laws.{before-none, before_more}
 use Rattle.translation.specs.Long.{step_size, step_words}
-use Rattle.translation.specs.Long.Laws.{step-within, all-within, triples-length, stored-few}
-use Rattle.renaming.specs.Slot.{Slot, InOrder, program_slots, handed}
+use Rattle.translation.specs.Long.Laws.{step-within, triples-length, stored-few}
+use Rattle.renaming.specs.Slot.{Slot, program_slots, handed}
 use Rattle.renaming.specs.Slot.Laws.{slots-append, order-more}
 use Rattle.renaming.specs.Slot.Order.{step-ordered, step-handed, step-stored, before-kept}
 use Rattle.renaming.specs.Renaming.{Followed, follow}
@@ -38,7 +38,7 @@ use Rattle.scanning.specs.Scan.{scan, after, Through}
 use Rattle.scanning.specs.Scan.Program.{through-program, through-all}
 use Rattle.scanning.specs.Scan.Inside.{inner-step}
 use Rattle.naming.specs.Mirror.{mode_at, handed_by, told}
-use Rattle.naming.specs.Called.{Ranged, placeholder_at, recent_names, Called, StoredIn}
+use Rattle.naming.specs.Called.{placeholder_at, recent_names, Called}
 use Rattle.naming.specs.Called.Laws.{ranged-none, wrote-before, wrote-there}
 use Rattle.following.specs.Agreeing.{WordsReady, AllFollowed, WordsFollowed}
 use Rattle.following.specs.Agreeing.Following.{told-event}

@@ -1,7 +1,6 @@
 -- `holding::buildable` meets its contract: a row that is held is, a lone atom isn't, else what is left of the parts
 -- decides. Assumes nothing.
-use Rattle.std.proofs.Common.{ap, not, rules, arith}
-use borrow.Author.Tests.{not-true, not-false}
+use Rattle.std.proofs.Common.{rules, arith}
 use Rattle.holding.proofs.Going.{going_start, going_on, going-off, going_done, is-held, lone-atom}
 use Rattle.book.specs.Headed.Laws.{valid-headed, few-rows, small-pool}
 use Rattle.holding.proofs.+buildable.Goals as goal

@@ -1,10 +1,7 @@
 -- `holding::join` meets its contract: the half that was seen is the other half of the part, or none stands before.
 -- Assumes nothing.
-use mathlib.Core.Logic.{inl, inr}
-use mathlib.Core.Path.{◌≡◌, ap, ◌∙◌}
 use native.Mathlib.Omega.{arith}
 use borrow.Author.Rules.{rules}
-use lib.ListN.{get_or}
 use Rattle.book.specs.Headed.Laws.{valid-headed, few-rows}
 use Rattle.holding.proofs.Tables.{partners-join, partners-alone}
 use Rattle.holding.proofs.join.Goals as goal

@@ -1,13 +1,7 @@
 -- `holding::partners` meets its contract: each row is entered in turn, a half by `join` and any other as its own
 -- partner. Assumes nothing.
-use Prim.Native.Nat.{◌-◌, ◌≤◌, ◌<◌}
-use mathlib.Core.Logic.{inl, inr}
-use native.Mathlib.Omega.{arith}
-use borrow.Author.Rules.{rules}
-use Rattle.book.specs.Headed.Laws.{valid-headed, few-rows}
-use Rattle.book.specs.Kinds.Laws.{a_half, no-half}
+use Prim.Native.Nat.{◌-◌}
 use Rattle.holding.specs.Partners.{PartnersBefore}
-use Rattle.holding.proofs.Tables.{partners-start, partners-plain, partners-done}
 use Rattle.holding.proofs.partners.Given as goal
 
 abbrev pub invariant-loop-row : goal.invariant-loop-row

@@ -1,5 +1,4 @@
 -- `holding::put_entry` meets its contract: itself or its placeholder. Assumes nothing.
-use borrow.Author.Rules.{rules}
 use Rattle.words.specs.Overlay.Laws.{wrote_as}
 use Rattle.holding.specs.AtRow.Laws.{entry-itself, entry-placeholder}
 use Rattle.holding.proofs.put_entry.Goals as goal

@@ -1,5 +1,5 @@
 -- `holding::start` meets its contract: the known rows are entered from the last to the first. Assumes nothing.
-use Rattle.holding.proofs.Starting.{Starting, known-inside, known-row, starting-start, starting-on, starting-done}
+use Rattle.holding.proofs.Starting.{known-inside, known-row, starting-start, starting-on, starting-done}
 use Rattle.book.specs.Headed.Laws.{valid-headed, few-rows}
 use Rattle.book.specs.Layout.{rows}
 use Prim.Native.Nat.{◌<◌}

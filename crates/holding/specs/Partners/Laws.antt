@@ -1,17 +1,14 @@
 -- Laws of halves and partners. Assumes nothing.
-use Rattle.std.specs.Prelude.{ℕ, ◌-◌, ◌≤◌, ◌<◌, Bool, true, false, List, ◌∷◌, ◌≡◌, eqb, get_or}
+use Rattle.std.specs.Prelude.{ℕ, ◌≤◌, ◌<◌, Bool, true, false, List, ◌∷◌, ◌≡◌, eqb, get_or}
 use Rattle.std.proofs.Math.Path.{refl}
-use Rattle.std.proofs.Common.{sym, ap, ◌∙◌, eqb-true, ne_eqb}
+use Rattle.std.proofs.Common.{sym, ap, ◌∙◌, ne_eqb}
 use native.Mathlib.Omega.{arith}
 use Rattle.std.proofs.Math.Decide.{ℕ_discrete, dec_lt}
-use Rattle.std.proofs.lemmas.Bool.{eqb-false}
-use Rattle.words.specs.Choice.{pick, choose}
-use Rattle.words.specs.Choice.Laws.{choose_yes, choose_no}
-use Rattle.words.specs.First.{first}
-use Rattle.terms.specs.Term.{Term, partner, same, gathered}
+use Rattle.words.specs.Choice.{pick}
+use Rattle.terms.specs.Term.{Term, partner, gathered}
 use Rattle.terms.specs.Kind.{of_kind, other_half}
 use Rattle.terms.specs.Image.{words}
-use Rattle.terms.specs.Table.{form, term, terms, number}
+use Rattle.terms.specs.Table.{form, term, terms}
 use Rattle.terms.specs.Table.Laws.{term-row, kind_of}
 use Rattle.book.specs.Layout.{table, rows, kind, row_first, row_count}
 use Rattle.book.specs.Kinds.Laws.{other-low, other-high, other-private, other-public}

@@ -1,11 +1,7 @@
 -- `judge::follow_program` meets its contract: the steps don't all agree, or END is compared behind them. Assumes
 -- nothing.
-use Rattle.std.proofs.Common.{ap, not}
-use mathlib.Core.Path.{refl, sym, ◌∙◌}
-use native.Mathlib.Omega.{arith}
-use borrow.Author.Rules.{rules}
+use mathlib.Core.Path.{refl}
 use borrow.Author.Tests.{not-true, not-false}
-use Rattle.words.specs.Overlay.Laws.{wrote-length}
 use Rattle.judge.specs.Program.End.{program-broken, end_kept, end-narrow, end-few, end-sized, end-compare, end-followed}
 use Rattle.judge.proofs.follow_program.Goals as goal
 

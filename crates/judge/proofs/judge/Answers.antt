@@ -1,6 +1,5 @@
 -- `judge::judge` meets its contract: no bytes are behind the words. Assumes nothing.
 use mathlib.Core.Path.{ap, ◌∙◌}
-use borrow.Author.Rules.{rules}
 use Rattle.renaming.specs.Verdict.{judged}
 use Rattle.judge.specs.Program.Judged.{theirs-alone}
 use Rattle.judge.proofs.judge.Goals as goal

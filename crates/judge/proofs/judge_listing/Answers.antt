@@ -1,7 +1,5 @@
 -- `judge::judge_listing` meets its contract: the book's own refusal first, then 22, then the verdict. Assumes nothing.
 use mathlib.Core.Path.{◌≡◌, ap, sym, ◌∙◌}
-use native.Mathlib.Omega.{arith}
-use borrow.Author.Rules.{rules}
 use Rattle.book.specs.Said.{reading_says}
 use Rattle.book.specs.Headed.Laws.{valid-headed}
 use Rattle.translator.specs.Surveyed.Laws.{surveyed-plays}

@@ -1,7 +1,5 @@
 -- `judge::judge_program` meets its contract: by how far the program agrees, and where their words end. Assumes nothing.
-use Rattle.std.proofs.Common.{ap, not}
 use mathlib.Core.Path.{refl}
-use borrow.Author.Rules.{rules}
 use borrow.Author.Tests.{not-true, not-false}
 use Rattle.judge.specs.Program.Judged.{judged-broken, judged-longer, judged-same}
 use Rattle.judge.proofs.judge_program.Goals as goal

@@ -1,6 +1,6 @@
 -- END behind the steps, and the verdict on the whole program. Assumes nothing.
-use Rattle.std.specs.Prelude.{ℕ, ◌+◌, ◌*◌, ◌/◌, ◌≤◌, ◌<◌, Bool, true, false, List, [], ◌∷◌, ◌++◌, ◌≡◌, refl, get_or}
-use Rattle.std.proofs.Common.{arith, sym, ◌∙◌, length-append, length-take-le}
+use Rattle.std.specs.Prelude.{ℕ, ◌+◌, ◌/◌, ◌≤◌, ◌<◌, true, false, List, [], ◌∷◌, ◌≡◌, get_or}
+use Rattle.std.proofs.Common.{arith, sym, ◌∙◌, length-take-le}
 use Rattle.std.proofs.Math.Path.{ap}
 use Rattle.std.proofs.Math.ListN.{length, take}
 use Rattle.words.specs.Overlay.{Wrote}
@@ -10,11 +10,10 @@ use Rattle.book.specs.Layout.{parties, steps}
 use Rattle.book.specs.Valid.{Valid}
 use Rattle.book.specs.Headed.Laws.{valid-headed}
 use Rattle.translation.specs.Receive.{Event, Did}
-use Rattle.translation.specs.Listing.{triple_words, event_words}
+use Rattle.translation.specs.Listing.{event_words}
 use Rattle.translation.specs.Steps.{before}
-use Rattle.translation.specs.Long.{step_size, step_words}
-use Rattle.translation.specs.Long.Laws.{triples-length, stored-few}
-use Rattle.renaming.specs.Slot.{Slot, program_slots, event_slots, part_slots, handed}
+use Rattle.translation.specs.Long.Laws.{stored-few}
+use Rattle.renaming.specs.Slot.{Slot, program_slots, event_slots, handed}
 use Rattle.renaming.specs.Slot.Laws.{order-more, handed-triples}
 use Rattle.renaming.specs.Slot.Order.{before-kept, end-ordered, part-slots}
 use Rattle.renaming.specs.Renaming.{Followed, follow}
@@ -28,7 +27,7 @@ use Rattle.scanning.specs.Scan.Program.{scan-end}
 use Rattle.naming.specs.Mirror.{handed_by}
 use Rattle.naming.specs.Called.{placeholder_at}
 use Rattle.following.specs.Agreeing.{WordsReady, WordsFollowed}
-use Rattle.following.specs.Stepping.{placeholders, Agreed, Buffers, Broken, StepsFollowed}
+use Rattle.following.specs.Stepping.{placeholders, Agreed, Buffers, StepsFollowed}
 use Rattle.following.specs.Stepping.Laws.{log-at, at-kept, kept-stored}
 use Rattle.judge.specs.Program.{ProgramFollowed}
 

@@ -1,7 +1,6 @@
 -- `packing::capped` meets its contract: by the number of values, each of which is capped. Assumes nothing.
 use mathlib.Core.List.{[], ◌∷◌}
 use mathlib.Core.Path.{sym, ap, ap₂, ◌∙◌}
-use borrow.Author.Rules.{rules}
 use Rattle.book.specs.Said.{said, told_says}
 use Rattle.packing.specs.Packed.{capped as capped_of}
 use Rattle.packing.proofs.capped.Goals as goal

@@ -1,7 +1,6 @@
 -- `packing::pack` meets its contract: a length is told with the number 0, and a refusal as `told_of` tells it. Assumes
 -- nothing.
 use mathlib.Core.Path.{sym, ap, ◌∙◌}
-use borrow.Author.Rules.{rules}
 use Rattle.translation.specs.Outcome.{answer_says}
 use Rattle.packing.specs.Packed.{pack as pack_of}
 use Rattle.packing.specs.Packed.Laws.{small-packs}

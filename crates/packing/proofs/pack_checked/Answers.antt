@@ -1,7 +1,6 @@
 -- `packing::pack_checked` meets its contract: what is found as `told_finding` tells it and a refusal as `told_of` does,
 -- capped. Assumes nothing.
 use mathlib.Core.Path.{sym, ap, ◌∙◌}
-use borrow.Author.Rules.{rules}
 use Rattle.examining.specs.Checked.{checked_says}
 use Rattle.packing.specs.Packed.{pack as pack_of, capped as capped_of}
 use Rattle.packing.proofs.pack_checked.Goals as goal

@@ -1,7 +1,6 @@
 -- `packing::pack_reply` meets its contract: yes and no are told as 1 and 0, and a refusal as `told_of` tells it, capped.
 -- Assumes nothing.
 use mathlib.Core.Path.{sym, ap, ◌∙◌}
-use borrow.Author.Rules.{rules}
 use Rattle.summary.specs.Reply.{reply_says}
 use Rattle.packing.specs.Packed.{pack as pack_of, capped as capped_of}
 use Rattle.packing.specs.Packed.Laws.{small-packs}

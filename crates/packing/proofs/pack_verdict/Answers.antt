@@ -2,7 +2,6 @@
 -- `told_of` tells it.
 -- Assumes nothing.
 use mathlib.Core.Path.{sym, ap, ◌∙◌}
-use borrow.Author.Rules.{rules}
 use Rattle.renaming.specs.Verdict.{verdict_says}
 use Rattle.packing.specs.Packed.{pack as pack_of}
 use Rattle.packing.proofs.pack_verdict.Goals as goal

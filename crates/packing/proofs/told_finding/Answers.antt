@@ -1,7 +1,6 @@
 -- `packing::told_finding` meets its contract: by the finding, whose number and values are told as they stand. Assumes
 -- nothing.
 use mathlib.Core.Path.{sym, ap}
-use borrow.Author.Rules.{rules}
 use Rattle.examining.specs.Checked.{found_says}
 use Rattle.packing.proofs.told_finding.Goals as goal
 

@@ -1,6 +1,6 @@
 -- `receiving::receive` and `receiving::receive_list` meet their contracts: a row is begun and what it leaves follows;
 -- in the loop, whatever ends the rest ends the whole. Assumes nothing.
-use Rattle.std.proofs.Common.{rules, arith}
+use Rattle.std.proofs.Common.{arith}
 use Rattle.book.specs.Headed.Laws.{small-pool}
 use Rattle.receiving.proofs.Going.{going-all, going-fits, going_on, going-ready, going-rest, going_end}
 use Rattle.receiving.proofs.+receive_receive_list.Goals as goal

@@ -1,5 +1,4 @@
 -- `receiving::put_check` meets its contract: the event's first words, then the row's image. Assumes nothing.
-use borrow.Author.Rules.{rules}
 use Rattle.receiving.proofs.EventWords.{check-wrote}
 use Rattle.receiving.proofs.put_check.Goals as goal
 

@@ -1,12 +1,6 @@
 -- `receiving::receive_messages` meets its contract: one row after another, opened or settled, and whatever ends the
 -- rest ends the whole, as in `receive_list`. Assumes nothing.
-use mathlib.Core.Logic.{inl, inr}
-use mathlib.Core.Path.{sym, ◌∙◌}
-use native.Mathlib.Omega.{arith}
-use borrow.Author.Rules.{rules}
-use Rattle.book.specs.Headed.Laws.{small-pool}
 use Rattle.receiving.specs.Receiving.{standing, list_did, Going}
-use Rattle.receiving.proofs.Going.{fresh-ready, fresh-brought, going_start, going-fits, going_on, going_end}
 use Rattle.receiving.proofs.receive_messages.Given as goal
 
 abbrev pub invariant-loop-k : goal.invariant-loop-k

@@ -4,7 +4,6 @@ use mathlib.Core.Path.{sym, ◌∙◌}
 use native.Mathlib.Omega.{arith}
 use borrow.Author.Rules.{rules}
 use Rattle.book.specs.Headed.Laws.{small-pool}
-use Rattle.receiving.specs.Receiving.{standing, rest_did, Going}
 use Rattle.receiving.proofs.Going.{going-all, going_on}
 use Rattle.receiving.proofs.settle_run.Goals as goal
 

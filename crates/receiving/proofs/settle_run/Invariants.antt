@@ -1,11 +1,6 @@
 -- `receiving::settle_run` meets its contract: one row more is settled while none opens, and what is left is what is
 -- still going. Assumes nothing.
-use mathlib.Core.Path.{sym, ◌∙◌}
-use native.Mathlib.Omega.{arith}
-use borrow.Author.Rules.{rules}
-use Rattle.book.specs.Headed.Laws.{small-pool}
 use Rattle.receiving.specs.Receiving.{standing, rest_did, Going}
-use Rattle.receiving.proofs.Going.{going-all, going_on}
 use Rattle.receiving.proofs.settle_run.Given as goal
 
 abbrev pub invariant-loop-k : goal.invariant-loop-k

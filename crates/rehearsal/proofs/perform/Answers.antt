@@ -1,7 +1,6 @@
 -- `rehearsal::perform` meets its contract: the places are the book's, and the counts the plain machine's
 -- (`performed`). Assumes nothing.
 use native.Mathlib.Omega.{arith}
-use borrow.Author.Rules.{rules}
 use Rattle.book.specs.Headed.Laws.{valid-headed, few-parties}
 use Rattle.rehearsal.proofs.Performed.{performed}
 use Rattle.rehearsal.proofs.perform.Goals as goal

@@ -1,14 +1,10 @@
 -- `rehearsal::play` meets its contract: the counts are those of the moves that were passed, and each turn adds one
 -- move (`played-on`). Assumes nothing.
-use Prim.Native.Nat.{ℕ, ◌-◌, ◌≤◌, ◌<◌}
-use mathlib.Core.Path.{◌≡◌}
+use Prim.Native.Nat.{ℕ, ◌<◌}
 use native.Mathlib.Omega.{arith}
-use lib.ListN.{length, take}
 use borrow.Author.Rules.{rules}
 use Rattle.words.specs.Run.Laws.{all_get_d}
 use Rattle.book.specs.Layout.{parties}
-use Rattle.playing.specs.Counting.{ticked_all}
-use Rattle.rehearsal.specs.Kept.{places, counts}
 use Rattle.rehearsal.proofs.Counted.{played-none, played-on, played-all}
 use Rattle.rehearsal.proofs.play.Goals as goal
 

@@ -1,6 +1,5 @@
 -- `rehearsal::rehearse` meets its contract: the book's own refusal is given first, and an accepted book plays, its events
 -- where the survey found them. Assumes nothing.
-use borrow.Author.Rules.{rules}
 use Rattle.rehearsal.proofs.Came.{refused, accepted}
 use Rattle.rehearsal.proofs.rehearse.Goals as goal
 

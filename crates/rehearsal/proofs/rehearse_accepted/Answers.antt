@@ -1,7 +1,5 @@
 -- `rehearsal::rehearse_accepted` meets its contract: refusal 11, then 12, and then the events done. Assumes nothing.
 use Prim.Native.Nat.{◌<◌}
-use native.Mathlib.Omega.{arith}
-use borrow.Author.Rules.{rules}
 use Rattle.words.specs.Run.{All}
 use Rattle.book.specs.Layout.{parties}
 use Rattle.book.specs.Headed.Laws.{valid-headed}

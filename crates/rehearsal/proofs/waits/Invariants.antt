@@ -1,15 +1,10 @@
 -- `rehearsal::waits` meets its contract: the party waits for none of the steps that were passed. Assumes nothing.
 use Prim.Native.Nat.{ℕ, ◌-◌, ◌≤◌, ◌<◌}
-use mathlib.Core.Path.{◌≡◌, sym, ◌∙◌}
+use mathlib.Core.Path.{◌≡◌}
 use mathlib.Core.List.{[]}
 use mathlib.Core.Bool.{false}
-use native.Mathlib.Omega.{arith}
-use borrow.Author.Count.{below_more}
-use borrow.Author.Rules.{rules}
-use Rattle.book.specs.Headed.Laws.{valid-headed}
 use Rattle.playing.specs.Counting.{waits_for}
 use Rattle.rehearsal.specs.Kept.{places, counts}
-use Rattle.rehearsal.proofs.Waiting.{some-step, no_step}
 use Rattle.rehearsal.proofs.waits.Given as goal
 
 abbrev pub invariant-loop-step : goal.invariant-loop-step

@@ -1,12 +1,8 @@
 -- `rehearsal::write_counts` meets its contract: the counts of the parties passed are written, and each turn adds one
 -- (`counts-on`). Assumes nothing.
-use Prim.Native.Nat.{◌-◌, ◌≤◌}
 use mathlib.Core.Path.{◌≡◌}
 use native.Mathlib.Omega.{arith}
 use borrow.Author.Rules.{rules}
-use Rattle.words.specs.Overlay.{Wrote}
-use Rattle.words.specs.Overlay.Laws.{wrote-length}
-use Rattle.words.specs.Run.{values}
 use Rattle.rehearsal.specs.Kept.{counts}
 use Rattle.rehearsal.proofs.Counts.{counts-none, counts-on, counts_all}
 use Rattle.rehearsal.proofs.write_counts.Goals as goal

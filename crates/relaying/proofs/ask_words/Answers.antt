@@ -1,7 +1,6 @@
 -- `relaying::ask_words` meets its contract: the length and the words that are read are those of the words that the bytes
 -- make. Assumes nothing.
 use mathlib.Core.Path.{sym}
-use borrow.Author.Rules.{rules}
 use Rattle.octets.specs.Octets.{words_in}
 use Rattle.octets.specs.Octets.Laws.{words-length}
 use Rattle.summary.specs.Found.{Decides}

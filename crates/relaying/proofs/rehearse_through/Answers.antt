@@ -4,7 +4,6 @@ use native.Mathlib.Omega.{arith}
 use mathlib.Core.Path.{◌≡◌}
 use mathlib.Core.List.{List}
 use Prim.Native.Nat.{ℕ}
-use borrow.Author.Rules.{rules}
 use Rattle.playing.specs.Rehearsal.{rehearsal_says, events_done, rehearsal}
 use Rattle.translation.specs.Outcome.{Outcome, laid}
 use Rattle.relaying.proofs.Through.{rehearsal-fits, between-rehearsal, through-length, through-refused, through-many, through-written}

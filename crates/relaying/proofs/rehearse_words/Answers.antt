@@ -2,7 +2,6 @@
 -- can be. Assumes nothing.
 use native.Mathlib.Omega.{arith}
 use lib.ListN.{length-take}
-use borrow.Author.Rules.{rules}
 use Rattle.relaying.proofs.rehearse_words.Goals as goal
 
 pub slice_bounds-rehearse_through-end : goal.slice_bounds-rehearse_through-end

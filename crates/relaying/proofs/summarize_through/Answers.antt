@@ -4,7 +4,6 @@ use native.Mathlib.Omega.{arith}
 use mathlib.Core.Path.{◌≡◌}
 use mathlib.Core.List.{List}
 use Prim.Native.Nat.{ℕ}
-use borrow.Author.Rules.{rules}
 use Rattle.summary.specs.Summary.{summary, summary_says, summarized}
 use Rattle.translation.specs.Outcome.{Outcome, laid}
 use Rattle.relaying.proofs.Through.{summary-fits, between-summary, through-length, through-refused, through-many, through-written}

@@ -2,7 +2,6 @@
 -- can have. Assumes nothing.
 use native.Mathlib.Omega.{arith}
 use lib.ListN.{length-take}
-use borrow.Author.Rules.{rules}
 use Rattle.relaying.proofs.summarize_words.Goals as goal
 
 pub slice_bounds-summarize_through-end : goal.slice_bounds-summarize_through-end

@@ -1,7 +1,6 @@
 -- `sending::against` meets its contract: it is asked whether the atom is taken, and then for the sender's mark. Assumes
 -- nothing.
 use Rattle.sending.proofs.Stops.{taken, makeable, barred}
-use borrow.Author.Rules.{rules}
 use Rattle.sending.proofs.against.Goals as goal
 
 -- the atom is taken

@@ -1,6 +1,5 @@
 -- `sending::first_stop` meets its contract: where it stopped before it stays, else the row is asked. Assumes nothing.
 use Rattle.sending.proofs.Stops.{stays, passes, stops}
-use borrow.Author.Rules.{rules}
 use Rattle.sending.proofs.first_stop.Goals as goal
 
 -- it stopped before

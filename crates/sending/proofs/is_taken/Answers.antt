@@ -1,6 +1,5 @@
 -- `sending::is_taken` meets its contract: the table says from which step on. Assumes nothing.
 use Rattle.sending.proofs.Stops.{never, from_step}
-use borrow.Author.Rules.{rules}
 use Rattle.sending.proofs.is_taken.Goals as goal
 
 pub returns-then-from-eq0 : goal.returns-then-from-eq0

@@ -1,7 +1,6 @@
 -- `summary::ask` meets its contract: what is found of the length and the first three words is found of the summary.
 -- Assumes nothing.
 use mathlib.Core.Path.{refl, sym}
-use borrow.Author.Rules.{rules}
 use Rattle.summary.specs.Found.{Decides}
 use Rattle.summary.specs.Found.Laws.{replied-refused, replied-at}
 use Rattle.summary.proofs.ask.Goals as goal

@@ -1,9 +1,6 @@
 -- `summary::find` meets its contract: refusal 20, then 21 by party, row and step, and else the place. Assumes nothing.
 use Prim.Native.Nat.{◌+◌, ◌*◌}
-use mathlib.Core.Bool.{not}
 use mathlib.Core.Path.{◌≡◌, sym, ◌∙◌}
-use lib.Dec.{eqb}
-use borrow.Author.Rules.{rules}
 use borrow.Author.Tests.{not-true, not-false, eqb-true, eqb-false}
 use Rattle.summary.specs.Found.Laws.{found-misfit, found-party, found-row, found-step, found_at}
 use Rattle.summary.proofs.find.Goals as goal

@@ -1,5 +1,4 @@
 -- `summary::summarize_accepted` meets its contract: refusal 12, and then the summary. Assumes nothing.
-use borrow.Author.Rules.{rules}
 use Rattle.book.specs.Headed.Laws.{valid-headed}
 use Rattle.summary.proofs.Held.{summary-wrote, short-came, told-came}
 use Rattle.summary.proofs.summarize_accepted.Goals as goal

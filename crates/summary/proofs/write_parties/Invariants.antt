@@ -1,12 +1,7 @@
 -- `summary::write_parties` meets its contract: the words of the parties passed are written, and each turn adds one's.
 -- Assumes nothing.
-use Prim.Native.Nat.{◌-◌, ◌<◌}
-use native.Mathlib.Omega.{arith}
-use borrow.Author.Rules.{rules}
-use Rattle.words.specs.Overlay.Laws.{wrote-length}
-use Rattle.book.specs.Layout.{parties}
-use Rattle.book.specs.Headed.Laws.{valid-headed}
-use Rattle.summary.proofs.Held.{Told, told-start, told-on, told-end, party-ready}
+use Prim.Native.Nat.{◌-◌}
+use Rattle.summary.proofs.Held.{Told}
 use Rattle.summary.proofs.write_parties.Given as goal
 
 abbrev pub invariant-loop-party : goal.invariant-loop-party

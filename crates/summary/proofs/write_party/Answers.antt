@@ -1,6 +1,5 @@
 -- `summary::write_party` meets its contract: its words are read off what it holds in the end. Assumes nothing.
 use native.Mathlib.Omega.{arith}
-use borrow.Author.Rules.{rules}
 use Rattle.book.specs.Headed.Laws.{valid-headed, few-rows, few-steps}
 use Rattle.summary.proofs.Held.{held-wrote}
 use Rattle.summary.proofs.write_party.Goals as goal

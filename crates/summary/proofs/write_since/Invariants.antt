@@ -1,9 +1,6 @@
 -- `summary::write_since` meets its contract: one row more, by its entry. Assumes nothing.
 use Prim.Native.Nat.{◌-◌}
-use native.Mathlib.Omega.{arith}
-use borrow.Author.Rules.{rules}
-use Rattle.words.specs.Overlay.Laws.{wrote-length}
-use Rattle.summary.proofs.Held.{Dated, dated-start, dated-on, dated-end}
+use Rattle.summary.proofs.Held.{Dated}
 use Rattle.summary.proofs.write_since.Given as goal
 
 abbrev pub invariant-loop-row : goal.invariant-loop-row

@@ -1,7 +1,6 @@
 -- `summary::write_summary` meets its contract: the book's own refusal is given first, and an accepted book is as writing
 -- asks. Assumes nothing.
 use mathlib.Core.Path.{ap, sym, ◌∙◌}
-use borrow.Author.Rules.{rules}
 use Rattle.book.specs.Said.{reading_says}
 use Rattle.translator.specs.Surveyed.Laws.{surveyed-plays}
 use Rattle.summary.specs.Summary.Written.{summary-refused-came}

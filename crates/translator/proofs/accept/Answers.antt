@@ -1,5 +1,4 @@
 -- `translator::accept` meets its contract: it is what the survey says first. Assumes nothing.
-use borrow.Author.Rules.{rules}
 use Rattle.translator.proofs.accept.Goals as goal
 
 pub returns : goal.returns

@@ -1,5 +1,4 @@
 -- `translator::fit` meets its contract: the book's refusal, refusal 12, and then the length. Assumes nothing.
-use borrow.Author.Rules.{rules}
 use Rattle.translator.specs.Surveyed.Laws.{fitted-refused, fitted_short, fitted-length}
 use Rattle.translator.proofs.fit.Goals as goal
 

@@ -1,6 +1,5 @@
 -- `translator::survey` meets its contract: the reader's refusal is given first, and an accepted book is valid. Assumes
 -- nothing.
-use borrow.Author.Rules.{rules}
 use Rattle.book.specs.Said.Laws.{refusal-number}
 use Rattle.translator.proofs.Came.{refused-accept, accepted-book}
 use Rattle.translator.proofs.survey.Goals as goal

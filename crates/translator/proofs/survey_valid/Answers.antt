@@ -1,7 +1,6 @@
 -- `translator::survey_valid` meets its contract: what `write_heads` laid into the lists is read from them, and where
 -- the walks stop decides refusals 10 and 13. Assumes nothing.
-use mathlib.Core.Path.{◌≡◌, refl, sym, ap, ◌∙◌}
-use borrow.Author.Rules.{rules}
+use mathlib.Core.Path.{refl, sym, ap, ◌∙◌}
 use Rattle.book.specs.Said.{Said}
 use Rattle.book.specs.Stop.Laws.{stop-number}
 use Rattle.translator.specs.Among.Laws.{among-nobody, among-refusable}

@@ -2,7 +2,6 @@
 -- listing is written. Assumes nothing.
 use mathlib.Core.Path.{refl}
 use lib.ListN.{length}
-use borrow.Author.Rules.{rules}
 use Rattle.translator.specs.Surveyed.Laws.{written-accepted}
 use Rattle.translator.proofs.Came.{refused-came, written-came}
 use Rattle.translator.proofs.translate.Goals as goal

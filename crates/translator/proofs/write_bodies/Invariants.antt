@@ -1,12 +1,7 @@
 -- `translator::write_bodies` meets its contract: the programs of the parties passed are written, and each turn adds
 -- one (`bodies-on`). Assumes nothing.
-use Prim.Native.Nat.{◌-◌, ◌<◌}
-use native.Mathlib.Omega.{arith}
-use borrow.Author.Rules.{rules}
-use Rattle.words.specs.Overlay.Laws.{wrote-length}
-use Rattle.book.specs.Layout.{parties}
-use Rattle.book.specs.Headed.Laws.{valid-headed}
-use Rattle.translator.proofs.Laid.{Laid, bodies-start, bodies-low, bodies-on, bodies-end}
+use Prim.Native.Nat.{◌-◌}
+use Rattle.translator.proofs.Laid.{Laid}
 use Rattle.translator.proofs.write_bodies.Given as goal
 
 abbrev pub invariant-loop-party : goal.invariant-loop-party

@@ -1,14 +1,7 @@
 -- `translator::write_heads` meets its contract: the heads of the parties passed are written while no walk stops
 -- (`heads-on`), and of those that stop the one at the smallest step is kept (`heads-off`). Assumes nothing.
-use mathlib.Core.Logic.{inl, inr}
-use mathlib.Core.Path.{◌≡◌, sym, ap, ◌∙◌}
-use lib.ListN.{length}
-use Prim.Native.Nat.{◌+◌, ◌-◌, ◌*◌}
-use native.Mathlib.Omega.{arith}
-use borrow.Author.Rules.{rules}
-use Rattle.book.specs.Headed.Laws.{valid-headed, few-parties}
-use Rattle.translator.specs.Among.Laws.{among-within}
-use Rattle.translator.proofs.Measuring.{Measuring, heads-start, heads-on, heads-off, heads-end}
+use Prim.Native.Nat.{◌-◌}
+use Rattle.translator.proofs.Measuring.{Measuring}
 use Rattle.translator.proofs.write_heads.Given as goal
 
 abbrev pub invariant-loop-party : goal.invariant-loop-party

@@ -1,7 +1,6 @@
 -- `translator::write_listing` meets its contract: the number of parties, the heads and the programs, one after
 -- another (`listing-wrote`). Assumes nothing.
 use native.Mathlib.Omega.{arith}
-use borrow.Author.Rules.{rules}
 use Rattle.book.specs.Headed.Laws.{valid-headed}
 use Rattle.translator.specs.Parts.Laws.{heads-there}
 use Rattle.translator.proofs.Listing.{front_low, listing-wrote}

@@ -1,10 +1,8 @@
 -- `walking::next_own` meets its contract: the contract is the loop's invariant, and a step that the party neither sends
 -- nor receives keeps it. Assumes nothing.
-use Prim.Native.Nat.{◌-◌}
 use native.Mathlib.Omega.{arith}
 use borrow.Author.Rules.{rules}
 use Rattle.book.specs.Headed.Laws.{valid-headed}
-use Rattle.walking.specs.Walk.{IdleUntil}
 use Rattle.walking.proofs.Idle.{idle-start, idle-on}
 use Rattle.walking.proofs.next_own.Goals as goal
 

@@ -1,6 +1,5 @@
 -- `walking::note` meets its contract: the step's sender notes it among the SENDs, its receiver among the RECEIVEs. Assumes
 -- nothing.
-use mathlib.Core.Path.{ap, ◌∙◌}
 use borrow.Author.Rules.{rules}
 use Rattle.book.specs.Headed.Laws.{valid-headed}
 use Rattle.walking.specs.Noted.Laws.{noted_step}

@@ -1,6 +1,5 @@
 -- `walking::note_own` meets its contract: the step is the party's, and its place is written, or it is another's. Assumes
 -- nothing.
-use borrow.Author.Rules.{rules}
 use Rattle.walking.specs.Noted.Laws.{noted_other, noted-there}
 use Rattle.walking.proofs.note_own.Goals as goal
 

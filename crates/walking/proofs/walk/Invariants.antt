@@ -1,18 +1,9 @@
 -- `walking::walk` meets its contract: the party came through the steps before its next one and has not stopped; a
 -- step at which it stops is the last. Assumes nothing.
-use Prim.Native.Nat.{ℕ, ◌+◌, ◌-◌, ◌≤◌, ◌<◌}
-use mathlib.Core.List.{List}
-use mathlib.Core.Path.{refl}
-use native.Mathlib.Omega.{arith}
-use borrow.Author.Rules.{rules}
-use Rattle.words.specs.Overlay.Laws.{wrote-length}
-use Rattle.book.specs.Layout.{steps}
-use Rattle.book.specs.Valid.{Valid}
-use Rattle.book.specs.Headed.Laws.{few-steps}
-use Rattle.translation.specs.Long.{most_events}
+use Prim.Native.Nat.{◌-◌}
 use Rattle.receiving.specs.Receiving.{standing}
 use Rattle.walking.specs.Walking.{WalkReady}
-use Rattle.walking.proofs.Walked.{Walked, walked_start, in-book, walked-ready, walked-few, acted-log, acted-out, noted-sends, noted-receives, walked-stops, walked_on, walked-ends}
+use Rattle.walking.proofs.Walked.{Walked}
 use Rattle.walking.proofs.walk.Given as goal
 
 abbrev pub invariant-loop-i : goal.invariant-loop-i

@@ -3,7 +3,6 @@
 use Prim.Native.Nat.{◌/◌}
 use mathlib.Core.Path.{refl}
 use lib.ListN.{length}
-use borrow.Author.Rules.{rules}
 use Rattle.translator.specs.Surveyed.Laws.{written-accepted}
 use Rattle.writing.proofs.Carried.{refused-came, written-came}
 use Rattle.writing.proofs.translate_words.Goals as goal

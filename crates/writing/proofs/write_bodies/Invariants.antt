@@ -1,12 +1,7 @@
 -- `writing::write_bodies` meets its contract: the bytes of the programs of the parties passed are written, and each turn
 -- adds one program's (`bodies-on`). Assumes nothing.
-use Prim.Native.Nat.{◌-◌, ◌<◌}
-use native.Mathlib.Omega.{arith}
-use borrow.Author.Rules.{rules}
-use Rattle.words.specs.Overlay.Laws.{wrote-length}
-use Rattle.book.specs.Layout.{parties}
-use Rattle.book.specs.Headed.Laws.{valid-headed}
-use Rattle.writing.proofs.Parts.{Laid, bodies-start, bodies-on, bodies-end}
+use Prim.Native.Nat.{◌-◌}
+use Rattle.writing.proofs.Parts.{Laid}
 use Rattle.writing.proofs.write_bodies.Given as goal
 
 abbrev pub invariant-loop-party : goal.invariant-loop-party

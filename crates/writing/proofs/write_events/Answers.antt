@@ -1,13 +1,12 @@
 -- `writing::write_events` meets its contract: the bytes of the steps before the party's next one are written, and each
 -- turn adds those of one step (`flushed-on`). Assumes nothing.
-use Prim.Native.Nat.{◌-◌, ◌<◌}
+use Prim.Native.Nat.{◌<◌}
 use mathlib.Core.Path.{refl}
 use native.Mathlib.Omega.{arith}
 use borrow.Author.Rules.{rules}
-use Rattle.words.specs.Overlay.Laws.{wrote-length}
 use Rattle.book.specs.Layout.{steps}
 use Rattle.book.specs.Headed.Laws.{valid-headed, few-steps}
-use Rattle.writing.proofs.Flushed.{Flushed, flushed-start, flushed-ready, flushed-size, flushed-few, flushed-on, flushed-end}
+use Rattle.writing.proofs.Flushed.{flushed-start, flushed-ready, flushed-size, flushed-few, flushed-on, flushed-end}
 use Rattle.writing.proofs.write_events.Goals as goal
 use Rattle.writing.proofs.write_events.Goals.{In-loop-i}
 

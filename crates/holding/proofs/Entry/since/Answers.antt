@@ -1,5 +1,4 @@
 -- `holding::Entry::since` meets its contract. Assumes nothing.
-use borrow.Author.Rules.{rules}
 use Rattle.holding.specs.Entry.Laws.{since-zero, since-given, since-step}
 use Rattle.holding.proofs.Entry.since.Goals as goal
 

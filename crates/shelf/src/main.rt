@@ -106,7 +106,8 @@ fn read_book<R: Read, E: Write>(reader: &mut R, errors: &mut E, bytes: &mut [u8]
                 return stop(errors, b"standard input ends inside a book\n");
             }
             let size = size_of(&head);
-            if Most::BYTES < size {
+            let most = Most::BYTES;
+            if most < size {
                 return stop(errors, b"a book has more words than are read\n");
             }
             read_bytes(reader, errors, &mut bytes[0..size])

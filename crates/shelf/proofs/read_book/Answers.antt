@@ -12,12 +12,12 @@ pub returns-then-n-lt4-clause-found : goal.returns-then-n-lt4-clause-found
 returns-then-n-lt4-clause-found g c =
     found_none _ _ _ _ c.stop.ensures.nothing (found_short _ (came-short _ _ _ 4 (search rules) c.in-Bytes.ensures.came (omega arith)))
 
-pub returns-then-size-gt-most-clause-found : goal.returns-then-size-gt-most-clause-found
-returns-then-size-gt-most-clause-found g c =
+pub returns-then-most-size-clause-found : goal.returns-then-most-size-clause-found
+returns-then-most-size-clause-found g c =
     let came = came-all _ _ _ c.in-Bytes.ensures.came (omega arith) in
-    found_none _ _ _ _ c.stop-then-size-gt-most.ensures.nothing (found_above _ _ _ came (search rules) (omega arith))
+    found_none _ _ _ _ c.stop-then-most-size.ensures.nothing (found_above _ _ _ came (search rules) (omega arith))
 
-pub returns-else-size-gt-most-clause-found : goal.returns-else-size-gt-most-clause-found
-returns-else-size-gt-most-clause-found g c =
+pub returns-else-most-size-clause-found : goal.returns-else-most-size-clause-found
+returns-else-most-size-clause-found g c =
     let came = came-all _ _ _ c.in-Bytes.ensures.came (omega arith) in
     found_filled c.read_bytes.result _ _ _ _ c.read_bytes.new.bytes _ came (search rules) (omega arith) (omega arith) c.read_bytes.ensures.filled

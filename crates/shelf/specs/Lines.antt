@@ -2,6 +2,7 @@
 -- G5 are the program's, as `nghiralum` keeps them.
 use Rattle.std.specs.Prelude.{ℕ, ◌+◌, Bool, true, false, List, ◌++◌, replicate}
 use Rattle.words.specs.Run.{values}
+use Rattle.octets.specs.Octets.{words_in}
 use Rattle.translation.specs.Outcome.{outcome}
 use Rattle.playing.specs.Rehearsal.{rehearsal}
 use Rattle.line.specs.Line.{line_of}
@@ -27,3 +28,7 @@ refused_lines b q = rehearsed_line b 48 (q + 1) 1 false ++ rehearsed_line b 4097
 -- a book's seven lines
 unfoldable pub book_lines : List ℕ → List ℕ
 book_lines b = translated_line b ++ played_lines b (seats b) ++ refused_lines b (seats b)
+
+-- of the book that the bytes make
+abbrev pub bytes_lines : List ℕ → List ℕ
+bytes_lines bytes = book_lines (words_in bytes)

@@ -1,6 +1,6 @@
 // The program over the whole shelf of books: reads books from standard input, each with its count of words before it, and prints
 // of each the listing or the refusal, and what its rehearsal comes to under six schedules, a line for each. `lines_of` leaves exactly
-// the lines' bytes, for any bytes that were read of a book; the rest reads and prints.
+// the lines' bytes, for any bytes that were read of a book; `run` prints these of each book that its reader has.
 #![tactic(auto)]
 
 ghost use Rattle.std.specs.Prelude.{◌≡◌, ◌+◌, ◌*◌, ◌^◌, ◌≤◌, ◌<◌, length, take};
@@ -11,7 +11,9 @@ ghost use Rattle.book.specs.Layout.{most, loaded_bytes};
 ghost use Rattle.line.specs.Line.{Put};
 ghost use Rattle.shelf.specs.Lines.{translated_line, rehearsed_line, played_lines, refused_lines, book_lines};
 ghost use Rattle.shelf.specs.Next.{Fits};
+ghost use Rattle.shelf.specs.Shelf.{Filled, Found, Ran};
 ghost use Rattle.shelf.specs.Turns.{turn, seats};
+ghost use Rattle.shelf.specs.declared.Next.TheVariants.{Nothing};
 
 use book::{Layout, Limit};
 use input::Input;
@@ -45,16 +47,18 @@ impl Most {
 }
 
 // What came next: a book of so many bytes, or nothing more, and where that is no proper end, it was
-// told.
+// told. Or reading failed, which was told too.
 #[derive(Drop)]
 enum Next {
     Book(usize),
     Nothing,
+    Failed,
 }
 
 // Says on standard error why there is nothing more.
 fn stop<E: Write>(errors: &mut E, why: &[u8]) -> Next
-    ensures { Fits result }
+    ensures fits { Fits result }
+    ensures nothing { result ≡ Nothing }
 {
     let _ = errors.write_all(why);
     Next::Nothing
@@ -63,7 +67,8 @@ fn stop<E: Write>(errors: &mut E, why: &[u8]) -> Next
 // Reads bytes until those that are lent for them are full.
 fn read_bytes<R: Read, E: Write>(reader: &mut R, errors: &mut E, bytes: &mut [u8]) -> Next
     requires { length bytes.old ≤ loaded_bytes }
-    ensures { Fits result }
+    ensures fits { Fits result }
+    ensures filled { Filled result (R.remaining reader.old) (R.remaining reader.new) bytes.new }
 {
     let input = input::fill(reader, errors, b"standard input", bytes);
     match input {
@@ -73,7 +78,7 @@ fn read_bytes<R: Read, E: Write>(reader: &mut R, errors: &mut E, bytes: &mut [u8
             }
             Next::Book(n)
         }
-        Input::Failed => Next::Nothing,
+        Input::Failed => Next::Failed,
     }
 }
 
@@ -87,7 +92,8 @@ fn size_of(head: &[u8; 4]) -> usize
 // Reads a book: its count of words, and then these.
 fn read_book<R: Read, E: Write>(reader: &mut R, errors: &mut E, bytes: &mut [u8]) -> Next
     requires { loaded_bytes ≤ length bytes.old }
-    ensures { Fits result }
+    ensures fits { Fits result }
+    ensures found { Found result (R.remaining reader.old) (R.remaining reader.new) bytes.new }
 {
     let mut head = [0u8; 4];
     let input = input::fill(reader, errors, b"standard input", &mut head);
@@ -100,12 +106,13 @@ fn read_book<R: Read, E: Write>(reader: &mut R, errors: &mut E, bytes: &mut [u8]
                 return stop(errors, b"standard input ends inside a book\n");
             }
             let size = size_of(&head);
-            if Most::BYTES < size {
+            let most = Most::BYTES;
+            if most < size {
                 return stop(errors, b"a book has more words than are read\n");
             }
             read_bytes(reader, errors, &mut bytes[0..size])
         }
-        Input::Failed => Next::Nothing,
+        Input::Failed => Next::Failed,
     }
 }
 
@@ -278,20 +285,29 @@ fn lines_of(bytes: &[u8], out: &mut [u8]) -> usize
     seven_lines(out, &words[..n])
 }
 
-fn main(rt: HostRuntime) {
-    let mut reader = rt.stdin();
-    let mut out = rt.stdout();
-    let mut errors = rt.stderr();
+// Reads books and prints the lines of each, as long as books come; whether no read and no write failed.
+fn run<R: Read, W: Write, E: Write>(reader: &mut R, out: &mut W, errors: &mut E) -> bool
+    ensures { Ran result (R.remaining reader.old) (W.contents out.old) (W.contents out.new) }
+{
     let mut bytes = [0u8; Most::BYTES];
     let mut lines = [0u8; Most::LINES];
+    let mut all = true;
     let mut books = 0;
     while books < Most::BOOKS {
-        let Next::Book(n) = read_book(&mut reader, &mut errors, &mut bytes) else {
-            return;
-        };
-        let end = lines_of(&bytes[..n], &mut lines);
-        line::print(&mut out, &mut errors, &lines[..end]);
+        match read_book(reader, errors, &mut bytes) {
+            Next::Book(n) => {
+                let end = lines_of(&bytes[..n], &mut lines);
+                all &= line::print(out, errors, &lines[..end]);
+            }
+            Next::Nothing => return all,
+            Next::Failed => return false,
+        }
         books += 1;
     }
     let _ = errors.write_all(b"no more than 65536 books are tried\n");
+    all
+}
+
+fn main(rt: HostRuntime) {
+    run(&mut rt.stdin(), &mut rt.stdout(), &mut rt.stderr());
 }

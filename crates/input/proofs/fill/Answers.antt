@@ -18,7 +18,7 @@ came-more at room n old part within fits =
 
 pub loop-n-preserved : goal.loop-n-preserved
 loop-n-preserved g c =
-    let more = came-more c.loop-n.n (length c.loop-n.bytes - c.loop-n.n) c.in-Ok.more c.loop-n.bytes c.read-got.new.buf c.loop-n.invariant.0 c.in-Ok.ensures.bound.0 in (
+    let more = came-more c.loop-n.n (length c.loop-n.bytes - c.loop-n.n) c.in-Ok.more c.loop-n.bytes c.read.new.buf c.loop-n.invariant.0 c.in-Ok.ensures.bound.0 in (
       search rules,
       search rules,
       subst (Consumes _ _) (sym more) (Consumes-trans _ _ _ _ _ c.loop-n.invariant.2 c.in-Ok.ensures.bytes.0),

@@ -1,7 +1,8 @@
 -- Laws of reading: the bytes that came are no more than there was room for, and are the front of what the reader had left. Assumes
 -- nothing.
 use Rattle.std.specs.Prelude.{ℕ, ◌<◌, ◌≤◌, ◌≡◌, Option, None, Some, IfSome, List, [], ◌++◌, length, take}
-use Rattle.std.proofs.Common.{arith, ap, ◌∙◌, append-nil, length-take-le}
+use Rattle.std.proofs.Common.{arith, ap, ◌∙◌, subst, append-nil, length-take-le}
+use Rattle.std.specs.Io.KnownBytes.{Consumes}
 use Rattle.std.proofs.Math.Decide.{dec_lt}
 use lib.Seq.{take_all, take-append_seam}
 use Rattle.input.specs.declared.Input.{Input}
@@ -28,3 +29,16 @@ came-front (Some bs) (Some rest) bytes room {input} {n} e few all came =
     let c : Came (Bytes n) (Some bs) (Some rest) bytes = rw e at came in
     let within : n ≤ length bytes = omega arith in
     ap (take room) c.0 ∙ front-room n room (take n bytes) rest (length-take-le n bytes within) few (λ less. c.1 (omega arith))
+
+-- where there was room for more, the reader had no more
+pub came-short : (left new : Option (List ℕ)) (bytes : List ℕ) (room : ℕ) {n : ℕ} → length bytes ≡ room → Came (Bytes n) left new bytes
+    → n < room → IfSome left (λ bs. length bs < room)
+came-short None new bytes room all came few = tt
+came-short (Some bs) None bytes room all came few = absurd came.0
+came-short (Some bs) (Some rest) bytes room {n} all came few =
+    let whole : bs ≡ take n bytes = came.0 ∙ ap (λ l. take n bytes ++ l) (came.1 (omega arith)) ∙ append-nil (take n bytes) in
+    omega (arith, ap length whole, length-take-le n bytes (omega arith))
+
+-- where there was not, all that there was room for
+pub came-all : (left new : Option (List ℕ)) (bytes : List ℕ) {n : ℕ} → Came (Bytes n) left new bytes → length bytes ≤ n → Consumes left new bytes
+came-all left new bytes {n} came all = subst (Consumes left new) (take_all n bytes all) came.0

@@ -2,8 +2,6 @@
 -- written lies in the lent words (`inside-bytes`). Assumes nothing.
 use mathlib.Core.Path.{◌∙◌, refl, ap}
 use native.Mathlib.Omega.{arith}
-use lib.ListN.{length-take}
-use borrow.Author.Rules.{rules}
 use Rattle.words.specs.Overlay.Laws.{wrote-length}
 use Rattle.line.specs.Line.{line_of}
 use Rattle.nghiralum.specs.Reply.{reply_line}

@@ -1,11 +1,7 @@
 -- `shelf::fill_turns` meets its contract: the moves that were passed are those of the turns, and each turn of the
 -- loop adds one (`filled_more`); at the end they are all (`filled-all`). Assumes nothing.
-use Prim.Native.Nat.{◌-◌, ◌≤◌}
-use mathlib.Core.Path.{◌≡◌}
 use native.Mathlib.Omega.{arith}
-use lib.ListN.{length}
 use borrow.Author.Rules.{rules}
-use Rattle.shelf.specs.Filled.{Filled}
 use Rattle.shelf.specs.Filled.Laws.{filled_more, filled-all}
 use Rattle.shelf.specs.Turns.{turn}
 use Rattle.shelf.proofs.fill_turns.Goals as goal

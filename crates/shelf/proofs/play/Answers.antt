@@ -9,12 +9,12 @@ use Rattle.shelf.proofs.play.Goals as goal
 
 -- what was written had room
 pub answer_line-requires : goal.answer_line-requires
-answer_line-requires c = let came = c.rehearse-answer in
+answer_line-requires c =
+    let came = c.rehearse-answer in
     (search rules, search rules, inside-rehearsal came.result _ _ _ _ came.ensures (omega arith))
 
 -- the line of what came of the schedule
-pub returns : goal.returns
-returns c = let book = c.args.book.now in
-    let (counts, line) = c.answer_line.ensures in
-    let turns = c.fill_turns.ensures in
-    (counts, line ∙ rehearsed-came book _ _ _ _ _ _ c.rehearse-answer.ensures turns refl)
+pub returns-clause-line_after : goal.returns-clause-line_after
+returns-clause-line_after c =
+    c.answer_line.ensures.line_after
+    ∙ rehearsed-came c.args.book.now _ _ _ _ _ _ c.rehearse-answer.ensures c.fill_turns.ensures refl

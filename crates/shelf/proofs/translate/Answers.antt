@@ -10,11 +10,11 @@ use Rattle.shelf.proofs.translate.Goals as goal
 
 -- what was written had room
 pub answer_line-requires : goal.answer_line-requires
-answer_line-requires c = let came = c.translate-answer in
+answer_line-requires c =
+    let came = c.translate-answer in
     (search rules, search rules, inside-outcome came.result _ _ _ came.ensures (omega arith))
 
 -- the line of what came
-pub returns : goal.returns
+pub returns-clause-line_after : goal.returns-clause-line_after
 unfolding translated_line
-returns c = let (counts, line) = c.answer_line.ensures in
-    (counts, line ∙ ap line_of c.translate-answer.ensures)
+returns-clause-line_after c = c.answer_line.ensures.line_after ∙ ap line_of c.translate-answer.ensures

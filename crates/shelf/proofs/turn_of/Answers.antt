@@ -3,7 +3,6 @@
 use Prim.Native.Nat.{◌/◌, ◌%◌, ◌<◌}
 use mathlib.Core.Path.{refl}
 use native.Mathlib.Omega.{arith}
-use borrow.Author.Rules.{rules}
 use Rattle.shelf.specs.Turns.Laws.{turn_below, turn_on, turn-back}
 use Rattle.shelf.proofs.turn_of.Goals as goal
 use Rattle.shelf.proofs.turn_of.Goals.{After-wide}

@@ -1,6 +1,5 @@
 -- `editor_c::nghiralum_apart` meets its contract: all that is said of bound names fits one number, capped. Assumes nothing.
 use mathlib.Core.Path.{ap}
-use borrow.Author.Rules.{rules}
 use Rattle.translation.specs.Outcome.{Outcome}
 use Rattle.packing.specs.Packed.Derivations.{apart-small}
 use Rattle.packing.specs.Packed.Laws.{packed-checked}

@@ -1,6 +1,5 @@
 -- `editor_c::nghiralum_ask` meets its contract: every reply fits one number. Assumes nothing.
 use mathlib.Core.Path.{ap, ◌∙◌}
-use borrow.Author.Rules.{rules}
 use Rattle.editor.specs.Bytes.Laws.{asked-bytes-small}
 use Rattle.packing.specs.Packed.{pack as pack_of, capped as capped_of}
 use Rattle.editor_c.proofs.nghiralum_ask.Goals as goal

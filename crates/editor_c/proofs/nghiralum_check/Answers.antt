@@ -1,7 +1,6 @@
 -- `editor_c::nghiralum_check` meets its contract: all that is said of a derivation fits one number, capped. Assumes
 -- nothing.
 use mathlib.Core.Path.{ap}
-use borrow.Author.Rules.{rules}
 use Rattle.translation.specs.Outcome.{Outcome}
 use Rattle.packing.specs.Packed.Derivations.{checked-packs}
 use Rattle.packing.specs.Packed.Laws.{packed-checked}

@@ -1,7 +1,6 @@
 -- `editor_c::nghiralum_judge` meets its contract: every verdict fits one number. Assumes nothing.
 use mathlib.Core.Path.{ap, ◌∙◌}
 use native.Mathlib.Omega.{arith}
-use borrow.Author.Rules.{rules}
 use Rattle.editor.specs.Bytes.Judged.{judged-packs}
 use Rattle.packing.specs.Packed.{pack as pack_of}
 use Rattle.editor_c.proofs.nghiralum_judge.Goals as goal

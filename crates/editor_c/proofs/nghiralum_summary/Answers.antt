@@ -1,6 +1,5 @@
 -- `editor_c::nghiralum_summary` meets its contract: every answer about a summary fits one number. Assumes nothing.
 use mathlib.Core.Path.{ap}
-use borrow.Author.Rules.{rules}
 use Rattle.translation.specs.Outcome.{Outcome}
 use Rattle.editor.specs.Bytes.Laws.{summary-bytes-small}
 use Rattle.packing.specs.Packed.Laws.{packed-came}

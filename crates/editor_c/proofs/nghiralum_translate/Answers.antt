@@ -1,6 +1,5 @@
 -- `editor_c::nghiralum_translate` meets its contract: every answer of a translation fits one number. Assumes nothing.
 use mathlib.Core.Path.{ap}
-use borrow.Author.Rules.{rules}
 use Rattle.translation.specs.Outcome.{Outcome}
 use Rattle.editor.specs.Bytes.Laws.{translation-bytes-small}
 use Rattle.packing.specs.Packed.Laws.{packed-came}

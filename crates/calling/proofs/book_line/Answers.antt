@@ -2,7 +2,6 @@
 -- line of their own (`calls-question` and its kin). Assumes nothing.
 use mathlib.Core.Path.{sym, ◌∙◌}
 use native.Mathlib.Omega.{arith}
-use borrow.Author.Rules.{rules}
 use Rattle.calling.specs.Call.Laws.{on-words, on-bytes, calls-question, calls-judgement, calls-bytes, calls-words}
 use Rattle.calling.proofs.book_line.Goals as goal
 

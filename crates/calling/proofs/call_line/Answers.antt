@@ -2,7 +2,6 @@
 -- `calls-book`). Assumes nothing.
 use mathlib.Core.Path.{◌∙◌}
 use native.Mathlib.Omega.{arith}
-use borrow.Author.Rules.{rules}
 use Rattle.calling.specs.Call.Laws.{calls-typing, calls-book}
 use Rattle.calling.proofs.call_line.Goals as goal
 

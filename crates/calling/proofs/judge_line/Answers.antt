@@ -2,7 +2,6 @@
 -- number 11 and on bytes by number 12 (`calls-judge`, `calls-judge-bytes`). Assumes nothing.
 use mathlib.Core.Path.{◌∙◌}
 use native.Mathlib.Omega.{arith}
-use borrow.Author.Rules.{rules}
 use Rattle.functions.specs.Functions.Laws.{judges-bytes}
 use Rattle.calling.specs.Call.Laws.{calls-judge, calls-judge-bytes}
 use Rattle.calling.proofs.judge_line.Goals as goal

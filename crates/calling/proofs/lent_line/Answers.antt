@@ -4,7 +4,6 @@ use Prim.Native.Nat.{◌≤◌}
 use mathlib.Core.Path.{refl, ◌∙◌, ap}
 use native.Mathlib.Omega.{arith}
 use lib.ListN.{length, length-take}
-use borrow.Author.Rules.{rules}
 use Rattle.octets.specs.Octets.Laws.{words-length, loaded-many}
 use Rattle.translation.specs.Outcome.{came}
 use Rattle.line.specs.Line.{line_of}

@@ -4,7 +4,6 @@ use Prim.Native.Nat.{◌≤◌}
 use mathlib.Core.Path.{refl, sym, ◌∙◌}
 use native.Mathlib.Omega.{arith}
 use lib.Seq.{length-take-le}
-use borrow.Author.Rules.{rules}
 use Rattle.octets.specs.Octets.Laws.{loaded-many}
 use Rattle.telling.specs.Loaded.{loaded-words}
 use Rattle.calling.specs.Call.Laws.{front-few, words-loaded}

@@ -2,7 +2,6 @@
 -- number 8 and on bytes by number 10 (`calls-ask`, `calls-ask-bytes`). Assumes nothing.
 use mathlib.Core.Path.{◌∙◌}
 use native.Mathlib.Omega.{arith}
-use borrow.Author.Rules.{rules}
 use Rattle.functions.specs.Functions.Laws.{asks-bytes}
 use Rattle.calling.specs.Call.Laws.{calls-ask, calls-ask-bytes}
 use Rattle.calling.proofs.question_line.Goals as goal

@@ -2,7 +2,6 @@
 -- (`calls-check` and its kin). Assumes nothing.
 use mathlib.Core.Path.{◌∙◌}
 use native.Mathlib.Omega.{arith}
-use borrow.Author.Rules.{rules}
 use Rattle.calling.specs.Call.Laws.{calls-check, calls-check-bytes, calls-apart, calls-apart-bytes, last-typing}
 use Rattle.calling.proofs.typing_line.Goals as goal
 

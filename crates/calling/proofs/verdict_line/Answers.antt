@@ -2,7 +2,6 @@
 -- `calls-accept`). Assumes nothing.
 use mathlib.Core.Path.{◌∙◌}
 use native.Mathlib.Omega.{arith}
-use borrow.Author.Rules.{rules}
 use Rattle.calling.specs.Call.Laws.{calls-read, calls-accept}
 use Rattle.calling.proofs.verdict_line.Goals as goal
 

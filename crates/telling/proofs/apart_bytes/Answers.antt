@@ -1,7 +1,6 @@
 -- `telling::apart_bytes` meets its contract: there is room for the words (`apart-roomy`). Assumes nothing.
 use mathlib.Core.Path.{ap, ◌∙◌}
 use native.Mathlib.Omega.{arith}
-use borrow.Author.Rules.{rules}
 use Rattle.translation.specs.Outcome.{Outcome}
 use Rattle.examining.specs.Checked.Laws.{apart-roomy}
 use Rattle.telling.proofs.apart_bytes.Goals as goal

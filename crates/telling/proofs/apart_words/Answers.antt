@@ -4,7 +4,6 @@ use Prim.Native.Nat.{◌≤◌}
 use mathlib.Core.Path.{refl, sym, ap, ◌∙◌}
 use native.Mathlib.Omega.{arith}
 use lib.Seq.{length-take-le}
-use borrow.Author.Rules.{rules}
 use Rattle.octets.specs.Octets.Laws.{loaded-many}
 use Rattle.typing.specs.Apart.{keeps_apart}
 use Rattle.examining.specs.Checked.Laws.{said-apart, said-not-apart}

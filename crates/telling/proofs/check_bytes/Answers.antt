@@ -1,7 +1,6 @@
 -- `telling::check_bytes` meets its contract: there is room for both (`checked-roomy`). Assumes nothing.
 use mathlib.Core.Path.{ap, ◌∙◌}
 use native.Mathlib.Omega.{arith}
-use borrow.Author.Rules.{rules}
 use Rattle.translation.specs.Outcome.{Outcome}
 use Rattle.examining.specs.Checked.Laws.{checked-roomy}
 use Rattle.telling.proofs.check_bytes.Goals as goal

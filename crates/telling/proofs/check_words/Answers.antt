@@ -4,7 +4,6 @@ use Prim.Native.Nat.{◌≤◌}
 use mathlib.Core.Path.{refl, sym, ap, ◌∙◌}
 use native.Mathlib.Omega.{arith}
 use lib.Seq.{length-take-le}
-use borrow.Author.Rules.{rules}
 use Rattle.octets.specs.Octets.Laws.{loaded-many}
 use Rattle.examining.specs.Checked.{verdict_said}
 use Rattle.telling.specs.Loaded.{loaded-words, checks-loaded}

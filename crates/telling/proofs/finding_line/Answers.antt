@@ -1,6 +1,5 @@
 -- `telling::finding_line` meets its contract: by the finding (`line-safe` and its kin). Assumes nothing.
 use mathlib.Core.Path.{refl, ◌∙◌}
-use native.Mathlib.Omega.{arith}
 use Rattle.words.specs.First.{first, first_from}
 use Rattle.line.specs.Line.{places, decimal, spaced}
 use Rattle.telling.specs.Found.Laws.{line-safe, line-bad, line-another, line-large}

@@ -1,7 +1,6 @@
 -- `telling::judgement_line` meets its contract: by the verdict (`line-same`, `line-differs`, `line-unjudged`). Assumes
 -- nothing.
 use mathlib.Core.Path.{refl, ◌∙◌}
-use native.Mathlib.Omega.{arith}
 use Rattle.telling.specs.Judgement.Laws.{line_same, line-differs, line-unjudged}
 use Rattle.telling.proofs.judgement_line.Goals as goal
 

@@ -1,6 +1,5 @@
 -- `telling::numbered_line` meets its contract: the text, the number behind it and the newline (`line-numbered`). Assumes
 -- nothing.
-use native.Mathlib.Omega.{arith}
 use Rattle.telling.specs.Numbered.Laws.{line-numbered}
 use Rattle.telling.proofs.numbered_line.Goals as goal
 

@@ -1,6 +1,5 @@
 -- `telling::reply_line` meets its contract: by the reply (`line-yes`, `line-no`, `line-refusal`). Assumes nothing.
 use mathlib.Core.Path.{refl, ◌∙◌}
-use native.Mathlib.Omega.{arith}
 use Rattle.telling.specs.Reply.Laws.{line-yes, line-no, line-refusal}
 use Rattle.telling.proofs.reply_line.Goals as goal
 

@@ -15,7 +15,7 @@ use Rattle.translation.specs.Narration.{Narration, step_at, narration, known_to,
 use Rattle.translation.specs.Taken.{Nobodys, step_of, Playable}
 use Rattle.translation.specs.Taken.Laws.{steps-length, step_is}
 use Rattle.translation.specs.Spelled.{end_alone, Programs}
-use Rattle.translation.specs.Spelled.Laws.{accepted-plays}
+use Rattle.translation.proofs.Spelled.Laws.{accepted-plays}
 use Rattle.translation.specs.Outcome.{outcome, Plays}
 use Rattle.agreement.specs.Machine.{System, Move, begin, Reach}
 use Rattle.agreement.specs.Agree.{meant, receiver_of, AtEnd, Agree}

@@ -18,8 +18,8 @@ use Rattle.translation.specs.Outcome.Laws.{came_refused, came-written, laid-keep
 use Rattle.playing.specs.Rehearsal.{events_done, rehearsal_says}
 use Rattle.playing.specs.Rehearsal.Laws.{exactly-played, played-says, done-length}
 use Rattle.summary.specs.Summary.{summary, summary_says}
-use Rattle.summary.specs.Summary.Laws.{summary-length}
-use Rattle.summary.specs.Summary.Written.{exactly-summarized, summarized-says}
+use Rattle.summary.proofs.Summary.Laws.{summary-length}
+use Rattle.summary.proofs.Summary.Written.{exactly-summarized, summarized-says}
 use Rattle.relaying.specs.Relayed.Laws.{room-enough, summary-room-enough}
 
 -- ---- an output that is laid over what was lent keeps its length

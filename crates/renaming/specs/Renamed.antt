@@ -5,7 +5,6 @@ use Rattle.std.specs.Prelude.{ℕ, zero, suc, ◌+◌, ◌≤◌, ◌<◌, List,
 use Rattle.translation.specs.Low.{word_limit}
 use Rattle.renaming.specs.Slot.{Slot, spelt}
 use Rattle.renaming.specs.Renaming.{OneToOne}
-pub mod Laws
 
 -- their word y, where ours has this slot: a placeholder is renamed by τ, another word stays
 unfoldable pub renamed : (ℕ → ℕ) → Slot → ℕ → ℕ

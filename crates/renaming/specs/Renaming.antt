@@ -13,7 +13,6 @@ use Rattle.renaming.specs.Slot.{Slot}
 pub mod Fresh
 pub mod Laws
 pub mod Turning
-pub mod Exact
 pub mod Ours
 
 -- m is none of the n numbers from y on

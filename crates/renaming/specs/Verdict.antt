@@ -11,9 +11,6 @@ use Rattle.renaming.specs.Slot.{Slot, part_slots}
 use Rattle.renaming.specs.Renaming.{all_agree, place_of}
 use Rattle.renaming.specs.declared.Verdict.{Verdict}
 use Rattle.renaming.specs.declared.Verdict.TheVariants.{Same, Differs, Refused}
-pub mod Laws
-pub mod Judged
-pub mod Returned
 
 -- of our slots and their words
 unfoldable pub verdict_of : List Slot → List ℕ → Said

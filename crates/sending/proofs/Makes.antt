@@ -18,7 +18,7 @@ use Rattle.translation.specs.Dictionary.{Held, is_held, Dictionary}
 use Rattle.translation.specs.Build.{build, build_all}
 use Rattle.translation.specs.Listing.{event_words, program_words}
 use Rattle.translation.specs.Long.{step_size}
-use Rattle.translation.specs.Long.Laws.{news-words}
+use Rattle.translation.proofs.Long.Laws.{news-words}
 use Rattle.holding.specs.Entry.{held_of}
 use Rattle.holding.specs.Entry.Laws.{held_at}
 use Rattle.holding.specs.View.{row_of, view}

@@ -15,7 +15,7 @@ use Rattle.terms.specs.Table.{term}
 use Rattle.book.specs.Valid.{Valid}
 use Rattle.translation.specs.Taken.{joined}
 use Rattle.translation.specs.Source.{source_of, since_of}
-use Rattle.translation.specs.Steps.Laws.{before-holds}
+use Rattle.translation.proofs.Steps.Laws.{before-holds}
 use Rattle.holding.specs.Entry.{held_of}
 use Rattle.holding.specs.View.Laws.{view-row}
 use Rattle.walking.specs.Walking.{Holding}
@@ -24,8 +24,8 @@ use Rattle.book.specs.declared.Refusal.TheVariants.{Room}
 use Rattle.translation.specs.Outcome.{came, Plays}
 use Rattle.translation.specs.declared.Answer.TheVariants.{Written, Refused}
 use Rattle.summary.specs.Summary.{held_from, held_words, held_to, summary_words, summary, summarized}
-use Rattle.summary.specs.Summary.Written.{summary-room-came, summary-written-came}
-use Rattle.summary.specs.Summary.Laws.{held_from-source}
+use Rattle.summary.proofs.Summary.Written.{summary-room-came, summary-written-came}
+use Rattle.summary.proofs.Summary.Laws.{held_from-source}
 use Rattle.summary.specs.Writing.{since_words, PartyReady}
 
 -- ---- one party

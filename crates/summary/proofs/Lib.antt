@@ -1,2 +1,4 @@
 pub mod Bounds
 pub mod Held
+pub mod Summary
+pub mod Replies

@@ -8,7 +8,6 @@ use Rattle.terms.specs.Table.{number}
 use Rattle.book.specs.Layout.{table, rows, parties}
 use Rattle.translation.specs.Receive.{Event, Stored}
 use Rattle.translation.specs.Narration.{narration, program_of}
-pub mod Laws
 
 -- `row` gives the row of a term
 module _ (row : Term → ℕ) where

@@ -4,7 +4,6 @@ use Rattle.std.specs.Prelude.{ℕ, ◌+◌, ◌*◌, ◌≤◌, length}
 use Rattle.terms.specs.Term.{Term}
 use Rattle.translation.specs.Receive.{Did}
 use Rattle.translation.specs.Listing.{program_words}
-pub mod Laws
 
 -- the sizes of a step's messages: 8 of at most 1,024
 abbrev pub step_size : ℕ

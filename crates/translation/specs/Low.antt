@@ -6,7 +6,6 @@ use Rattle.terms.specs.Term.{Term, Terms, count}
 use Rattle.translation.specs.Dictionary.{Held, Dictionary}
 use Rattle.translation.specs.Receive.{Did}
 use Rattle.translation.specs.Listing.{triple_words, program_words}
-pub mod Laws
 
 -- 2 to the 32
 abbrev pub word_limit : ℕ

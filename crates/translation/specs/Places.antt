@@ -5,7 +5,6 @@ use Rattle.book.specs.Layout.{sender, receiver}
 use Rattle.translation.specs.Receive.{Event}
 use Rattle.translation.specs.Standing.{standing_at, if_sends, if_waits, if_ended}
 use Rattle.translation.specs.Narration.{narration, program_of}
-pub mod Laws
 
 -- how many events come before the first that passes the test
 unfoldable pub place_of : (Event → Bool) → List Event → ℕ

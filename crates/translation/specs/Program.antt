@@ -7,7 +7,6 @@ use Rattle.terms.specs.Term.{Term, Terms, count, listed}
 use Rattle.translation.specs.Dictionary.{Dictionary, start}
 use Rattle.translation.specs.Build.{AllBuilt, build_all}
 use Rattle.translation.specs.Receive.{Event, Did, nothing, followed, receive_all}
-pub mod Laws
 
 pub record Step : Type 0 where
   pub sender : ℕ

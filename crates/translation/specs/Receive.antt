@@ -5,7 +5,6 @@ use Rattle.words.specs.Choice.{pick}
 use Rattle.terms.specs.Term.{Term, Terms, count, listed, partner}
 use Rattle.terms.specs.Image.{Image, Images}
 use Rattle.translation.specs.Dictionary.{Held, Dictionary, enter, buildable, image}
-pub mod Laws
 
 -- ---- events
 -- a term that was stored: the placeholder, and the step

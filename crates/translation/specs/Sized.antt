@@ -7,7 +7,6 @@ use Rattle.terms.specs.Image.{Image, Images, words}
 use Rattle.terms.specs.Table.{term, terms, row_size, number}
 use Rattle.book.specs.Layout.{table, rows, messages, steps}
 use Rattle.translation.specs.Receive.{Event, Stored}
-pub mod Laws
 
 -- placeholder x was handed out for the term t, where those from 0 on were handed out for these terms
 pub data GivenAt : List Term → ℕ → Term → Type 0 where

@@ -9,7 +9,6 @@ use Rattle.translation.specs.Dictionary.{Held}
 use Rattle.translation.specs.Receive.{Event, Stored}
 use Rattle.translation.specs.Narration.{narration, program_of}
 use Rattle.translation.specs.Taken.{holds_before, made_at}
-pub mod Laws
 pub mod Trials
 
 -- how party p holds row r after all steps

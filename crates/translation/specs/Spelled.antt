@@ -10,7 +10,6 @@ use Rattle.book.specs.Layout.{table, parties}
 use Rattle.translation.specs.Receive.{Event}
 use Rattle.translation.specs.Narration.{Narration, program_of}
 use Rattle.translation.specs.Spelling.{read_program, part_of}
-pub mod Laws
 
 abbrev pub end_alone : List Event
 end_alone = Event.ends [] ∷ []

@@ -8,7 +8,6 @@ use Rattle.words.specs.Run.{run}
 use Rattle.terms.specs.Term.{Term}
 use Rattle.terms.specs.Image.{Image, Images}
 use Rattle.translation.specs.Receive.{Event, Stored}
-pub mod Laws
 
 -- what was read, and the words behind it
 abbrev pub Read : Type 0 → Type 0

@@ -8,7 +8,6 @@ use Rattle.translation.specs.Dictionary.{Dictionary}
 use Rattle.translation.specs.Receive.{Did}
 use Rattle.translation.specs.Program.{acts_of, walk, walked}
 use Rattle.translation.specs.Narration.{step_at}
-pub mod Laws
 
 -- what step i adds for party p, where n is the next placeholder
 unfoldable pub step_did : List ℕ → ℕ → ℕ → Dictionary → ℕ → Did

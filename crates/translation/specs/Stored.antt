@@ -5,7 +5,6 @@ use Rattle.words.specs.Choice.{pick}
 use Rattle.words.specs.Sum.{sum}
 use Rattle.terms.specs.Table.{Table, term}
 use Rattle.translation.specs.Dictionary.{Dictionary, is_held}
-pub mod Laws
 
 -- of the first n rows
 unfoldable pub rows_held : Table → ℕ → Dictionary → ℕ

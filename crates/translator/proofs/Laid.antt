@@ -11,7 +11,7 @@ use Rattle.book.specs.Valid.{Valid}
 use Rattle.book.specs.Headed.Laws.{few-parties}
 use Rattle.translation.specs.Listing.{bodies, part_words}
 use Rattle.translation.specs.Long.{most_part, most_listing}
-use Rattle.translation.specs.Long.Laws.{bodies-short}
+use Rattle.translation.proofs.Long.Laws.{bodies-short}
 use Rattle.translator.specs.Parts.{programs_to, bodies_of}
 use Rattle.translator.specs.Parts.Laws.{bodies-more}
 

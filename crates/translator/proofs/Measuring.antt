@@ -13,7 +13,7 @@ use Rattle.book.specs.Stop.{nowhere}
 use Rattle.book.specs.declared.Stop.{Stop}
 use Rattle.translation.specs.Listing.{heads, bodies, part_words}
 use Rattle.translation.specs.Long.{most_part}
-use Rattle.translation.specs.Long.Laws.{listing-length}
+use Rattle.translation.proofs.Long.Laws.{listing-length}
 use Rattle.book.specs.Valid.{Valid}
 use Rattle.walking.specs.declared.Measured.{Measured}
 use Rattle.walking.specs.Walking.{Measures}

@@ -11,7 +11,6 @@ use Rattle.typing.specs.Types.{Environment, ◌⦂◌}
 use Rattle.typing.specs.Process.{Process}
 use Rattle.typing.specs.Reading.{environment_at, process_at}
 use Rattle.typing.specs.Derivation.{holds, whole, Spells}
-pub mod Laws
 
 -- the binders of a process, in the order in which they are written
 unfoldable pub binders : Process → List ℕ

@@ -5,7 +5,6 @@
 use Rattle.std.specs.Prelude.{ℕ, suc, Bool, true, false, List, [], ◌∷◌, ltb, eqb}
 use Rattle.words.specs.Choice.{pick, choose}
 use Rattle.typing.specs.Term.{Effect, same_effect, effect_words}
-pub mod Laws
 
 -- word by word, the first is no later than the second
 unfoldable pub up_to : List ℕ → List ℕ → Bool

@@ -8,7 +8,6 @@ use Rattle.typing.specs.Types.{Ty, Entry, Environment, ◌⦂◌, generatable, s
 use Rattle.typing.specs.Process.{Process}
 use Rattle.typing.specs.Judgement.{Judgement, same_judgement, same_judgements}
 use Rattle.typing.specs.Rule.{Rule, binding, putting}
-pub mod Laws
 
 -- ---- parts. Where there is no such part, what is given here is no matter: what is written out from it differs from what is given
 unfoldable pub left : Term → Term

@@ -19,7 +19,6 @@ use Rattle.typing.specs.Judgement.{Judgement, same_judgement}
 use Rattle.typing.specs.Rule.{Rule, Instance}
 use Rattle.typing.specs.Check.{follows}
 use Rattle.typing.specs.Reading.{Read, term, effects, type_at, environment_at, process_at}
-pub mod Laws
 
 -- ---- the rules, by number from 1 on: what each concludes, and from how many premises
 pub data Kind : Type 0 where

@@ -20,12 +20,12 @@ use Rattle.book.specs.Headed.Laws.{few-steps}
 use Rattle.translation.specs.Build.{build_all}
 use Rattle.translation.specs.Build.Laws.{build_all-made}
 use Rattle.translation.specs.Receive.{Did, Event, followed, receive_all}
-use Rattle.translation.specs.Receive.Laws.{receive_all-settles}
+use Rattle.translation.proofs.Receive.Laws.{receive_all-settles}
 use Rattle.translation.specs.Program.{sent}
 use Rattle.translation.specs.Listing.{program_words, triple_words, event_words}
-use Rattle.translation.specs.Steps.Laws.{step-sends, step-receives, step-idle}
+use Rattle.translation.proofs.Steps.Laws.{step-sends, step-receives, step-idle}
 use Rattle.translation.specs.Long.{step_size}
-use Rattle.translation.specs.Long.Laws.{step-sizes, step-within, triples-length}
+use Rattle.translation.proofs.Long.Laws.{step-sizes, step-within, triples-length}
 use Rattle.holding.specs.View.{row_of, view}
 use Rattle.holding.specs.Doing.Laws.{doing-none, doing-then, doing-as}
 use Rattle.sending.specs.Sending.{SendReady, Sends}

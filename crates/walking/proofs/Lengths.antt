@@ -11,7 +11,7 @@ use Rattle.book.specs.Valid.{Valid}
 use Rattle.translation.specs.Listing.{program_words}
 use Rattle.translation.specs.Steps.{before}
 use Rattle.translation.specs.Long.{most_events, most_part}
-use Rattle.translation.specs.Long.Laws.{all-within, triples-length, stored-few}
+use Rattle.translation.proofs.Long.Laws.{all-within, triples-length, stored-few}
 use Rattle.holding.specs.View.{row_of}
 use Rattle.walking.specs.declared.Passed.{Passed}
 use Rattle.walking.specs.Walking.{Along, Walking}

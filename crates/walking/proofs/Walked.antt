@@ -13,9 +13,9 @@ use Rattle.book.specs.declared.Stop.{Stop}
 use Rattle.translation.specs.Receive.{Did}
 use Rattle.translation.specs.Places.{places_of}
 use Rattle.translation.specs.Steps.{before}
-use Rattle.translation.specs.Steps.Laws.{before-none}
+use Rattle.translation.proofs.Steps.Laws.{before-none}
 use Rattle.translation.specs.Long.{most_events}
-use Rattle.translation.specs.Long.Laws.{before-within, all-within}
+use Rattle.translation.proofs.Long.Laws.{before-within, all-within}
 use Rattle.holding.specs.View.{row_of}
 use Rattle.holding.specs.Doing.Laws.{doing-none, doing-as}
 use Rattle.receiving.specs.declared.Received.{Received}

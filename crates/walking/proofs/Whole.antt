@@ -10,7 +10,7 @@ use Rattle.book.specs.Layout.{parties, steps}
 use Rattle.book.specs.Valid.{Valid}
 use Rattle.translation.specs.Listing.{triple_words, part_words}
 use Rattle.translation.specs.Steps.{before}
-use Rattle.translation.specs.Long.Laws.{triples-length, part_length}
+use Rattle.translation.proofs.Long.Laws.{triples-length, part_length}
 use Rattle.holding.specs.View.{row_of}
 use Rattle.walking.specs.declared.Passed.{Passed}
 use Rattle.walking.specs.Walk.{Unrefused}

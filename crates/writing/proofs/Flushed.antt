@@ -15,11 +15,11 @@ use Rattle.book.specs.Valid.{Valid}
 use Rattle.translation.specs.Dictionary.{start}
 use Rattle.translation.specs.Receive.{Did}
 use Rattle.translation.specs.Listing.{program_words}
-use Rattle.translation.specs.Listing.Laws.{program-append}
+use Rattle.translation.proofs.Listing.Laws.{program-append}
 use Rattle.translation.specs.Steps.{before}
-use Rattle.translation.specs.Steps.Laws.{before-none}
+use Rattle.translation.proofs.Steps.Laws.{before-none}
 use Rattle.translation.specs.Long.{step_words}
-use Rattle.translation.specs.Long.Laws.{step-within, all-within, triples-length}
+use Rattle.translation.proofs.Long.Laws.{step-within, all-within, triples-length}
 use Rattle.holding.specs.View.{row_of, view}
 use Rattle.holding.specs.Doing.Laws.{doing-none, doing-as, doing-counted}
 use Rattle.receiving.specs.declared.Received.{Received}

@@ -13,7 +13,7 @@ use Rattle.book.specs.Layout.{parties, steps}
 use Rattle.book.specs.Headed.Laws.{valid-headed}
 use Rattle.translation.specs.Listing.{program_words, triple_words, bodies, part_words, listing}
 use Rattle.translation.specs.Steps.{before}
-use Rattle.translation.specs.Long.Laws.{stored-few, triples-length}
+use Rattle.translation.proofs.Long.Laws.{stored-few, triples-length}
 use Rattle.holding.specs.View.{row_of}
 use Rattle.walking.specs.Walking.Laws.{part-words}
 use Rattle.translator.specs.Parts.{programs_to, heads_of, HeadsIn, bodies_of}

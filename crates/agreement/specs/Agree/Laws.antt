@@ -4,7 +4,7 @@ use Rattle.book.specs.Layout.{parties}
 use Rattle.translation.specs.Narration.{narration}
 use Rattle.translation.specs.Outcome.{outcome}
 use Rattle.translation.specs.Spelled.{spelled}
-use Rattle.translation.specs.Spelled.Laws.{accepted-programs}
+use Rattle.translation.proofs.Spelled.Laws.{accepted-programs}
 use Rattle.agreement.specs.Machine.{System, started, Reach}
 use Rattle.agreement.specs.Agree.{receiver_of, Agree, EndsBound}
 use Rattle.agreement.specs.Start.{reached-going, reached-agree, accepted-playable}

@@ -12,7 +12,7 @@ use Rattle.translation.specs.Receive.{Event}
 use Rattle.translation.specs.Narration.{Narration, narration, known_to}
 use Rattle.translation.specs.Outcome.{outcome}
 use Rattle.translation.specs.Spelled.{spelled, Programs}
-use Rattle.translation.specs.Spelled.Laws.{accepted-programs}
+use Rattle.translation.proofs.Spelled.Laws.{accepted-programs}
 use Rattle.agreement.specs.Machine.{System, Move, move, begin, started, Reach}
 use Rattle.agreement.specs.Agree.{receiver_of, Does, CanMove}
 use Rattle.agreement.specs.Flow.Laws.{does-handed}

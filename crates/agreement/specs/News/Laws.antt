@@ -19,9 +19,9 @@ use Rattle.translation.specs.Dictionary.{Dictionary, start}
 use Rattle.translation.specs.Build.{build_all}
 use Rattle.translation.specs.Build.Laws.{build_all-makes, derives_all-free}
 use Rattle.translation.specs.Receive.{Event, Did, followed, receive_all}
-use Rattle.translation.specs.Receive.Laws.{Quiet, receive_all-quiet}
+use Rattle.translation.proofs.Receive.Laws.{Quiet, receive_all-quiet}
 use Rattle.translation.specs.Program.{Step, Act, acts_of, act, walk, walked, program}
-use Rattle.translation.specs.Program.Laws.{acts-append, walk-append}
+use Rattle.translation.proofs.Program.Laws.{acts-append, walk-append}
 use Rattle.translation.specs.Narration.{Narration, known_to, program_of}
 use Rattle.translation.specs.Taken.{Taken, Nobodys, step_of, holds_before, made_at, Makeable, Playable}
 use Rattle.agreement.specs.Acts.Laws.{step-seam, split-on, length-on}

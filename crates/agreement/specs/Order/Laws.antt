@@ -11,7 +11,7 @@ use Rattle.terms.specs.Image.{Images}
 use Rattle.translation.specs.Dictionary.{Dictionary, start}
 use Rattle.translation.specs.Build.{build_all}
 use Rattle.translation.specs.Receive.{Event}
-use Rattle.translation.specs.Receive.Laws.{Quiet, receive_all-quiet}
+use Rattle.translation.proofs.Receive.Laws.{Quiet, receive_all-quiet}
 use Rattle.translation.specs.Program.{Act, act, walk, walked, program}
 use Rattle.translation.specs.Narration.{Narration, known_to, program_of}
 use Rattle.translation.specs.Taken.{step_of}

@@ -11,7 +11,7 @@ use Rattle.terms.specs.Term.Laws.{count-listed}
 use Rattle.translation.specs.Dictionary.{Held, Dictionary, start, buildable}
 use Rattle.translation.specs.Build.{build_all}
 use Rattle.translation.specs.Receive.{Event, Stored, Did, nothing, followed, can_open, rule, by_rule, compared, kept, opened, receive, receive_all}
-use Rattle.translation.specs.Receive.Laws.{rule-ind}
+use Rattle.translation.proofs.Receive.Laws.{rule-ind}
 use Rattle.translation.specs.Program.{Act, arrived, sent, act, walk, walked, program}
 use Rattle.translation.specs.Narration.{Narration}
 use Rattle.agreement.specs.Agree.{Narrated}

@@ -7,7 +7,7 @@ use Rattle.std.proofs.Math.Path.{ap}
 use Rattle.words.specs.Choice.{pick, choose}
 use Rattle.typing.specs.Term.{Effect, same_effect}
 use Rattle.typing.specs.Bag.{bag, count, remove}
-use Rattle.typing.specs.Bag.Laws.{count-here, count-other, count-remove, count_none, bag-same}
+use Rattle.typing.proofs.Bag.Laws.{count-here, count-other, count-remove, count_none, bag-same}
 use Rattle.typing.specs.Types.{same_effects}
 use Rattle.typing.specs.Reading.{effect_of, effects, term}
 use Rattle.spans.specs.Behind.{rest_of, At, Ends}

@@ -10,9 +10,9 @@ use Rattle.words.specs.First.Laws.{clash}
 use Rattle.words.specs.Run.{run, same_words}
 use Rattle.words.specs.Run.Laws.{run_length, run_take, same-exact}
 use Rattle.typing.specs.Term.{Term, Effect, same_effect, effect_words}
-use Rattle.typing.specs.Bag.Laws.{words-effect}
+use Rattle.typing.proofs.Bag.Laws.{words-effect}
 use Rattle.typing.specs.Reading.{Read, ahead, after, term, effect_of, effects}
-use Rattle.typing.specs.Derivation.Laws.{then-came}
+use Rattle.typing.proofs.Derivation.Laws.{then-came}
 use Rattle.spans.specs.Behind.{rest_of, At, Ends}
 use Rattle.spans.specs.Behind.Laws.{rest-after}
 use Rattle.alike.specs.Same.{value_or, effect_in, effects_in, test}

@@ -10,7 +10,7 @@ use Rattle.words.specs.First.Laws.{clash}
 use Rattle.words.specs.Run.{run, same_words}
 use Rattle.words.specs.Run.Laws.{run_more, run_length, run_take, same-exact}
 use Rattle.typing.specs.Term.{Term, same_term, term_words}
-use Rattle.typing.specs.Bag.Laws.{words-term}
+use Rattle.typing.proofs.Bag.Laws.{words-term}
 use Rattle.typing.specs.Reading.{Read, ahead, joined, after, terms, only, term}
 use Rattle.spans.specs.Behind.{rest_of, At}
 use Rattle.spans.specs.Behind.Laws.{Counted, terms-counted}

@@ -11,7 +11,7 @@ use Rattle.std.proofs.Math.Decide.{dec_lt, ℕ_discrete}
 use Rattle.std.proofs.Math.ListN.{length}
 use Rattle.words.specs.Choice.{then}
 use Rattle.typing.specs.Term.{Term, closed, occurs}
-use Rattle.typing.specs.Check.Laws.{both}
+use Rattle.typing.proofs.Check.Laws.{both}
 use Rattle.typing.specs.Reading.{Read, ahead, joined, after, terms, only, term}
 use Rattle.spans.specs.Behind.{rest_of, At, term_turn}
 use Rattle.spans.specs.Behind.Laws.{Counted, terms-counted, rest-term, terms-nothing, terms-two, terms-one, terms-cut, terms-empty, due-more, due-less, few-more, few-less}

@@ -9,7 +9,7 @@ use Rattle.typing.specs.Types.{Ty}
 use Rattle.typing.specs.Process.{Process}
 use Rattle.typing.specs.Apart.{binders}
 use Rattle.typing.specs.Reading.{Read, ahead, joined, altered, after, term, effects, type_at, with_effects, with_term, with_type, processes}
-use Rattle.typing.specs.Derivation.Laws.{then-came}
+use Rattle.typing.proofs.Derivation.Laws.{then-came}
 use Rattle.spans.specs.Behind.{rest_of, skip_name, skip_term, skip_type, skip_effects, times, skips, process_own, process_parts}
 use Rattle.spans.specs.Behind.Laws.{Counted}
 use Rattle.spans.specs.Behind.Processes.{processes-counted}

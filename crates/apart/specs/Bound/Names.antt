@@ -6,7 +6,7 @@ use Rattle.std.proofs.lemmas.Bool.{not-true}
 use Rattle.words.specs.Choice.Laws.{pick_true, pick-false, or_cases, or_left, or_right}
 use Rattle.words.specs.First.Laws.{clash}
 use Rattle.typing.specs.Apart.{among, clear}
-use Rattle.typing.specs.Check.Laws.{both, and_both}
+use Rattle.typing.proofs.Check.Laws.{both, and_both}
 use Rattle.apart.specs.Bound.{times_in, name_apart, all_apart}
 
 -- ---- times_in

@@ -14,9 +14,9 @@ use Rattle.words.specs.Choice.Laws.{pick_true, pick-false}
 use Rattle.words.specs.First.Laws.{clash}
 use Rattle.typing.specs.Term.{Term, Effect, same_term, same_effect}
 use Rattle.typing.specs.Bag.{bag, plus, minus, count}
-use Rattle.typing.specs.Bag.Laws.{count_none, count-here, count-other, count-plus, count-minus, count-bag, bag-ordered, plus-ordered, minus-ordered, ordered_same}
+use Rattle.typing.proofs.Bag.Laws.{count_none, count-here, count-other, count-plus, count-minus, count-bag, bag-ordered, plus-ordered, minus-ordered, ordered_same}
 use Rattle.typing.specs.Types.{same_effects}
-use Rattle.typing.specs.Check.Laws.{both, and_both}
+use Rattle.typing.proofs.Check.Laws.{both, and_both}
 use Rattle.typing.specs.Reading.{Read, after, term, effect_of, effects}
 use Rattle.typing.specs.Reading.Laws.{shorter-after, term-shorter}
 use Rattle.spans.specs.Behind.{rest_of, At, Ends}

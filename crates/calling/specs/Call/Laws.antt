@@ -19,7 +19,7 @@ use Rattle.renaming.specs.Verdict.{judged}
 use Rattle.summary.specs.Summary.{summarized, asked}
 use Rattle.typing.specs.Apart.{keeps_apart}
 use Rattle.typing.specs.Derivation.{verdict as verdict_of}
-use Rattle.summary.specs.Summary.Written.{exactly-summarized, summarized-says}
+use Rattle.summary.proofs.Summary.Written.{exactly-summarized, summarized-says}
 use Rattle.editor.specs.Bytes.{translation_bytes, rehearsal_bytes, summary_bytes, asked_bytes, judged_bytes, AsWords}
 use Rattle.editor.specs.Bytes.Laws.{translation-words, rehearsal-words, summary-words, of-odd, of-odd-book, of-odd-schedule, of-odd-summarized}
 use Rattle.examining.specs.Checked.{odd, verdict_said, checked_said, apart_said, apart_asked}

@@ -13,7 +13,7 @@ use Rattle.words.specs.Choice.Laws.{pick_ind}
 use Rattle.words.specs.First.Laws.{clash}
 use Rattle.typing.specs.Term.{Term, Effect, Change, same_term, same_effect, change_term, change_effect, effect_words}
 use Rattle.typing.specs.Bag.{up_to, insert, plus, bag, count}
-use Rattle.typing.specs.Bag.Laws.{count_none, count-here, count-other, bag-same}
+use Rattle.typing.proofs.Bag.Laws.{count_none, count-here, count-other, bag-same}
 use Rattle.typing.specs.Types.{same_effects}
 use Rattle.typing.specs.Reading.{Read, after, term, effect_of, effects}
 use Rattle.spans.specs.Behind.{rest_of, At, Ends}

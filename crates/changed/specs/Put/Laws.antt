@@ -15,7 +15,7 @@ use Rattle.words.specs.First.Laws.{clash}
 use Rattle.words.specs.Run.{run, same_words}
 use Rattle.words.specs.Run.Laws.{same-exact, run_take, run_length}
 use Rattle.typing.specs.Term.{Term, Change, same_term, at_name, at_bound, change_term, term_words}
-use Rattle.typing.specs.Bag.Laws.{words-term}
+use Rattle.typing.proofs.Bag.Laws.{words-term}
 use Rattle.typing.specs.Reading.{Read, ahead, joined, after, terms, only, term}
 use Rattle.spans.specs.Behind.{rest_of, At, term_turn}
 use Rattle.spans.specs.Behind.Laws.{Counted, terms-counted, rest-term, terms-nothing, terms-two, terms-one, terms-cut, terms-empty, turn_small, due-more, due-less, few-more, few-less}

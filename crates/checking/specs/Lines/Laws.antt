@@ -17,11 +17,11 @@ use Rattle.typing.specs.Term.{Term}
 use Rattle.typing.specs.Types.{Ty}
 use Rattle.typing.specs.Process.{Process}
 use Rattle.typing.specs.Judgement.{Judgement}
-use Rattle.typing.specs.Check.Laws.{both, and_both, instance-follows}
+use Rattle.typing.proofs.Check.Laws.{both, and_both, instance-follows}
 use Rattle.typing.specs.Reading.{Read, term, effects, type_at, environment_at, process_at}
 use Rattle.typing.specs.Derivation.{Kind, Numbered, rule_of, line_word, effect_count, read, judgement, given, earlier, premises_from}
 use Rattle.typing.specs.Derivation.{IsInstance, by_rule, holds, passes}
-use Rattle.typing.specs.Derivation.Laws.{then-came, then-goes, line-exact}
+use Rattle.typing.proofs.Derivation.Laws.{then-came, then-goes, line-exact}
 use Rattle.spans.specs.Behind.{rest_of}
 use Rattle.alike.specs.Same.{value_or, term_in, effects_in, type_in, environment_in}
 use Rattle.parts.specs.Place.{process_in}

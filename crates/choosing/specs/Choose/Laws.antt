@@ -2,7 +2,7 @@
 use Rattle.std.specs.Prelude.{ℕ, Bool, true, List, [], ◌∷◌, ◌≡◌}
 use Rattle.std.proofs.Math.Option.{Option, none, some}
 use Rattle.std.proofs.Common.{sym, ◌∙◌, ap}
-use Rattle.typing.specs.Check.Laws.{both, and_both}
+use Rattle.typing.proofs.Check.Laws.{both, and_both}
 use Rattle.typing.specs.Derivation.{Kind, Numbered, rule_of}
 use Rattle.ruling.specs.declared.Line.{Line}
 use Rattle.choosing.specs.Kinds.{kind_number, premise_kinds}

@@ -5,7 +5,7 @@ use Rattle.std.proofs.Common.{sym, ◌∙◌, ap, arith, zero-add, eqb-true, ltb
 use Rattle.typing.specs.Judgement.{Judgement}
 use Rattle.typing.specs.Rule.{Rule, Instance}
 use Rattle.typing.specs.Check.{printed, follows}
-use Rattle.typing.specs.Check.Laws.{both, follows-instance}
+use Rattle.typing.proofs.Check.Laws.{both, follows-instance}
 use Rattle.typing.specs.Derivation.{Kind, Numbered, rules, nth, rule_of}
 use Rattle.choosing.specs.Table.{rows, rows_at}
 use Rattle.choosing.specs.Kinds.{kind_number, kind_of, kinds_of, premise_kinds, number_at, all_kinds, kind_at}

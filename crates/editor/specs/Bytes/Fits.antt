@@ -17,15 +17,15 @@ use Rattle.book.specs.Valid.{Valid}
 use Rattle.book.specs.Valid.Laws.{nine, reading-lines, keep-valid, valid-keep}
 use Rattle.book.specs.Headed.Laws.{valid-headed}
 use Rattle.translation.specs.Listing.{listing}
-use Rattle.translation.specs.Long.Laws.{listing-short}
-use Rattle.translation.specs.Low.Laws.{stop-low}
+use Rattle.translation.proofs.Long.Laws.{listing-short}
+use Rattle.translation.proofs.Low.Laws.{stop-low}
 use Rattle.translation.specs.Narration.{narration}
 use Rattle.translation.specs.Taken.Laws.{stop-cases}
 use Rattle.translation.specs.Outcome.{stop_line, room_line, acceptance, translation_says, Plays}
 use Rattle.translation.specs.Outcome.Laws.{ten, ten-lines, book-first, plays-keep}
 use Rattle.playing.specs.Rehearsal.{long_line, move_line, rehearsal_says}
 use Rattle.summary.specs.Summary.{summary_words, summary_says, length_line, question_line, answered, asked}
-use Rattle.summary.specs.Summary.Laws.{summary-most}
+use Rattle.summary.proofs.Summary.Laws.{summary-most}
 use Rattle.relaying.specs.Relayed.Laws.{plays-from}
 use Rattle.packing.specs.Packed.{capped, Small}
 

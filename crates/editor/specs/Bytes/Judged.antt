@@ -10,14 +10,14 @@ use Rattle.octets.specs.Octets.Laws.{bytes-even, bytes_back}
 use Rattle.book.specs.Layout.{loaded, parties}
 use Rattle.book.specs.Said.{Said, said}
 use Rattle.translation.specs.Outcome.{acceptance, Plays}
-use Rattle.translation.specs.Long.Laws.{part-short}
+use Rattle.translation.proofs.Long.Laws.{part-short}
 use Rattle.renaming.specs.Slot.{part_slots}
 use Rattle.renaming.specs.Slot.Laws.{part-many}
 use Rattle.renaming.specs.Renaming.{place_of}
 use Rattle.renaming.specs.Renaming.Laws.{follow-most}
 use Rattle.renaming.specs.Verdict.{judged}
-use Rattle.renaming.specs.Verdict.Laws.{verdict-either}
-use Rattle.renaming.specs.Verdict.Judged.{judged-book-first, judged-exactly-reading, exactly-22, judged-says}
+use Rattle.renaming.proofs.Verdicts.Laws.{verdict-either}
+use Rattle.renaming.proofs.Verdicts.Judged.{judged-book-first, judged-exactly-reading, exactly-22, judged-says}
 use Rattle.relaying.specs.Relayed.Laws.{plays-from}
 use Rattle.packing.specs.Packed.{pack, unpack_verdict, Small, Packs}
 use Rattle.packing.specs.Packed.Laws.{small-packs, verdict-told, verdict-placed}

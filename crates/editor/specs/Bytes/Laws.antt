@@ -22,15 +22,15 @@ use Rattle.book.specs.Refusals.{reading_table, verdict}
 use Rattle.book.specs.Refusals.Laws.{scan-here, scan-on}
 use Rattle.translation.specs.Listing.{listing}
 use Rattle.book.specs.Headed.Laws.{rules-headed, long-most}
-use Rattle.translation.specs.Low.Laws.{listing-low}
+use Rattle.translation.proofs.Low.Laws.{listing-low}
 use Rattle.translation.specs.Outcome.{Outcome, acceptance, translation_says, laid, outcome}
 use Rattle.translation.specs.Outcome.Laws.{laid-keeps, laid-lays, exactly-reading, exactly-written}
 use Rattle.playing.specs.Rehearsal.{events_done, rehearsal_says, rehearsal, BadMoves}
 use Rattle.playing.specs.Rehearsal.Laws.{rehearsal-acceptance-first, rehearsal-exactly-reading, rehearsal-exactly-11, exactly-played, done-length}
 use Rattle.playing.specs.Rehearsal.Low.{done-low}
 use Rattle.summary.specs.Summary.{summary, summary_says, summarized, asked}
-use Rattle.summary.specs.Summary.Laws.{summary-length, summary-low}
-use Rattle.summary.specs.Summary.Written.{summary-exactly-reading, exactly-summarized}
+use Rattle.summary.proofs.Summary.Laws.{summary-length, summary-low}
+use Rattle.summary.proofs.Summary.Written.{summary-exactly-reading, exactly-summarized}
 use Rattle.examining.specs.Checked.{odd}
 use Rattle.writing.specs.Translated.{translated}
 use Rattle.relaying.specs.Relayed.{rehearsed, summarized_on}

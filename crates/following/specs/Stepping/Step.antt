@@ -14,9 +14,9 @@ use Rattle.translation.specs.Dictionary.{start}
 use Rattle.translation.specs.Receive.{Event, Did, nothing}
 use Rattle.translation.specs.Listing.{program_words, triple_words}
 use Rattle.translation.specs.Steps.{step_did, before}
-use Rattle.translation.specs.Steps.Laws.{before-none, before_more}
+use Rattle.translation.proofs.Steps.Laws.{before-none, before_more}
 use Rattle.translation.specs.Long.{step_size, step_words}
-use Rattle.translation.specs.Long.Laws.{step-within, triples-length, stored-few}
+use Rattle.translation.proofs.Long.Laws.{step-within, triples-length, stored-few}
 use Rattle.renaming.specs.Slot.{Slot, program_slots, handed}
 use Rattle.renaming.specs.Slot.Laws.{slots-append, order-more}
 use Rattle.renaming.specs.Slot.Order.{step-ordered, step-handed, step-stored, before-kept}

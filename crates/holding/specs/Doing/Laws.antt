@@ -5,7 +5,7 @@ use Rattle.words.specs.Overlay.{forward}
 use Rattle.words.specs.Overlay.Laws.{wrote_then, wrote_none, wrote_as, wrote-counted}
 use Rattle.translation.specs.Receive.{Did, nothing, followed}
 use Rattle.translation.specs.Listing.{program_words, triple_words}
-use Rattle.translation.specs.Listing.Laws.{program-append, triples-append}
+use Rattle.translation.proofs.Listing.Laws.{program-append, triples-append}
 use Rattle.holding.specs.View.{row_of, view}
 use Rattle.holding.specs.Doing.{Doing}
 

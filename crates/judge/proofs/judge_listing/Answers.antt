@@ -3,7 +3,7 @@ use mathlib.Core.Path.{◌≡◌, ap, sym, ◌∙◌}
 use Rattle.book.specs.Said.{reading_says}
 use Rattle.book.specs.Headed.Laws.{valid-headed}
 use Rattle.translator.specs.Surveyed.Laws.{surveyed-plays}
-use Rattle.renaming.specs.Verdict.Returned.{refused-judged, nobody-judged}
+use Rattle.renaming.proofs.Verdicts.Returned.{refused-judged, nobody-judged}
 use Rattle.judge.proofs.judge_listing.Goals as goal
 use Rattle.judge.proofs.judge_listing.Goals.{In-Accepted}
 

@@ -12,7 +12,7 @@ use Rattle.book.specs.Headed.Laws.{valid-headed}
 use Rattle.translation.specs.Receive.{Event, Did}
 use Rattle.translation.specs.Listing.{event_words}
 use Rattle.translation.specs.Steps.{before}
-use Rattle.translation.specs.Long.Laws.{stored-few}
+use Rattle.translation.proofs.Long.Laws.{stored-few}
 use Rattle.renaming.specs.Slot.{Slot, program_slots, event_slots, handed}
 use Rattle.renaming.specs.Slot.Laws.{order-more, handed-triples}
 use Rattle.renaming.specs.Slot.Order.{before-kept, end-ordered, part-slots}

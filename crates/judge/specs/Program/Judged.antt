@@ -11,7 +11,7 @@ use Rattle.translation.specs.Outcome.{Plays}
 use Rattle.renaming.specs.Slot.{part_slots}
 use Rattle.renaming.specs.Renaming.{all_agree, place_of}
 use Rattle.renaming.specs.Verdict.{verdict_says, judged}
-use Rattle.renaming.specs.Verdict.Returned.{same-judged, differs-judged}
+use Rattle.renaming.proofs.Verdicts.Returned.{same-judged, differs-judged}
 use Rattle.renaming.specs.declared.Verdict.TheVariants as verdicts
 use Rattle.following.specs.declared.Far.{Far}
 use Rattle.naming.specs.Mirror.{theirs}

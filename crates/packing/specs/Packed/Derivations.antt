@@ -6,7 +6,7 @@ use Rattle.words.specs.Choice.{pick}
 use Rattle.octets.specs.Octets.{words_in, uneven}
 use Rattle.typing.specs.Apart.{keeps_apart}
 use Rattle.typing.specs.Derivation.{Verdict, verdict, Right}
-use Rattle.typing.specs.Derivation.Laws.{verdict-right}
+use Rattle.typing.proofs.Derivation.Laws.{verdict-right}
 use Rattle.book.specs.Said.{said}
 use Rattle.translation.specs.Outcome.{Outcome}
 use Rattle.examining.specs.Checked.{verdict_said, odd, short, checked_bytes, apart_in, apart_bytes}

@@ -13,7 +13,7 @@ use Rattle.typing.specs.Term.{Term, Effect}
 use Rattle.typing.specs.Bag.{bag}
 use Rattle.typing.specs.Types.{Ty}
 use Rattle.typing.specs.Reading.{Read, ahead, term, effects, with_effects, type_at, several}
-use Rattle.typing.specs.Derivation.Laws.{then-goes}
+use Rattle.typing.proofs.Derivation.Laws.{then-goes}
 use Rattle.spans.specs.Behind.{rest_of, At, Ends, times, skip_term, skip_type, skip_effects}
 use Rattle.spans.specs.Behind.Laws.{rest-ahead}
 use Rattle.alike.specs.Same.{value_or}

@@ -13,7 +13,7 @@ use Rattle.words.specs.Run.Laws.{same-exact}
 use Rattle.typing.specs.Term.{Effect, same_term}
 use Rattle.typing.specs.Bag.{bag, plus}
 use Rattle.typing.specs.Types.{same_list, same_type, same_effects}
-use Rattle.typing.specs.Check.Laws.{both, and_both}
+use Rattle.typing.proofs.Check.Laws.{both, and_both}
 use Rattle.typing.specs.Reading.{Read, term, effects, with_effects, type_at, several}
 use Rattle.spans.specs.Behind.{rest_of, At}
 use Rattle.alike.specs.Same.{value_or, effects_in, test}

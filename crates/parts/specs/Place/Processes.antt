@@ -10,7 +10,7 @@ use Rattle.words.specs.Choice.Laws.{pick_ind}
 use Rattle.words.specs.First.Laws.{clash}
 use Rattle.typing.specs.Process.{Process, same_process}
 use Rattle.typing.specs.Reading.{Read, ahead, after, only, processes, process_at, several}
-use Rattle.typing.specs.Derivation.Laws.{then-goes}
+use Rattle.typing.proofs.Derivation.Laws.{then-goes}
 use Rattle.spans.specs.Behind.{rest_of, At, process_parts}
 use Rattle.spans.specs.Behind.Laws.{rest-after}
 use Rattle.alike.specs.Same.{value_or, test}

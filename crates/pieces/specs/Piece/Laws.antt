@@ -15,7 +15,7 @@ use Rattle.typing.specs.Bag.{bag}
 use Rattle.typing.specs.Types.{Ty, same_type}
 use Rattle.typing.specs.Process.{Process, same_process}
 use Rattle.typing.specs.Reading.{Read, ahead, after, joined, altered, only, term, type_at, several, processes, process_at}
-use Rattle.typing.specs.Derivation.Laws.{then-goes}
+use Rattle.typing.proofs.Derivation.Laws.{then-goes}
 use Rattle.spans.specs.Behind.{rest_of, Ends, process_parts}
 use Rattle.spans.specs.Behind.Processes.{parts-other, parts-parallel, parts-stop}
 use Rattle.alike.specs.Same.{value_or, term_in, effects_in, type_in}

@@ -22,7 +22,7 @@ use Rattle.translation.specs.Listing.{listing}
 use Rattle.translation.specs.Standing.{standing_at, standing, if_waits, if_ended}
 use Rattle.translation.specs.Places.{Places, places_of, place_of, is_send, is_receive, is_end}
 use Rattle.translation.specs.Spelled.{spelled}
-use Rattle.translation.specs.Spelled.Laws.{plays-programs}
+use Rattle.translation.proofs.Spelled.Laws.{plays-programs}
 use Rattle.translation.specs.Outcome.{Plays}
 use Rattle.agreement.specs.Change.{change}
 use Rattle.agreement.specs.Change.Laws.{change-ap, change-none}

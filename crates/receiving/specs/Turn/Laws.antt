@@ -15,7 +15,7 @@ use Rattle.book.specs.Valid.{Valid}
 use Rattle.book.specs.Valid.Laws.{formed, row-kind}
 use Rattle.translation.specs.Dictionary.{Dictionary, buildable}
 use Rattle.translation.specs.Receive.{nothing, followed, Rule, can_open, rule, by_rule, compared, kept, receive, receive_all}
-use Rattle.translation.specs.Receive.Laws.{rule-compare, rule-unlock, rule-store, opening, receive-rule}
+use Rattle.translation.proofs.Receive.Laws.{rule-compare, rule-unlock, rule-store, opening, receive-rule}
 use Rattle.book.specs.Span.{entry}
 use Rattle.book.specs.Span.Laws.{list-none, list-more, some-part}
 use Rattle.receiving.specs.Turn.{in_turn, unlocked, contents_of}

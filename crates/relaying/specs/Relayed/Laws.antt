@@ -11,7 +11,7 @@ use Rattle.translation.specs.Outcome.{room_line, acceptance, Plays}
 use Rattle.translation.specs.Outcome.Laws.{ten, ten-apart, ten-lines, book-first, keep-plays}
 use Rattle.playing.specs.Rehearsal.{rehearsal_says}
 use Rattle.summary.specs.Summary.{summary_words, summary_says}
-use Rattle.summary.specs.Summary.Laws.{summary-most}
+use Rattle.summary.proofs.Summary.Laws.{summary-most}
 
 -- ---- what is accepted plays
 pub plays-from : (b : List ℕ) → (acceptance b).number ≡ 0 → Plays b

@@ -9,7 +9,7 @@ use Rattle.translation.specs.Dictionary.Laws.{enter-ind}
 use Rattle.translation.specs.Build.{Built, built_or, build, build_all}
 use Rattle.translation.specs.Build.Laws.{built-or}
 use Rattle.translation.specs.Receive.{Did, followed, rule, by_rule, compared, kept, receive, receive_all}
-use Rattle.translation.specs.Receive.Laws.{by-rule}
+use Rattle.translation.proofs.Receive.Laws.{by-rule}
 use Rattle.translation.specs.Program.{Act, act, walk}
 use Rattle.renaming.specs.Slot.{Kept}
 use Rattle.renaming.specs.Slot.Laws.{kept-left, kept-right}

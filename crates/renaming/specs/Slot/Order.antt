@@ -16,11 +16,11 @@ use Rattle.translation.specs.Dictionary.{Held, Dictionary, start, image_or, imag
 use Rattle.translation.specs.Build.{build_all}
 use Rattle.translation.specs.Along.Laws.{build_all-images}
 use Rattle.translation.specs.Receive.{Event, Stored, Did, nothing, followed, rule, by_rule, compared, kept, opened, receive, receive_all}
-use Rattle.translation.specs.Receive.Laws.{by-rule}
+use Rattle.translation.proofs.Receive.Laws.{by-rule}
 use Rattle.translation.specs.Program.{Act, acts_of, sent, arrived, act, walk, walked, program}
 use Rattle.translation.specs.Narration.{narration, known_to, program_of}
 use Rattle.translation.specs.Steps.{step_did, before}
-use Rattle.translation.specs.Steps.Laws.{before_more, before-all}
+use Rattle.translation.proofs.Steps.Laws.{before_more, before-all}
 use Rattle.renaming.specs.Slot.{Slot, image_slots, images_slots, triple_slots, event_slots, program_slots, part_slots, InOrder, Ordered, handed, Below, Kept}
 use Rattle.renaming.specs.Slot.Laws.{slots-append, slots-one, handed-append, handed-image, handed-images, handed-triples, kept_either, order-append, order_below}
 use Rattle.renaming.specs.Slot.Holds.{HeldAt, HoldsAt, holds_more, start-holds, build_all-holds, receive-adds, act-adds, walk-adds}

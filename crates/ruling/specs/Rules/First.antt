@@ -7,7 +7,7 @@ use Rattle.typing.specs.Types.{Ty, Environment, ◌⦂◌, same_type, same_effec
 use Rattle.typing.specs.Judgement.{Judgement}
 use Rattle.typing.specs.Rule.{Rule, binding}
 use Rattle.typing.specs.Check.{entry_name, entry_type, newest, older, environment_of, term_of, type_of, effects_of, first, rest, printed, asks, follows}
-use Rattle.typing.specs.Check.Laws.{both, and_both}
+use Rattle.typing.proofs.Check.Laws.{both, and_both}
 use Rattle.alike.specs.Same.{test}
 use Rattle.ruling.specs.Rules.Decide.{decide, held, holds-so}
 

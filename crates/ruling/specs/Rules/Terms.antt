@@ -6,7 +6,7 @@ use Rattle.typing.specs.Types.{Ty, Environment, ◌⦂◌, same_type, same_envir
 use Rattle.typing.specs.Judgement.{Judgement}
 use Rattle.typing.specs.Rule.{Rule, putting}
 use Rattle.typing.specs.Check.{left, right, name_of, second, promised, parts_of, environment_of, term_of, type_of, effects_of, process_of, first, rest, printed, asks, stands, follows}
-use Rattle.typing.specs.Check.Laws.{both, and_both}
+use Rattle.typing.proofs.Check.Laws.{both, and_both}
 use Rattle.typing.specs.Term.{same_term}
 use Rattle.alike.specs.Same.{test}
 use Rattle.alike.specs.Same.Laws.{test-yes, test-true}

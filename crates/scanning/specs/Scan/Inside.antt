@@ -7,9 +7,9 @@ use Rattle.book.specs.Layout.{table, sender, receiver, messages}
 use Rattle.translation.specs.Dictionary.{Dictionary}
 use Rattle.translation.specs.Build.{build_all}
 use Rattle.translation.specs.Receive.{Event}
-use Rattle.translation.specs.Receive.Laws.{Quiet, receive_all-quiet}
+use Rattle.translation.proofs.Receive.Laws.{Quiet, receive_all-quiet}
 use Rattle.translation.specs.Steps.{step_did}
-use Rattle.translation.specs.Steps.Laws.{step-sends, step-receives, step-idle}
+use Rattle.translation.proofs.Steps.Laws.{step-sends, step-receives, step-idle}
 use Rattle.scanning.specs.Scan.{Inner}
 
 inner-news : (rs : List ℕ) (es : List Event) → Inner es → Inner (map Event.new rs ++ es)

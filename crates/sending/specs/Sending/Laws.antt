@@ -27,7 +27,7 @@ use Rattle.translation.specs.Along.Laws.{build_all-images}
 use Rattle.translation.specs.Receive.{Event}
 use Rattle.translation.specs.Program.{sent}
 use Rattle.translation.specs.Listing.{event_words, program_words}
-use Rattle.translation.specs.Listing.Laws.{program-append}
+use Rattle.translation.proofs.Listing.Laws.{program-append}
 use Rattle.book.specs.Stop.{stop, nowhere}
 use Rattle.book.specs.declared.Stop.{Stop}
 use Rattle.book.specs.Span.{entry}

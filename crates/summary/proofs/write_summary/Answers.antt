@@ -3,7 +3,7 @@
 use mathlib.Core.Path.{ap, sym, ◌∙◌}
 use Rattle.book.specs.Said.{reading_says}
 use Rattle.translator.specs.Surveyed.Laws.{surveyed-plays}
-use Rattle.summary.specs.Summary.Written.{summary-refused-came}
+use Rattle.summary.proofs.Summary.Written.{summary-refused-came}
 use Rattle.summary.proofs.write_summary.Goals as goal
 
 -- the survey accepts

@@ -4,7 +4,7 @@ use Rattle.std.proofs.Common.{append-nil, append_assoc, sym, ap, ◌∙◌, arit
 use Rattle.words.specs.Run.Laws.{values-last, values_length}
 use Rattle.book.specs.Layout.{parties}
 use Rattle.translation.specs.Listing.{heads, bodies, framed, part_words, listing}
-use Rattle.translation.specs.Spelling.Laws.{heads-length}
+use Rattle.translation.proofs.Spelling.Laws.{heads-length}
 use Rattle.translator.specs.Parts.{programs_to, heads_of, HeadsIn, bodies_of}
 
 -- ---- one program more, in any list of programs

@@ -21,11 +21,11 @@ use Rattle.translation.specs.Narration.{narration, program_of}
 use Rattle.translation.specs.Listing.{event_words, program_words}
 use Rattle.translation.specs.Standing.{standing_at, if_sends, if_waits, if_ended}
 use Rattle.translation.specs.Places.{place_of, is_send, is_receive, is_end, places_of}
-use Rattle.translation.specs.Places.Laws.{None, none-append, none-news, none-receive_all, place-first}
-use Rattle.translation.specs.Steps.Laws.{step-sends, step-receives, step-idle, before-none, before_more, before-all}
+use Rattle.translation.proofs.Places.Laws.{None, none-append, none-news, none-receive_all, place-first}
+use Rattle.translation.proofs.Steps.Laws.{step-sends, step-receives, step-idle, before-none, before_more, before-all}
 use Rattle.translation.specs.Steps.{step_did, before}
 use Rattle.translation.specs.Long.{most_events}
-use Rattle.translation.specs.Long.Laws.{all-within}
+use Rattle.translation.proofs.Long.Laws.{all-within}
 
 -- ---- the events of the steps before pass no test that looks for a later step
 pub record Quiet (t : Event → Bool) : Type 0 where

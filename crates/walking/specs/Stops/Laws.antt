@@ -22,7 +22,7 @@ use Rattle.translation.specs.Taken.{taken, made_at, sender_makes, unmakeable, st
 use Rattle.sending.specs.Sending.{against_in, first_in}
 use Rattle.sending.specs.Sending.Laws.{some-stops, none-stops}
 use Rattle.claims.specs.Claims.{Claims}
-use Rattle.translation.specs.Source.Laws.{made-here}
+use Rattle.translation.proofs.Source.Laws.{made-here}
 use Rattle.translation.specs.Taken.Laws.{sender-makes, nobodys-exact, makeable-exact, stop-cases}
 use Rattle.translation.specs.Steps.{before}
 use Rattle.walking.specs.Walk.{refused_for, Unrefused, IdleUntil}

@@ -5,7 +5,7 @@ use Rattle.words.specs.Choice.Laws.{pick-false}
 use Rattle.book.specs.Layout.{sender, receiver}
 use Rattle.translation.specs.Receive.{followed}
 use Rattle.translation.specs.Steps.{before}
-use Rattle.translation.specs.Steps.Laws.{followed-nothing, step-idle, before_more}
+use Rattle.translation.proofs.Steps.Laws.{followed-nothing, step-idle, before_more}
 use Rattle.walking.specs.Walk.{refused_for, IdleUntil}
 
 -- ---- steps in which the party has no part

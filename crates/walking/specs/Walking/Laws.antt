@@ -4,11 +4,11 @@ use Rattle.std.proofs.Common.{add-one, arith, append-nil, sym, ap, ap₂, ◌∙
 use Rattle.book.specs.Layout.{parties, steps}
 use Rattle.book.specs.Valid.{Valid}
 use Rattle.translation.specs.Listing.{program_words, triple_words, event_words, part_words}
-use Rattle.translation.specs.Listing.Laws.{program-append}
+use Rattle.translation.proofs.Listing.Laws.{program-append}
 use Rattle.translation.specs.Receive.{Did, followed}
 use Rattle.translation.specs.Steps.{step_did, before}
-use Rattle.translation.specs.Steps.Laws.{before_more, before-all}
-use Rattle.translation.specs.Long.Laws.{all-within}
+use Rattle.translation.proofs.Steps.Laws.{before_more, before-all}
+use Rattle.translation.proofs.Long.Laws.{all-within}
 use Rattle.holding.specs.Entry.{limit}
 use Rattle.holding.specs.View.{row_of, view}
 use Rattle.holding.specs.Doing.{Doing}

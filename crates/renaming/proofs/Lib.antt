@@ -1,0 +1,3 @@
+pub mod Renaming
+pub mod Verdicts
+pub mod Renamed

@@ -1,0 +1,13 @@
+pub mod Receive
+pub mod Rows
+pub mod Steps
+pub mod Stored
+pub mod Source
+pub mod Long
+pub mod Low
+pub mod Sized
+pub mod Spelled
+pub mod Spelling
+pub mod Places
+pub mod Program
+pub mod Listing

@@ -1,0 +1,4 @@
+pub mod Check
+pub mod Derivation
+pub mod Bag
+pub mod Apart

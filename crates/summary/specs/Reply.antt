@@ -3,6 +3,7 @@ use Rattle.std.specs.Prelude.{[], ◌∷◌}
 use Rattle.book.specs.Said.{Said, said, refusal_says}
 use Rattle.summary.specs.declared.Reply.{Reply}
 use Rattle.summary.specs.declared.Reply.TheVariants.{Yes, No, Refused}
+
 abbrev pub reply_says : Reply → Said
 reply_says Yes = said 0 (1 ∷ [])
 reply_says No = said 0 (0 ∷ [])

@@ -15,6 +15,7 @@ use Rattle.translation.specs.Narration.{narration}
 use Rattle.translation.specs.Taken.{joined, holds_before}
 use Rattle.translation.specs.Outcome.{Outcome, stop_line, room_line, laid}
 pub mod Question
+
 -- ---- the full walk
 -- party p has row r in its dictionary after the first k steps: held, and not merely buildable
 unfoldable pub holds : List ℕ → ℕ → ℕ → ℕ → Bool

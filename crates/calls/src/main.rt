@@ -3,10 +3,12 @@
 // they are read and printed.
 #![tactic(auto)]
 
-ghost use Rattle.std.specs.Prelude.{◌≤◌, length};
+ghost use Rattle.std.specs.Prelude.{◌≡◌, ◌≤◌, length};
 ghost use Rattle.input.specs.Input.{Within};
 ghost use Rattle.functions.specs.Functions.{Known};
 ghost use Rattle.calls.specs.Next.{Asked};
+ghost use Rattle.calls.specs.Request.{Filled, IsSlice, AreNumbers, IsNth, Came, Answered, Numbered};
+ghost use Rattle.calls.specs.declared.Next.TheVariants.{Nothing};
 
 use functions::Function;
 use input::Input;
@@ -35,7 +37,9 @@ enum Next {
 }
 
 // Reads bytes until those that are lent for them are full; whether they are.
-fn read_all<R: Read, E: Write>(reader: &mut R, errors: &mut E, bytes: &mut [u8]) -> bool {
+fn read_all<R: Read, E: Write>(reader: &mut R, errors: &mut E, bytes: &mut [u8]) -> bool
+    ensures { Filled result (R.remaining reader.old) (R.remaining reader.new) bytes.new }
+{
     let input = input::fill(reader, errors, b"standard input", bytes);
     match input {
         Input::Bytes(n) => {
@@ -58,7 +62,8 @@ fn read_slice<R: Read, E: Write>(
     bytes: &mut [u8],
 ) -> Input
     requires { 65536 ≤ length bytes.old }
-    ensures { Within result 65536 }
+    ensures within { Within result 65536 }
+    ensures came { Came (IsSlice function) result (R.remaining reader.old) (R.remaining reader.new) bytes.new }
 {
     let mut head = [0u8; 4];
     if !read_all(reader, errors, &mut head) {
@@ -83,7 +88,8 @@ fn read_numbers<R: Read, E: Write>(
     bytes: &mut [u8],
 ) -> Input
     requires { 65536 ≤ length bytes.old }
-    ensures { Within result 65536 }
+    ensures within { Within result 65536 }
+    ensures came { Came (AreNumbers function) result (R.remaining reader.old) (R.remaining reader.new) bytes.new }
 {
     let size = 4 * functions::numbers(function);
     if !read_all(reader, errors, &mut bytes[0..size]) {
@@ -101,7 +107,8 @@ fn read_nth<R: Read, E: Write>(
     bytes: &mut [u8],
 ) -> Input
     requires { 65536 ≤ length bytes.old }
-    ensures { Within result 65536 }
+    ensures within { Within result 65536 }
+    ensures came { Came (IsNth function k) result (R.remaining reader.old) (R.remaining reader.new) bytes.new }
 {
     let n = functions::slices(function);
     if k < n {
@@ -121,6 +128,7 @@ fn answer<R: Read, W: Write, E: Write>(
     function: u32,
 ) -> bool
     requires { Known function }
+    ensures { Answered result function (R.remaining reader.old) (R.remaining reader.new) (W.contents out.old) (W.contents out.new) }
 {
     let mut first = [0u8; Most::BYTES];
     let Input::Bytes(l) = read_nth(reader, errors, function, 0, &mut first) else {
@@ -148,7 +156,8 @@ fn answer<R: Read, W: Write, E: Write>(
 
 // Says on standard error why nothing more is called.
 fn stop<E: Write>(errors: &mut E, why: &[u8]) -> Next
-    ensures { Asked result }
+    ensures asked { Asked result }
+    ensures nothing { result ≡ Nothing }
 {
     let _ = errors.write_all(why);
     Next::Nothing
@@ -156,7 +165,8 @@ fn stop<E: Write>(errors: &mut E, why: &[u8]) -> Next
 
 // Reads the number of a function. Where nothing comes, the requests are at their end.
 fn read_next<R: Read, E: Write>(reader: &mut R, errors: &mut E) -> Next
-    ensures { Asked result }
+    ensures asked { Asked result }
+    ensures numbered { Numbered result (R.remaining reader.old) (R.remaining reader.new) }
 {
     let mut head = [0u8; 4];
     let input = input::fill(reader, errors, b"standard input", &mut head);

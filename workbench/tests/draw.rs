@@ -749,6 +749,10 @@ fn files_are_written_whole_and_nothing_is_lost() {
         assert!(fs::read_to_string(at("one.svg")).unwrap().starts_with("<svg"));
         let (status, told) = draw(&["-o", "/dev/null", "--as", "svg", "--force"]);
         assert!(status == 4 && told.contains("no ordinary file"), "{told}");
+        // No link stays in the repository: `rt ci` would refuse it.
+        for name in ["link.svg", "other.svg"] {
+            fs::remove_file(at(name)).unwrap();
+        }
     }
     assert_eq!(fs::read_to_string(&path).unwrap(), text);
 

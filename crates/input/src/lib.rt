@@ -1,9 +1,10 @@
 // A program's input: `fill` reads bytes and says how many came, never more than there is room for. Which bytes come is the system's.
 #![tactic(auto)]
 
-ghost use Rattle.std.specs.Prelude.{length};
+ghost use Rattle.std.specs.Prelude.{◌≤◌, length};
 ghost use Rattle.input.specs.Input.{Within, Came};
 
+use std::fmt;
 use std::io::{Error, Read, Write};
 
 // How reading ended: so many bytes came, or it failed, which was told.
@@ -38,8 +39,53 @@ pub fn fill<R: Read, E: Write>(
     Input::Bytes(n)
 }
 
-// Tells what failed, by its name, and the system's reason.
+// What a system's error says of itself, as far as there is room.
+#[derive(Drop)]
+struct Said {
+    bytes: [u8; Said::ROOM],
+    n: usize,
+}
+
+impl Said {
+    const ROOM: usize = 512;
+}
+
+impl fmt::Write for Said {
+    fn write_str(&mut self, text: &str) -> fmt::Result {
+        for b in text.as_bytes() {
+            let n = self.n;
+            if n < Said::ROOM {
+                self.bytes[n] = *b;
+                self.n = n + 1;
+            }
+        }
+        Ok(())
+    }
+}
+
+// Where the error's number begins in what it says, or the end.
+fn number_in(text: &[u8]) -> usize
+    ensures { result ≤ length text.now }
+{
+    for i in 0..text.len() {
+        if text[i..].starts_with(b" (os error ") {
+            return i;
+        }
+    }
+    text.len()
+}
+
+// Tells what failed, by its name, and the system's reason, without the number that std writes behind it.
 pub fn fail<E: Write>(errors: &mut E, what: &[u8], error: &Error) {
+    let mut said = Said {
+        bytes: [0; Said::ROOM],
+        n: 0,
+    };
+    let _ = fmt::Write::write_fmt(&mut said, format_args!("{error}"));
+    let all = &said.bytes[..said.n.min(Said::ROOM)];
+    let end = number_in(all);
     let _ = errors.write_all(what);
-    let _ = writeln!(errors, ": {error}");
+    let _ = errors.write_all(b": ");
+    let _ = errors.write_all(&all[..end]);
+    let _ = errors.write_all(b"\n");
 }

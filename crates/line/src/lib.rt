@@ -152,5 +152,5 @@ pub fn print<W: Write, E: Write>(out: &mut W, errors: &mut E, line: &[u8]) -> bo
 
 // Tells that the line was not written, and the system's reason.
 fn fail<E: Write>(errors: &mut E, error: &Error) {
-    let _ = writeln!(errors, "standard output: {error}");
+    input::fail(errors, b"standard output", error);
 }

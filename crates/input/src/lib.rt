@@ -89,3 +89,52 @@ pub fn fail<E: Write>(errors: &mut E, what: &[u8], error: &Error) {
     let _ = errors.write_all(&all[..end]);
     let _ = errors.write_all(b"\n");
 }
+
+#[cfg(test)]
+mod tests {
+    use super::{Input, fill};
+    use std::io::{Error, ErrorKind, Read, Result};
+    use std::test::Fail;
+
+    // Gives two bytes a read, and fails where so many reads are over.
+    #[derive(Drop)]
+    struct Breaks {
+        reads: usize,
+    }
+
+    impl Read for Breaks {
+        fn read(&mut self, buf: &mut [u8]) -> Result<usize> {
+            if self.reads == 0 {
+                return Err(Error::new(ErrorKind::Other, "broken"));
+            }
+            self.reads -= 1;
+            if buf.len() < 2 {
+                return Ok(0);
+            }
+            buf[0] = b'a';
+            buf[1] = b'b';
+            Ok(2)
+        }
+    }
+
+    #[test]
+    fn reads_in_parts(rt: HostRuntime) -> std::result::Result<(), Fail> {
+        let mut told = Vec::new(rt.alloc());
+        let mut bytes = [0u8; 6];
+        let input = fill(&mut Breaks { reads: 3 }, &mut told, b"input", &mut bytes);
+        assert!(rt; matches!(input, Input::Bytes(6)));
+        assert_eq!(rt; bytes.as_slice(), b"ababab".as_slice());
+        assert_eq!(rt; told.len(), 0);
+        Ok(())
+    }
+
+    #[test]
+    fn tells_a_read_that_fails(rt: HostRuntime) -> std::result::Result<(), Fail> {
+        let mut told = Vec::new(rt.alloc());
+        let mut bytes = [0u8; 6];
+        let input = fill(&mut Breaks { reads: 2 }, &mut told, b"input", &mut bytes);
+        assert!(rt; matches!(input, Input::Failed));
+        assert_eq!(rt; told.as_slice(), b"input: broken\n".as_slice());
+        Ok(())
+    }
+}

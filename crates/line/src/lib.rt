@@ -154,3 +154,78 @@ pub fn print<W: Write, E: Write>(out: &mut W, errors: &mut E, line: &[u8]) -> bo
 fn fail<E: Write>(errors: &mut E, error: &Error) {
     input::fail(errors, b"standard output", error);
 }
+
+#[cfg(test)]
+mod tests {
+    use super::print;
+    use std::io::{Error, ErrorKind, Result, Write};
+    use std::test::Fail;
+
+    // Takes at most so many bytes a write, and fails where so many writes are over.
+    #[derive(Drop)]
+    struct Breaks {
+        most: usize,
+        writes: usize,
+        taken: usize,
+    }
+
+    impl Write for Breaks {
+        fn write(&mut self, buf: &[u8]) -> Result<usize> {
+            if self.writes == 0 {
+                return Err(Error::new(ErrorKind::Other, "broken"));
+            }
+            self.writes -= 1;
+            let n = buf.len().min(self.most);
+            self.taken = self.taken.saturating_add(n);
+            Ok(n)
+        }
+
+        fn flush(&mut self) -> Result<()> {
+            Ok(())
+        }
+    }
+
+    #[test]
+    fn prints_in_parts(rt: HostRuntime) -> std::result::Result<(), Fail> {
+        let mut out = Breaks {
+            most: 2,
+            writes: 4,
+            taken: 0,
+        };
+        let mut told = Vec::new(rt.alloc());
+        assert!(rt; print(&mut out, &mut told, b"5 3 20\n"));
+        assert_eq!(rt; out.taken, 7);
+        assert_eq!(rt; told.len(), 0);
+        Ok(())
+    }
+
+    #[test]
+    fn tells_a_write_that_fails(rt: HostRuntime) -> std::result::Result<(), Fail> {
+        let mut out = Breaks {
+            most: 2,
+            writes: 3,
+            taken: 0,
+        };
+        let mut told = Vec::new(rt.alloc());
+        assert!(rt; !print(&mut out, &mut told, b"5 3 20\n"));
+        assert_eq!(rt; out.taken, 6);
+        assert_eq!(rt; told.as_slice(), b"standard output: broken\n".as_slice());
+        Ok(())
+    }
+
+    #[test]
+    fn tells_a_write_that_takes_nothing(rt: HostRuntime) -> std::result::Result<(), Fail> {
+        let mut out = Breaks {
+            most: 0,
+            writes: 3,
+            taken: 0,
+        };
+        let mut told = Vec::new(rt.alloc());
+        assert!(rt; !print(&mut out, &mut told, b"5 3 20\n"));
+        assert_eq!(rt;
+            told.as_slice(),
+            b"standard output: write zero\n".as_slice()
+        );
+        Ok(())
+    }
+}

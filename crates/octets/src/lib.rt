@@ -3,7 +3,7 @@
 // also past the end.
 #![tactic(auto)]
 
-ghost use Rattle.std.specs.Prelude.{◌≡◌, [], ◌∷◌, ◌/◌, ◌≤◌, min, length, get_or, take};
+ghost use Rattle.std.specs.Prelude.{◌≡◌, [], ◌∷◌, length, get_or, take};
 ghost use Rattle.words.specs.Overlay.{Wrote};
 ghost use Rattle.octets.specs.Octets.{word_of, words_in, uneven, bytes_of, bytes_of_all};
 
@@ -13,7 +13,7 @@ use words::{Place, put};
 pub fn word(a: u8, b: u8, c: u8, d: u8) -> u32
     ensures { result ≡ word_of a b c d }
 {
-    a as u32 + 256 * (b as u32) + 65536 * (c as u32) + 16777216 * (d as u32)
+    u32::from_le_bytes([a, b, c, d])
 }
 
 // The bytes make no whole words.
@@ -38,27 +38,14 @@ pub fn word_at(bytes: &[u8], i: usize) -> u32
     0
 }
 
-// How many words the bytes make, of at most so many.
-fn loaded(bytes: &[u8], most: usize) -> usize
-    ensures { result ≡ min most (length bytes.now / 4) }
-{
-    let n = bytes.len() / 4;
-    if most < n {
-        return most;
-    }
-    n
-}
-
 // The words of the bytes, over the front of out; those that have no room there are left out. Answers how many were written.
 pub fn load(bytes: &[u8], out: &mut [u32]) -> usize
     ensures { Wrote (take (length out.old) (words_in bytes.now)) out.old 0 out.new result }
 {
-    let n = loaded(bytes, out.len());
+    let n = out.len().min(bytes.len() / 4);
     let mut next = 0;
-    let mut i = 0;
-    while i < n {
+    for i in 0..n {
         next = put(out, next, word_at(bytes, i));
-        i += 1;
     }
     next
 }
@@ -82,22 +69,20 @@ pub fn put_byte(out: &mut [u8], at: usize, x: u8) -> usize
 pub fn put_word(out: &mut [u8], at: usize, w: u32) -> usize
     ensures { Wrote (bytes_of w) out.old at out.new result }
 {
-    let second = put_byte(out, at, (w % 256) as u8);
-    let third = put_byte(out, second, (w / 256 % 256) as u8);
-    let fourth = put_byte(out, third, (w / 65536 % 256) as u8);
-    put_byte(out, fourth, (w / 16777216 % 256) as u8)
+    let mut next = at;
+    for b in w.to_le_bytes() {
+        next = put_byte(out, next, b);
+    }
+    next
 }
 
-// The same for the first n words of a slice.
-pub fn put_words(out: &mut [u8], at: usize, from: &[u32], n: usize) -> usize
-    requires { n ≤ length from.now }
-    ensures { Wrote (bytes_of_all (take n from.now)) out.old at out.new result }
+// The same for the words of a slice.
+pub fn put_words(out: &mut [u8], at: usize, from: &[u32]) -> usize
+    ensures { Wrote (bytes_of_all from.now) out.old at out.new result }
 {
     let mut next = at;
-    let mut i = 0;
-    while i < n {
-        next = put_word(out, next, from[i]);
-        i += 1;
+    for w in from {
+        next = put_word(out, next, *w);
     }
     next
 }

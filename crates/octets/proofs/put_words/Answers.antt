@@ -1,22 +1,10 @@
--- `octets::put_words` meets its contract: word by word, the bytes of the first i words are written. Assumes nothing.
-use mathlib.Core.Path.{◌≡◌}
-use native.Mathlib.Omega.{arith}
-use borrow.Author.Rules.{rules}
+-- `octets::put_words` meets its contract: the next word's bytes are written behind those written so far. Assumes nothing.
+use Rattle.std.proofs.Common.{arith}
 use Rattle.octets.specs.Octets.Laws.{bytes-none, bytes-more}
 use Rattle.octets.proofs.put_words.Goals as goal
 
-pub loop-i-init : goal.loop-i-init
-loop-i-init c = (search rules, bytes-none)
+pub loop-w-init : goal.loop-w-init
+loop-w-init c = bytes-none
 
--- the next word's bytes are written behind those written so far
-pub loop-i-preserved : goal.loop-i-preserved
-loop-i-preserved c = (
-  search rules,
-  bytes-more c.args.from.now c.loop-i.i (omega arith) c.loop-i.invariant.1
-      c.put_word-next.ensures,
-)
-
--- all n words are written
-pub returns : goal.returns
-returns c = let all : c.loop-i.i ≡ c.args.n = omega arith in
-    rw all at c.loop-i.invariant.1
+pub loop-w-preserved : goal.loop-w-preserved
+loop-w-preserved c = bytes-more c.args.from.now c.loop-w.w-index (omega arith) c.loop-w.invariant c.put_word-next.ensures

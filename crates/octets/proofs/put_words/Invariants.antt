@@ -1,12 +1,8 @@
--- `octets::put_words` meets its contract: word by word, the bytes of the first i words are written. Assumes nothing.
-use Prim.Native.Nat.{◌-◌, ◌≤◌}
-use lib.ListN.{take}
+-- `octets::put_words` meets its contract: word by word, the bytes of those so far are written. Assumes nothing.
+use Rattle.std.proofs.Common.{take}
 use Rattle.words.specs.Overlay.{Wrote}
 use Rattle.octets.specs.Octets.{bytes_of_all}
 use Rattle.octets.proofs.put_words.Given as goal
 
-abbrev pub invariant-loop-i : goal.invariant-loop-i
-invariant-loop-i l = (l.i ≤ l.n) × Wrote (bytes_of_all (take l.i l.from)) l.initial.out l.at l.out l.next
-
-abbrev pub decreases-loop-i : goal.decreases-loop-i
-decreases-loop-i l = l.n - l.i
+abbrev pub invariant-loop-w : goal.invariant-loop-w
+invariant-loop-w l = Wrote (bytes_of_all (take l.w-index l.from)) l.initial.out l.at l.out l.next

@@ -1,11 +1,7 @@
--- `words::put_all` meets its contract: word by word, the first i words are written. Assumes nothing.
-use Prim.Native.Nat.{◌-◌, ◌≤◌}
-use lib.ListN.{take}
+-- `words::put_all` meets its contract: word by word, those so far are written. Assumes nothing.
+use Rattle.std.proofs.Common.{take}
 use Rattle.words.specs.Overlay.{Wrote}
 use Rattle.words.proofs.put_all.Given as goal
 
-abbrev pub invariant-loop-i : goal.invariant-loop-i
-invariant-loop-i l = (l.i ≤ l.n) × Wrote (take l.i l.from) l.initial.out l.at l.out l.next
-
-abbrev pub decreases-loop-i : goal.decreases-loop-i
-decreases-loop-i l = l.n - l.i
+abbrev pub invariant-loop-w : goal.invariant-loop-w
+invariant-loop-w l = Wrote (take l.w-index l.from) l.initial.out l.at l.out l.next

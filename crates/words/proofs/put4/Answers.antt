@@ -1,6 +1,0 @@
--- `words::put4` meets its contract: the first word is written, and the rest at the place behind it. Assumes nothing.
-use Rattle.words.specs.Overlay.Laws.{wrote-cons}
-use Rattle.words.proofs.put4.Goals as goal
-
-pub returns : goal.returns
-returns c = search wrote-cons

@@ -1,12 +1,10 @@
 -- Answers as document 01 counts them: "The first that applies .. carries its number and a place." "On acceptance the answer is the
 -- output's length." An answer is its number, 0 for acceptance, and its values; and so is every case of the enums that answer.
-use Rattle.std.specs.Prelude.{ℕ, List, [], ◌∷◌}
+use Rattle.std.specs.Prelude.{ℕ, List, [], ◌∷◌, Result, Ok, Err}
 use Rattle.book.specs.declared.Refusal.{Refusal}
-use Rattle.book.specs.declared.Refusal.TheVariants.{Short, Count, Offset, Row, Size, Repeat, Party, Step, Sum, Taken, Move, Room, Summary, Question, Maker, Nobody}
+use Rattle.book.specs.declared.Refusal.TheVariants.{Short, Count, Offset, Row, Size, Repeat, Party, Step, Sum, Taken, Move, Room, Summary, Question, Maker, Nobody, Large}
 use Rattle.book.specs.declared.Told.{Told}
 use Rattle.book.specs.declared.Told.TheVariants.{One, Two}
-use Rattle.book.specs.declared.Reading.{Reading}
-use Rattle.book.specs.declared.Reading.TheVariants.{Accepted, Refused}
 pub mod Laws
 
 pub record Said : Type 0 where
@@ -37,10 +35,15 @@ refusal_says (Summary n) = said 20 (n ∷ [])
 refusal_says (Question n) = said 21 (n ∷ [])
 refusal_says (Maker s r) = said 13 (s ∷ r ∷ [])
 refusal_says (Nobody p) = said 22 (p ∷ [])
+refusal_says (Large n) = said 24 (n ∷ [])
+
+-- what is read of a book: acceptance, or why it is refused
+abbrev pub Reading : Type 0
+Reading = Result (Unit {0}) Refusal
 
 abbrev pub reading_says : Reading → Said
-reading_says Accepted = accepted
-reading_says (Refused f) = refusal_says f
+reading_says (Ok u) = accepted
+reading_says (Err f) = refusal_says f
 
 -- a refusal as it is told
 abbrev pub told_says : Told → Said

@@ -17,7 +17,8 @@ ghost use Rattle.book.specs.Layout.{kind, tag, row_first, row_count, name, party
 
 use words::wide;
 
-// Why a book, a schedule, a buffer, a summary, a question or a party's number is refused: document 01's table and document 02's lines, a case a line.
+// Why a book, a schedule, a buffer, a summary, a question, a party's number or a derivation is refused: document 01's table and document 02's
+// lines, a case a line.
 #[derive(Drop)]
 pub enum Refusal {
     Short,
@@ -36,6 +37,7 @@ pub enum Refusal {
     Question(u32),
     Maker(u32, u32),
     Nobody(u32),
+    Large(u32),
 }
 
 // A refusal as it is told: its number with one value, or with two.
@@ -43,13 +45,6 @@ pub enum Refusal {
 pub enum Told {
     One(u64, u64),
     Two(u64, u64, u64),
-}
-
-// What the reader says of a book.
-#[derive(Drop)]
-pub enum Reading {
-    Accepted,
-    Refused(Refusal),
 }
 
 // Where a party's walk through its steps stops, at the first atom that can't be made: the number of the refusal, 0 if there is none, with
@@ -506,5 +501,6 @@ pub fn told_of(refusal: Refusal) -> Told
         Refusal::Question(number) => Told::One(21, number as u64),
         Refusal::Maker(step, row) => Told::Two(13, step as u64, row as u64),
         Refusal::Nobody(party) => Told::One(22, party as u64),
+        Refusal::Large(count) => Told::One(24, count as u64),
     }
 }

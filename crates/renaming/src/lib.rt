@@ -2,12 +2,9 @@
 // stands only the verdict that a judge gives.
 #![tactic(auto)]
 
-use book::Refusal;
-
-// What a judge says of a listing: it is ours up to a renaming, or the place at which no renaming can agree, or why it is not judged.
+// What a judge says of a listing, where it is judged: it is ours up to a renaming, or the place at which no renaming can agree.
 #[derive(Drop)]
 pub enum Verdict {
     Same,
     Differs(usize),
-    Refused(Refusal),
 }

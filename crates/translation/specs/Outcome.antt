@@ -1,7 +1,7 @@
 -- The whole outcome of translating, for any words and any lent buffer: what is answered, and every lent word afterwards.
 -- Document 01: "The first that applies, from top to bottom, is given. .. All lent words stay as they were." "On acceptance the answer
 -- is the output's length; words past it are untouched." "12 is the last refusal tested".
-use Rattle.std.specs.Prelude.{ℕ, ◌<◌, ◌≡◌, List, [], ◌∷◌, ◌++◌, length, ltb, eqb}
+use Rattle.std.specs.Prelude.{ℕ, ◌<◌, ◌≡◌, List, [], ◌∷◌, ◌++◌, length, ltb, eqb, Result, Ok, Err}
 use Rattle.std.proofs.lemmas.List.Edits.{sets}
 use Rattle.words.specs.Choice.{pick}
 use Rattle.book.specs.Layout.{steps}
@@ -12,8 +12,7 @@ use Rattle.book.specs.Refusals.{Line, line, first_of, reading_table}
 use Rattle.translation.specs.Narration.{Narration, narration}
 use Rattle.translation.specs.Taken.{unplayable, stop_row, stop_number, Playable, NoDerivation, FirstStop}
 use Rattle.translation.specs.Listing.{listing}
-use Rattle.translation.specs.declared.Answer.{Answer}
-use Rattle.translation.specs.declared.Answer.TheVariants.{Written, Refused}
+use Rattle.book.specs.declared.Refusal.{Refusal}
 pub mod Laws
 pub mod Returned
 
@@ -51,10 +50,14 @@ laid s out ws = record { says = s; lent = pick (eqb s.number 0) (sets out 0 ws) 
 unfoldable pub outcome : List ℕ → List ℕ → Outcome
 outcome b out = laid (translation_says b out) out (listing b)
 
+-- what a translation answers: the output's length, or why there is none
+abbrev pub Answer : Type 0
+Answer = Result ℕ Refusal
+
 -- the paper's number and values of each answer
 abbrev pub answer_says : Answer → Said
-answer_says (Written n) = Said.said 0 (n ∷ [])
-answer_says (Refused f) = refusal_says f
+answer_says (Ok n) = Said.said 0 (n ∷ [])
+answer_says (Err f) = refusal_says f
 
 -- what came of a call: the answer as document 01 counts it, and the lent words afterwards
 abbrev pub came : Answer → List ℕ → Outcome

@@ -14,8 +14,7 @@ use Rattle.terms.specs.Table.Laws.{kind_of, term-row, shape_row, kind_row, atom-
 use Rattle.book.specs.Layout.{header, sections, begins, rows, parties, steps, kind, tag, row_first, row_count, parts, table}
 use Rattle.book.specs.Rules.{CountRule, count_breaks, OffsetRule, offset_breaks, RowRule, row_breaks, SizeRule, size_breaks, SingleRule, repeats, PartyRule, party_breaks, StepRule, step_breaks, TotalRule, total_breaks}
 use Rattle.book.specs.Rules.Laws.{count-exact, offset-exact, row-exact, size_exact, single-exact, party-exact, step-exact, total-exact}
-use Rattle.book.specs.declared.Reading.{Reading}
-use Rattle.book.specs.Said.{Said, said, accepted, reading_says}
+use Rattle.book.specs.Said.{Said, said, accepted, Reading, reading_says}
 use Rattle.book.specs.Said.Laws.{reading-injective}
 use Rattle.book.specs.Refusals.{Line, line, here, zero_place, first_of, reading_table, verdict}
 use Rattle.book.specs.Ruled.{Ruled, AllKeep, lines, Cause, above, line_at}

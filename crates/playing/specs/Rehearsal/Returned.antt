@@ -1,9 +1,8 @@
 -- What a rehearsal returns is unique. Assumes nothing.
 use Rattle.std.specs.Prelude.{ℕ, List, ◌≡◌}
 use Rattle.std.proofs.Common.{sym, ◌∙◌}
-use Rattle.translation.specs.Outcome.{came}
+use Rattle.translation.specs.Outcome.{Answer, came}
 use Rattle.translation.specs.Outcome.Returned.{came-injective}
-use Rattle.translation.specs.declared.Answer.{Answer}
 use Rattle.playing.specs.Rehearsal.{rehearsal}
 
 -- no two answers, and no two states of the lent words, keep the promise of `rehearse`

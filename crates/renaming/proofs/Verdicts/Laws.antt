@@ -1,6 +1,6 @@
 -- Laws of the verdict on words: it is Same or Differs exactly when document 02, [7] says so, where our slots are in order; ours is accepted;
 -- no two verdicts say the same. Assumes nothing.
-use Rattle.std.specs.Prelude.{ℕ, ◌≤◌, Bool, true, false, List, [], ◌∷◌, map, ◌↔◌, ◌⊎◌, ◌≡◌, refl}
+use Rattle.std.specs.Prelude.{ℕ, ◌≤◌, Bool, true, false, List, [], ◌∷◌, map, ◌↔◌, ◌⊎◌, ◌≡◌, refl, Ok, Err}
 use Rattle.std.proofs.Common.{inl, inr, sym, ap, ◌∙◌, arith}
 use Rattle.words.specs.Choice.Laws.{pick_true, pick-false, pick_ind}
 use Rattle.book.specs.Said.{Said, said}
@@ -11,8 +11,7 @@ use Rattle.renaming.specs.Slot.Laws.{order_below}
 use Rattle.renaming.specs.Renaming.{all_agree, place_of, Same, Differs}
 use Rattle.renaming.proofs.Renaming.Exact.{same-exact, differs-exact}
 use Rattle.renaming.specs.Renaming.Ours.{ours_same}
-use Rattle.renaming.specs.Verdict.{verdict_of, verdict_says}
-use Rattle.renaming.specs.declared.Verdict.{Verdict}
+use Rattle.renaming.specs.Verdict.{Judgement, verdict_of, verdict_says}
 use Rattle.renaming.specs.declared.Verdict.TheVariants as verdicts
 
 -- ---- the verdict on words, by whether all agree
@@ -71,13 +70,13 @@ pub verdict-ours : (ss : List Slot) → Ordered ss → handed ss ≤ word_limit 
 verdict-ours ss o h = (verdict-same ss (map spelt ss) o).1 (ours_same ss (order_below o (λ x z. absurd z) word_limit (omega arith)))
 
 -- ---- no two verdicts say the same
-pub verdict-injective : (r s : Verdict) → verdict_says r ≡ verdict_says s → r ≡ s
-verdict-injective verdicts.Same verdicts.Same e = refl
-verdict-injective verdicts.Same (verdicts.Differs k) e = let z : ◌≡◌ {A = ℕ} 1 0 = ap (λ (x : Said). value_at x 0) e in absurd (omega arith)
-verdict-injective verdicts.Same (verdicts.Refused g) e = absurd (refusal-number g (sym (ap (λ (x : Said). x.number) e)))
-verdict-injective (verdicts.Differs j) verdicts.Same e = let z : ◌≡◌ {A = ℕ} 0 1 = ap (λ (x : Said). value_at x 0) e in absurd (omega arith)
-verdict-injective (verdicts.Differs j) (verdicts.Differs k) e = ap verdicts.Differs (ap (λ (x : Said). value_at x 1) e)
-verdict-injective (verdicts.Differs j) (verdicts.Refused g) e = absurd (refusal-number g (sym (ap (λ (x : Said). x.number) e)))
-verdict-injective (verdicts.Refused f) verdicts.Same e = absurd (refusal-number f (ap (λ (x : Said). x.number) e))
-verdict-injective (verdicts.Refused f) (verdicts.Differs k) e = absurd (refusal-number f (ap (λ (x : Said). x.number) e))
-verdict-injective (verdicts.Refused f) (verdicts.Refused g) e = ap verdicts.Refused (refusal-injective f g e)
+pub verdict-injective : (r s : Judgement) → verdict_says r ≡ verdict_says s → r ≡ s
+verdict-injective (Ok verdicts.Same) (Ok verdicts.Same) e = refl
+verdict-injective (Ok verdicts.Same) (Ok (verdicts.Differs k)) e = let z : ◌≡◌ {A = ℕ} 1 0 = ap (λ (x : Said). value_at x 0) e in absurd (omega arith)
+verdict-injective (Ok verdicts.Same) (Err g) e = absurd (refusal-number g (sym (ap (λ (x : Said). x.number) e)))
+verdict-injective (Ok (verdicts.Differs j)) (Ok verdicts.Same) e = let z : ◌≡◌ {A = ℕ} 0 1 = ap (λ (x : Said). value_at x 0) e in absurd (omega arith)
+verdict-injective (Ok (verdicts.Differs j)) (Ok (verdicts.Differs k)) e = ap (λ (k : ℕ). Ok (verdicts.Differs k)) (ap (λ (x : Said). value_at x 1) e)
+verdict-injective (Ok (verdicts.Differs j)) (Err g) e = absurd (refusal-number g (sym (ap (λ (x : Said). x.number) e)))
+verdict-injective (Err f) (Ok verdicts.Same) e = absurd (refusal-number f (ap (λ (x : Said). x.number) e))
+verdict-injective (Err f) (Ok (verdicts.Differs k)) e = absurd (refusal-number f (ap (λ (x : Said). x.number) e))
+verdict-injective (Err f) (Err g) e = ap Err (refusal-injective f g e)

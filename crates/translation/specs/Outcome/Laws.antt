@@ -2,7 +2,7 @@
 -- acceptance the lent words are the listing and what was behind it; no two outcomes keep one promise. What the rehearsal has in
 -- common with the translation is said once: refusals 1 to 10 and 13 first, refusal 12 as the last, and an output that is laid over the
 -- lent words. Assumes nothing.
-use Rattle.std.specs.Prelude.{ℕ, ◌+◌, ◌≤◌, ◌<◌, Bool, true, false, ◌↔◌, ◌⊎◌, ◌≡◌, length, drop, ltb}
+use Rattle.std.specs.Prelude.{ℕ, ◌+◌, ◌≤◌, ◌<◌, Bool, true, false, ◌↔◌, ◌⊎◌, ◌≡◌, length, drop, ltb, Ok, Err}
 use mathlib.Core.List.{List, [], ◌∷◌, ◌++◌, append-nil}
 use Rattle.std.proofs.Common.{inl, inr, ⊎_elim, ap₂, ◌∙◌, arith, ltb-false, le-ltb, ne_eqb, eq-eqb, eqb-true}
 use Rattle.std.proofs.Math.Path.{refl, sym, ap}
@@ -27,7 +27,6 @@ use Rattle.translation.specs.Taken.{Taken, Barred, sender_makes, unplayable, sto
 use Rattle.translation.specs.Taken.Laws.{sender-makes, playable-exact, unplayable-exact, stop-cases, ten-exact, thirteen-exact}
 use Rattle.translation.specs.Listing.{listing}
 use Rattle.translation.specs.Outcome.{stop_line, room_line, acceptance, translation_says, Outcome, laid, outcome, came, Plays, Unplayable, SomeUnderived, Promise}
-use Rattle.translation.specs.declared.Answer.TheVariants.{Written, Refused}
 
 -- ---- refusal 12 is the last, behind the lines xs: "No room is said only when there is none."
 abbrev pub room-line : ℕ → ℕ → Ruled
@@ -91,10 +90,10 @@ module _ (s : Said.Said) (out ws : List ℕ) where
       laid-lays e ∙ sets-eq ws out 0 (omega arith) ∙ ap (λ n. ws ++ drop n out) z
 
   -- what came of a call: a refusal, or the output's length
-  pub came_refused : (f : Refusal) → s ≡ refusal_says f → came (Refused f) out ≡ laid s out ws
+  pub came_refused : (f : Refusal) → s ≡ refusal_says f → came (Err f) out ≡ laid s out ws
   came_refused f e = ap₂ of (sym e) (sym (laid-keeps (λ z. refusal-number f (ap (λ (x : Said.Said). x.number) (sym e) ∙ z))))
 
-  pub came-written : (new : List ℕ) (n : ℕ) → s ≡ Said.said 0 (n ∷ []) → new ≡ sets out 0 ws → came (Written n) new ≡ laid s out ws
+  pub came-written : (new : List ℕ) (n : ℕ) → s ≡ Said.said 0 (n ∷ []) → new ≡ sets out 0 ws → came (Ok n) new ≡ laid s out ws
   came-written new n e l = ap₂ of (sym e) (l ∙ sym (laid-lays (ap (λ (x : Said.Said). x.number) e)))
 
 -- ---- the lines of a translation with their rules
@@ -179,7 +178,7 @@ module _ (b : List ℕ) where
   book-first ls rest n = first_of-stop (reading_table b ++ stop_line b ∷ []) ls accepted rest refl n
 
   pub book-came : (ls : List Line) (rest : Said.Said) (out ws : List ℕ) (f : Refusal) → refusal_says f ≡ acceptance b
-      → came (Refused f) out ≡ laid (first_of (reading_table b ++ stop_line b ∷ ls) rest) out ws
+      → came (Err f) out ≡ laid (first_of (reading_table b ++ stop_line b ∷ ls) rest) out ws
   book-came ls rest out ws f e =
       came_refused _ out ws f (book-first ls rest (λ z. refusal-number f (ap (λ (x : Said.Said). x.number) e ∙ z)) ∙ sym e)
 

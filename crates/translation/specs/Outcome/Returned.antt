@@ -1,20 +1,17 @@
 -- What is returned is unique: an answer's number and values say which case of the enum it is, so a promise about them is a promise
 -- about the answer itself. Assumes nothing.
-use Rattle.std.specs.Prelude.{ℕ, List, ◌≡◌}
+use Rattle.std.specs.Prelude.{ℕ, List, ◌≡◌, Ok, Err}
 use Rattle.std.proofs.Common.{sym, ap, ◌∙◌}
-use Rattle.book.specs.declared.Reading.{Reading}
 use Rattle.book.specs.Said as Said
-use Rattle.book.specs.Said.{reading_says}
+use Rattle.book.specs.Said.{Reading, reading_says}
 use Rattle.book.specs.Said.Laws.{value_at, refusal-number, refusal-injective, reading-injective}
-use Rattle.translation.specs.Outcome.{Outcome, acceptance, outcome, answer_says, came}
-use Rattle.translation.specs.declared.Answer.{Answer}
-use Rattle.translation.specs.declared.Answer.TheVariants.{Written, Refused}
+use Rattle.translation.specs.Outcome.{Answer, Outcome, acceptance, outcome, answer_says, came}
 
 pub answer-injective : (r s : Answer) → answer_says r ≡ answer_says s → r ≡ s
-answer-injective (Written n) (Written m) e = ap (λ (x : Said.Said). Written (value_at x 0)) e
-answer-injective (Written n) (Refused g) e = absurd (refusal-number g (sym (ap (λ (x : Said.Said). x.number) e)))
-answer-injective (Refused f) (Written m) e = absurd (refusal-number f (ap (λ (x : Said.Said). x.number) e))
-answer-injective (Refused f) (Refused g) e = ap Refused (refusal-injective f g e)
+answer-injective (Ok n) (Ok m) e = ap (λ (x : Said.Said). Ok (value_at x 0)) e
+answer-injective (Ok n) (Err g) e = absurd (refusal-number g (sym (ap (λ (x : Said.Said). x.number) e)))
+answer-injective (Err f) (Ok m) e = absurd (refusal-number f (ap (λ (x : Said.Said). x.number) e))
+answer-injective (Err f) (Err g) e = ap Err (refusal-injective f g e)
 
 -- what came of two calls is the same: so are the answers, and the lent words
 pub came-injective : (r s : Answer) (new old : List ℕ) → came r new ≡ came s old → (r ≡ s) × (new ≡ old)

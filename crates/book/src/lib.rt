@@ -47,20 +47,20 @@ pub enum Told {
     Two(u64, u64, u64),
 }
 
-// Where a party's walk through its steps stops, at the first atom that can't be made: the number of the refusal, 0 if there is none, with
-// the step and the atom's row.
-#[derive(Drop)]
-pub struct Stop {
-    pub number: u32,
-    pub step: u32,
-    pub row: u32,
+// What stands against making an atom: it is taken, or its sender makes nothing.
+#[derive(Clone, Copy)]
+pub enum Against {
+    Taken,
+    Maker,
 }
 
-impl Stop {
-    // The refusals' numbers: the atom is taken, or its sender makes nothing.
-    pub const TAKEN: u32 = 10;
-
-    pub const MAKER: u32 = 13;
+// Where a party's walk through its steps stops, at the first atom that can't be made: what stands against it, with the step and the
+// atom's row.
+#[derive(Clone, Copy)]
+pub struct Stop {
+    pub against: Against,
+    pub step: u32,
+    pub row: u32,
 }
 
 // A party's mark, if it may make atoms; 0 if it may not.

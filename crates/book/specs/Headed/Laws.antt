@@ -44,6 +44,9 @@ few-steps b v = (valid-headed b v).few_steps
 pub small-pool : (b : List ℕ) → Valid b → pool b ≤ most 3
 small-pool b v = (valid-headed b v).small_pool
 
+-- what a valid book's header says, for a tactic
+pub ruleset headed_rules = (valid-headed, few-rows, few-parties, few-steps, small-pool)
+
 -- no headed book is longer than the longest
 pub long-most : (b : List ℕ) → Headed b → length b ≤ longest
 long-most b h = omega arith

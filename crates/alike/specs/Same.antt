@@ -9,6 +9,7 @@ use Rattle.typing.specs.Reading.{Read, joined, altered, term, effect_of, effects
 pub mod Laws
 pub mod Effects
 pub mod Bags
+pub mod Each
 pub mod Types
 pub mod Environments
 pub mod Leaves

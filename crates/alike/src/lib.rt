@@ -1,17 +1,20 @@
 // Whether two things that words spell are the same: terms and effects by their words, effects as multisets by counting, types and
-// environments up to the order of effects; and the names of terms and effects, and the entries of environments.
+// environments up to the order of effects; and the names of terms and effects, and the entries of environments. `count_where` and
+// `every_effect` ask a test of each of several effects.
 #![tactic(auto)]
 
-ghost use Rattle.std.specs.Prelude.{◌≡◌, ◌+◌, ◌-◌, ◌≤◌, ◌<◌, length, drop, get_or};
+ghost use Rattle.std.specs.Prelude.{Bool, ◌≡◌, ◌+◌, ◌-◌, ◌≤◌, ◌<◌, length, drop, get_or};
 ghost use Rattle.std.proofs.Math.Option.{some};
 ghost use Rattle.words.specs.Choice.{pick};
 ghost use Rattle.words.specs.Run.{run, same_words};
-ghost use Rattle.typing.specs.Term.{same_term, same_effect, closed, occurs, mentions};
+ghost use Rattle.std.specs.List.{list_all, count_by};
+ghost use Rattle.typing.specs.Term.{Effect, same_term, same_effect, closed, occurs, mentions};
 ghost use Rattle.typing.specs.Bag.{bag, count};
 ghost use Rattle.typing.specs.Types.{same_type, same_effects, same_environment, same_entry, ◌⦂◌};
 ghost use Rattle.typing.specs.Check.{stands};
 ghost use Rattle.typing.specs.Reading.{term, effect_of, effects, type_at, environment_at};
 ghost use Rattle.spans.specs.Behind.{At, rest_of, type_own};
+ghost use Rattle.alike.specs.Same.Each.{AskedOfEach, Tells};
 ghost use Rattle.alike.specs.Same.{term_in, effect_in, effects_in, type_in, environment_in, test, own_effects, is_name};
 
 use spans::{term_end, term_turn, type_end, type_own, type_parts};
@@ -286,4 +289,52 @@ pub fn entry_stands(w: &[u32], a: usize, e: usize, x: u32, v: &[u32], b: usize, 
         i = own;
     }
     false
+}
+
+// How many of the k effects from a to end a test holds of. It is asked of each by its place and its end.
+pub fn count_where<F: Fn(usize, usize) -> bool>(
+    w: &[u32],
+    a: usize,
+    k: usize,
+    end: usize,
+    holds: F,
+) -> usize
+    requires reads { rest_of (effects k (drop a w.now)) ≡ some (drop end w.now) }
+    requires asked { AskedOfEach w.now (F.pre holds) }
+    ensures counts { (p : Effect → Bool) → Tells w.now (F.post holds) p → result ≡ count_by p (effects_in w.now a k) }
+    ensures few { result ≤ k }
+{
+    let mut i = a;
+    let mut n = 0;
+    for _ in 0..k {
+        let e = term_end(w, i + 1);
+        if holds(i, e) {
+            n += 1;
+        }
+        i = e;
+    }
+    n
+}
+
+// A test holds of every one of the k effects from a to end. It is asked of each by its place and its end.
+pub fn every_effect<F: Fn(usize, usize) -> bool>(
+    w: &[u32],
+    a: usize,
+    k: usize,
+    end: usize,
+    holds: F,
+) -> bool
+    requires reads { rest_of (effects k (drop a w.now)) ≡ some (drop end w.now) }
+    requires asked { AskedOfEach w.now (F.pre holds) }
+    ensures { (p : Effect → Bool) → Tells w.now (F.post holds) p → result ≡ list_all p (effects_in w.now a k) }
+{
+    let mut i = a;
+    for _ in 0..k {
+        let e = term_end(w, i + 1);
+        if !holds(i, e) {
+            return false;
+        }
+        i = e;
+    }
+    true
 }

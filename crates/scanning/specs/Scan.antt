@@ -1,9 +1,11 @@
 -- A program's words as slots, by going through them: what the next word is. With a number, so many images follow behind it.
-use Rattle.std.specs.Prelude.{ℕ, zero, suc, ◌+◌, ◌<◌, Bool, true, false, List, [], ◌∷◌, ◌++◌, ◌≡◌, get_or, ltb, eqb}
+use Rattle.std.specs.Prelude.{ℕ, zero, suc, ◌+◌, ◌<◌, Bool, true, false, List, [], ◌∷◌, ◌++◌, ◌≡◌, get_or, ltb}
 use Rattle.words.specs.Choice.{pick}
 use Rattle.words.specs.Overlay.{cap}
 use Rattle.translation.specs.Receive.{Event as Translated}
 use Rattle.renaming.specs.Slot.{Slot}
+use Rattle.scanning.specs.declared.Class.{Class}
+use Rattle.scanning.specs.declared.Class.TheVariants as Class
 use Rattle.scanning.specs.declared.Mode.{Mode}
 use Rattle.scanning.specs.declared.Mode.TheVariants.{Event, Image, Last, Tag, More, Step, First, Length, Use, Opened, Row, Stored, Since}
 pub mod Laws
@@ -51,40 +53,52 @@ next_mode Row w = Stored
 next_mode Stored w = Since
 next_mode Since w = Row
 
--- 0 for a plain word, 1 for a placeholder, 2 for the first of a run, 3 for the run's length, which is plain, too
-abbrev pub class_of : Mode → ℕ
-class_of Event = 0
-class_of (Image l) = 0
-class_of (Last l) = 0
-class_of (Tag l) = 0
-class_of (More l) = 0
-class_of Step = 0
-class_of (First l) = 2
-class_of (Length l) = 3
-class_of (Use l) = 1
-class_of Opened = 1
-class_of Row = 0
-class_of Stored = 1
-class_of Since = 0
+-- how a word is compared; a run's length is plain, too
+abbrev pub class_of : Mode → Class
+class_of Event = Class.Plain
+class_of (Image l) = Class.Plain
+class_of (Last l) = Class.Plain
+class_of (Tag l) = Class.Plain
+class_of (More l) = Class.Plain
+class_of Step = Class.Plain
+class_of (First l) = Class.First
+class_of (Length l) = Class.Length
+class_of (Use l) = Class.Use
+class_of Opened = Class.Use
+class_of Row = Class.Plain
+class_of Stored = Class.Use
+class_of Since = Class.Plain
 
 -- the slot of the word w, behind which v stands, by its class
-abbrev pub slot_of : ℕ → ℕ → ℕ → Slot
-slot_of zero w v = Slot.plain w
-slot_of (suc zero) w v = Slot.uses w
-slot_of (suc (suc zero)) w v = Slot.runs w v
-slot_of (suc (suc (suc k))) w v = Slot.plain w
+abbrev pub slot_of : Class → ℕ → ℕ → Slot
+slot_of Class.Plain w v = Slot.plain w
+slot_of Class.Use w v = Slot.uses w
+slot_of Class.First w v = Slot.runs w v
+slot_of Class.Length w v = Slot.plain w
 
 unfoldable pub scan : Mode → List ℕ → List Slot
 scan m [] = []
 scan m (w ∷ ws) = slot_of (class_of m) w (get_or ws 0 0) ∷ scan (next_mode m w) ws
 
--- the word is a run's length
-abbrev pub is_length : Mode → Bool
-is_length m = eqb (class_of m) 3
+-- a word of the class is a run's length
+abbrev pub of_length : Class → Bool
+of_length Class.Plain = false
+of_length Class.Use = false
+of_length Class.First = false
+of_length Class.Length = true
 
--- how many placeholders are handed out by the word, behind which v stands
+abbrev pub is_length : Mode → Bool
+is_length m = of_length (class_of m)
+
+-- how many placeholders are handed out by a word of the class, behind which v stands
+abbrev pub run_by : Class → ℕ → ℕ
+run_by Class.Plain v = 0
+run_by Class.Use v = 0
+run_by Class.First v = v
+run_by Class.Length v = 0
+
 abbrev pub run_of : Mode → ℕ → ℕ
-run_of m v = pick (eqb (class_of m) 2) v 0
+run_of m v = run_by (class_of m) v
 
 -- what the word behind them is
 unfoldable pub after : Mode → List ℕ → Mode

@@ -42,60 +42,47 @@ fn more(images: usize, n: u32) -> usize
     ensures { result ≡ more_pending images n }
 {
     if images < Place::CAP {
-        return images + wide(n);
+        images + wide(n)
+    } else {
+        images
     }
-    images
 }
 
 // Behind a whole image, or a whole head of one: the next image, or the next event.
 fn resume(images: usize) -> Mode
     ensures { result ≡ resumed images }
 {
-    if images == 0 {
-        return Mode::Event;
+    match images {
+        0 => Mode::Event,
+        _ => Mode::Image(images - 1),
     }
-    Mode::Image(images - 1)
 }
 
 // Behind an event's code.
 fn in_event(code: u32) -> Mode
     ensures { result ≡ in_event code }
 {
-    if code == Code::NEW {
-        return Mode::Last(0);
+    match code {
+        Code::NEW => Mode::Last(0),
+        Code::SEND => Mode::Tag(0),
+        Code::RECEIVE => Mode::Step,
+        Code::CHECK => Mode::Use(1),
+        Code::OPEN => Mode::Opened,
+        _ => Mode::Since,
     }
-    if code == Code::SEND {
-        return Mode::Tag(0);
-    }
-    if code == Code::RECEIVE {
-        return Mode::Step;
-    }
-    if code == Code::CHECK {
-        return Mode::Use(1);
-    }
-    if code == Code::OPEN {
-        return Mode::Opened;
-    }
-    Mode::Since
 }
 
 // Behind an image's code, with so many images behind the image.
 fn in_image(code: u32, images: usize) -> Mode
     ensures { result ≡ in_image code images }
 {
-    if code == ImageCode::ITSELF {
-        return Mode::Last(images);
+    match code {
+        ImageCode::ITSELF => Mode::Last(images),
+        ImageCode::PLACEHOLDER => Mode::Use(images),
+        ImageCode::OPERATION => Mode::Tag(images),
+        ImageCode::CIPHER => Mode::More(more(images, 1)),
+        _ => Mode::Image(images),
     }
-    if code == ImageCode::PLACEHOLDER {
-        return Mode::Use(images);
-    }
-    if code == ImageCode::OPERATION {
-        return Mode::Tag(images);
-    }
-    if code == ImageCode::CIPHER {
-        return Mode::More(more(images, 1));
-    }
-    Mode::Image(images)
 }
 
 impl Mode {
@@ -106,13 +93,11 @@ impl Mode {
         match self {
             Mode::Event => in_event(word),
             Mode::Image(images) => in_image(word, images),
-            Mode::Last(images) => resume(images),
+            Mode::Last(images) | Mode::Length(images) | Mode::Use(images) => resume(images),
             Mode::Tag(images) => Mode::More(images),
             Mode::More(images) => resume(more(images, word)),
             Mode::Step => Mode::First(0),
             Mode::First(images) => Mode::Length(images),
-            Mode::Length(images) => resume(images),
-            Mode::Use(images) => resume(images),
             Mode::Opened => Mode::First(1),
             Mode::Row => Mode::Stored,
             Mode::Stored => Mode::Since,
@@ -121,47 +106,44 @@ impl Mode {
     }
 
     // How a word is compared: by what it is.
-    pub fn class(self) -> u32
+    pub fn class(self) -> Class
         ensures { result ≡ class_of self }
     {
         match self {
-            Mode::Event => Class::PLAIN,
-            Mode::Image(_) => Class::PLAIN,
-            Mode::Last(_) => Class::PLAIN,
-            Mode::Tag(_) => Class::PLAIN,
-            Mode::More(_) => Class::PLAIN,
-            Mode::Step => Class::PLAIN,
-            Mode::First(_) => Class::FIRST,
-            Mode::Length(_) => Class::LENGTH,
-            Mode::Use(_) => Class::USE,
-            Mode::Opened => Class::USE,
-            Mode::Row => Class::PLAIN,
-            Mode::Stored => Class::USE,
-            Mode::Since => Class::PLAIN,
+            Mode::Event
+            | Mode::Image(_)
+            | Mode::Last(_)
+            | Mode::Tag(_)
+            | Mode::More(_)
+            | Mode::Step
+            | Mode::Row
+            | Mode::Since => Class::Plain,
+            Mode::Use(_) | Mode::Opened | Mode::Stored => Class::Use,
+            Mode::First(_) => Class::First,
+            Mode::Length(_) => Class::Length,
         }
     }
 }
 
-// How a word is compared: as it is, as a placeholder, or as the first of a run; and a run's length, as it is.
-#[derive(Drop)]
-pub struct Class {}
-
-impl Class {
-    pub const PLAIN: u32 = 0;
-
-    pub const USE: u32 = 1;
-
-    pub const FIRST: u32 = 2;
-
-    pub const LENGTH: u32 = 3;
+// How a word is compared.
+#[derive(Clone, Copy)]
+pub enum Class {
+    // As it is.
+    Plain,
+    // As a placeholder.
+    Use,
+    // As the first of a run.
+    First,
+    // As it is: a run's length.
+    Length,
 }
 
 // How many placeholders are handed out with the word, behind which v stands.
 pub fn run_of(mode: Mode, v: u32) -> u32
     ensures { result ≡ run_of mode v }
 {
-    if mode.class() == Class::FIRST {
-        return v;
+    match mode.class() {
+        Class::First => v,
+        _ => 0,
     }
-    0
 }

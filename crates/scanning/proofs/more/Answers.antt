@@ -6,5 +6,5 @@ use Rattle.scanning.proofs.more.Goals as goal
 pub returns-then-images-lt-CAP : goal.returns-then-images-lt-CAP
 returns-then-images-lt-CAP c = pending-more _ _ _ c.if-images-lt-CAP.true c.wide.ensures.0
 
-pub returns : goal.returns
-returns c = search pending-full
+pub returns-else-images-lt-CAP : goal.returns-else-images-lt-CAP
+returns-else-images-lt-CAP c = search pending-full

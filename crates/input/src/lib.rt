@@ -1,4 +1,5 @@
 // A program's input: `fill` reads bytes and says how many came, never more than there is room for. Which bytes come is the system's.
+// What fails is told at once, on standard error, so that of a failure no more is handed on than that it was.
 #![tactic(auto)]
 
 ghost use Rattle.std.specs.Prelude.{◌≤◌, length};
@@ -7,12 +8,9 @@ ghost use Rattle.input.specs.Input.{Within, Came};
 use std::fmt;
 use std::io::{Error, Read, Write};
 
-// How reading ended: so many bytes came, or it failed, which was told.
-#[derive(Drop)]
-pub enum Input {
-    Bytes(usize),
-    Failed,
-}
+// Reading or printing failed, which was told.
+#[derive(Debug, Drop)]
+pub struct Failed;
 
 // Fills the bytes until there is no more room or no more to read. A read may bring fewer bytes
 // than there is room for, so the end is a read that brings none.
@@ -21,22 +19,22 @@ pub fn fill<R: Read, E: Write>(
     errors: &mut E,
     name: &[u8],
     bytes: &mut [u8],
-) -> Input
+) -> Result<usize, Failed>
     ensures within { Within result (length bytes.old) }
     ensures came { Came result (R.remaining reader.old) (R.remaining reader.new) bytes.new }
 {
     let mut n = 0;
     while n < bytes.len() {
         match reader.read(&mut bytes[n..]) {
-            Ok(0) => return Input::Bytes(n),
+            Ok(0) => return Ok(n),
             Ok(more) => n += more,
             Err(error) => {
                 fail(errors, name, &error);
-                return Input::Failed;
+                return Err(Failed);
             }
         }
     }
-    Input::Bytes(n)
+    Ok(n)
 }
 
 // What a system's error says of itself, as far as there is room.
@@ -92,7 +90,7 @@ pub fn fail<E: Write>(errors: &mut E, what: &[u8], error: &Error) {
 
 #[cfg(test)]
 mod tests {
-    use super::{Input, fill};
+    use super::fill;
     use std::io::{Error, ErrorKind, Read, Result};
     use std::test::Fail;
 
@@ -122,7 +120,7 @@ mod tests {
         let mut told = Vec::new(rt.alloc());
         let mut bytes = [0u8; 6];
         let input = fill(&mut Breaks { reads: 3 }, &mut told, b"input", &mut bytes);
-        assert!(rt; matches!(input, Input::Bytes(6)));
+        assert!(rt; matches!(input, Ok(6)));
         assert_eq!(rt; bytes.as_slice(), b"ababab".as_slice());
         assert_eq!(rt; told.len(), 0);
         Ok(())
@@ -133,7 +131,7 @@ mod tests {
         let mut told = Vec::new(rt.alloc());
         let mut bytes = [0u8; 6];
         let input = fill(&mut Breaks { reads: 2 }, &mut told, b"input", &mut bytes);
-        assert!(rt; matches!(input, Input::Failed));
+        assert!(rt; input.is_err());
         assert_eq!(rt; told.as_slice(), b"input: broken\n".as_slice());
         Ok(())
     }

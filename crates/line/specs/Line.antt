@@ -1,14 +1,13 @@
 -- The line that the program prints, as bytes. Document 01: "A listing is printed as its words, a refusal as the word "refused", its
 -- number and its place, all in decimal on one line with single spaces."
-use Rattle.std.specs.Prelude.{ℕ, ◌+◌, ◌-◌, ◌^◌, ◌≤◌, ◌<◌, ◌≡◌, Bool, true, false, Option, List, [], ◌∷◌, ◌++◌, length, get_or, take, ltb, eqb}
+use Rattle.std.specs.Prelude.{ℕ, ◌+◌, ◌-◌, ◌^◌, ◌≤◌, ◌<◌, ◌≡◌, Option, Result, Ok, Err, List, [], ◌∷◌, ◌++◌, length, get_or, take, ltb, eqb}
 use Rattle.std.specs.Io.KnownBytes.{Appends}
 use Rattle.io.specs.Digits.{last_digits}
 use Rattle.words.specs.Choice.{pick}
 use Rattle.words.specs.First.{first}
 use Rattle.book.specs.Said.{Said}
-use Rattle.translation.specs.Outcome.{Outcome}
-use Rattle.translation.specs.declared.Answer.{Answer}
-use Rattle.translation.specs.declared.Answer.TheVariants.{Written, Refused}
+use Rattle.input.specs.declared.Failed.{Failed}
+use Rattle.translation.specs.Outcome.{Outcome, Answer}
 pub mod Laws
 
 -- how many digits a number below 10^20 takes
@@ -58,8 +57,8 @@ line_of o = pick (eqb o.says.number 0) (listing_line (take (get_or o.says.values
 
 -- what is said to be written lies in the lent words
 abbrev pub Inside : Answer → ℕ → Type 0
-Inside (Written n) room = n ≤ room
-Inside (Refused f) room = Unit {0}
+Inside (Ok n) room = n ≤ room
+Inside (Err f) room = Unit {0}
 
 -- a text was put at a place of a line: what stands before the next place is what stood before the first, and then the text
 pub record Put (text old : List ℕ) (at : ℕ) (new : List ℕ) (r : ℕ) : Type 0 where
@@ -72,7 +71,7 @@ pub record PutNumber (x : ℕ) (old : List ℕ) (at : ℕ) (new : List ℕ) (r :
   pub low : r ≤ at + 21
   pub word : x < 2 ^ 32 → r ≤ at + 11
 
--- whether a line was printed: all of it was written behind what the writer held, or where a write failed, what came before that
-abbrev pub Printed : Bool → Option (List ℕ) → Option (List ℕ) → List ℕ → Type 0
-Printed true old new line = Appends old new line
-Printed false old new line = (n : ℕ) × (n ≤ length line) × Appends old new (take n line)
+-- a line was printed: all of it was written behind what the writer held, or where a write failed, what came before that
+abbrev pub Printed : Result (Unit {0}) Failed → Option (List ℕ) → Option (List ℕ) → List ℕ → Type 0
+Printed (Ok u) old new line = Appends old new line
+Printed (Err f) old new line = (n : ℕ) × (n ≤ length line) × Appends old new (take n line)

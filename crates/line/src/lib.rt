@@ -8,7 +8,8 @@ ghost use Rattle.book.specs.Said.{refusal_says, reading_says, told_says};
 ghost use Rattle.translation.specs.Outcome.{came};
 ghost use Rattle.line.specs.Line.{spaced_all, ended, listing_line, refusal_text, refusal_line, reading_line, line_of, Inside, Put, PutNumber, Printed};
 
-use book::{Reading, Refusal, Told, told_of};
+use book::{Refusal, Told, told_of};
+use input::Failed;
 use std::io::{Error, ErrorKind, Write};
 use translation::Answer;
 
@@ -17,12 +18,9 @@ pub fn put_text(line: &mut [u8], at: usize, text: &[u8]) -> usize
     requires { at + length text.now ≤ length line.old }
     ensures { Put text.now line.old at line.new result }
 {
-    let mut i = 0;
-    while i < text.len() {
-        line[at + i] = text[i];
-        i += 1;
-    }
-    at + text.len()
+    let end = at + text.len();
+    line[at..end].copy_from_slice(text);
+    end
 }
 
 // The same for a number in decimal with a space behind it. A word takes up to eleven bytes of the line; another number can take
@@ -44,10 +42,8 @@ fn put_words(line: &mut [u8], words: &[u32]) -> usize
     ensures { (take result line.new ≡ spaced_all words.now) × (result ≤ 11 * length words.now) }
 {
     let mut at = 0;
-    let mut i = 0;
-    while i < words.len() {
-        at = put_number(line, at, words[i] as u64);
-        i += 1;
+    for word in words {
+        at = put_number(line, at, u64::from(*word));
     }
     at
 }
@@ -111,26 +107,26 @@ pub fn answer_line(line: &mut [u8], answer: Answer, lent: &[u32]) -> usize
     ensures line_after { take result line.new ≡ line_of (came answer lent.now) }
 {
     match answer {
-        Answer::Written(n) => listing_line(line, &lent[..n]),
-        Answer::Refused(refusal) => refusal_line(line, refusal),
+        Ok(n) => listing_line(line, &lent[..n]),
+        Err(refusal) => refusal_line(line, refusal),
     }
 }
 
 // The line of what a reading came to: the word "accepted", as there is no output, or its refusal.
-pub fn reading_line(line: &mut [u8], reading: Reading) -> usize
+pub fn reading_line(line: &mut [u8], reading: Result<(), Refusal>) -> usize
     requires { 71 ≤ length line.old }
     ensures prefix_len { IsPrefixLen result line.new }
     ensures line_after { take result line.new ≡ reading_line (reading_says reading) }
 {
     match reading {
-        Reading::Accepted => put_text(line, 0, b"accepted\n"),
-        Reading::Refused(refusal) => refusal_line(line, refusal),
+        Ok(()) => put_text(line, 0, b"accepted\n"),
+        Err(refusal) => refusal_line(line, refusal),
     }
 }
 
-// Writes a line out, or several; whether all of it was written, and where it wasn't, that is told. All of it is handed over at once and
+// Writes a line out, or several; where not all of it was written, that is told. All of it is handed over at once and
 // a newline comes last, so that where a write fails, what went out before is seen not to be whole.
-pub fn print<W: Write, E: Write>(out: &mut W, errors: &mut E, line: &[u8]) -> bool
+pub fn print<W: Write, E: Write>(out: &mut W, errors: &mut E, line: &[u8]) -> Result<(), Failed>
     ensures { Printed result (W.contents out.old) (W.contents out.new) line.now }
 {
     let mut done = 0;
@@ -138,16 +134,16 @@ pub fn print<W: Write, E: Write>(out: &mut W, errors: &mut E, line: &[u8]) -> bo
         match out.write(&line[done..]) {
             Ok(0) => {
                 fail(errors, &Error::from(ErrorKind::WriteZero));
-                return false;
+                return Err(Failed);
             }
             Ok(more) => done += more,
             Err(error) => {
                 fail(errors, &error);
-                return false;
+                return Err(Failed);
             }
         }
     }
-    true
+    Ok(())
 }
 
 // Tells that the line was not written, and the system's reason.
@@ -193,7 +189,7 @@ mod tests {
             taken: 0,
         };
         let mut told = Vec::new(rt.alloc());
-        assert!(rt; print(&mut out, &mut told, b"5 3 20\n"));
+        assert!(rt; print(&mut out, &mut told, b"5 3 20\n").is_ok());
         assert_eq!(rt; out.taken, 7);
         assert_eq!(rt; told.len(), 0);
         Ok(())
@@ -207,7 +203,7 @@ mod tests {
             taken: 0,
         };
         let mut told = Vec::new(rt.alloc());
-        assert!(rt; !print(&mut out, &mut told, b"5 3 20\n"));
+        assert!(rt; print(&mut out, &mut told, b"5 3 20\n").is_err());
         assert_eq!(rt; out.taken, 6);
         assert_eq!(rt; told.as_slice(), b"standard output: broken\n".as_slice());
         Ok(())
@@ -221,7 +217,7 @@ mod tests {
             taken: 0,
         };
         let mut told = Vec::new(rt.alloc());
-        assert!(rt; !print(&mut out, &mut told, b"5 3 20\n"));
+        assert!(rt; print(&mut out, &mut told, b"5 3 20\n").is_err());
         assert_eq!(rt;
             told.as_slice(),
             b"standard output: write zero\n".as_slice()

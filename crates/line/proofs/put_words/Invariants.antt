@@ -1,13 +1,8 @@
--- `line::put_words` meets its contract: the words that were passed stand in the line, each up to eleven bytes long,
--- and each turn adds one (`spelled-more`). Assumes nothing.
-use Prim.Native.Nat.{◌-◌, ◌≤◌}
-use mathlib.Core.Path.{◌≡◌}
-use lib.ListN.{length}
+-- `line::put_words` meets its contract: the words so far stand in the line, each up to eleven bytes long (`spelled-more`). Assumes
+-- nothing.
+use Rattle.std.proofs.Common.{◌≡◌, length}
 use Rattle.line.proofs.Spelled.{Spelled}
 use Rattle.line.proofs.put_words.Given as goal
 
-abbrev pub invariant-loop-i : goal.invariant-loop-i
-invariant-loop-i l = (l.i ≤ length l.words) × (length l.line ≡ length l.initial.line) × Spelled l.words l.i l.line l.at
-
-abbrev pub decreases-loop-i : goal.decreases-loop-i
-decreases-loop-i l = length l.words - l.i
+abbrev pub invariant-loop-word : goal.invariant-loop-word
+invariant-loop-word l = (length l.line ≡ length l.initial.line) × Spelled l.words l.word-index l.line l.at

@@ -1,6 +1,6 @@
 -- Laws of the line: texts put one behind another, the digits that a number takes, numbers behind a text, the newline, and the line of
 -- what came of a call. Assumes nothing.
-use Rattle.std.specs.Prelude.{ℕ, suc, ◌+◌, ◌-◌, ◌^◌, ◌≤◌, ◌<◌, ◌≡◌, refl, length, take, set, get_or}
+use Rattle.std.specs.Prelude.{ℕ, suc, ◌+◌, ◌-◌, ◌^◌, ◌≤◌, ◌<◌, ◌≡◌, refl, length, take, set, get_or, Ok, Err}
 use Rattle.std.proofs.Math.Path.{sym, ap}
 use Rattle.std.proofs.Common.{◌∙◌, ap₂, arith, add-one, length-append, length-set, take-suc, take-suc-set, take-take, length-take-le}
 use mathlib.Core.List.{List, [], ◌∷◌, ◌++◌, append_assoc, append-nil}
@@ -20,10 +20,8 @@ use Rattle.book.specs.declared.Refusal.{Refusal}
 use Rattle.book.specs.Said.{Said, said, accepted, refusal_says, told_says}
 use Rattle.book.specs.Said.Laws.{refusal-number}
 use Rattle.translation.specs.Listing.{listing}
-use Rattle.translation.specs.Outcome.{Outcome, outcome, came, Plays}
+use Rattle.translation.specs.Outcome.{Answer, Outcome, outcome, came, Plays}
 use Rattle.translation.specs.Outcome.Laws.{exactly-written, written-says, written-past}
-use Rattle.translation.specs.declared.Answer.{Answer}
-use Rattle.translation.specs.declared.Answer.TheVariants.{Written, Refused}
 use Rattle.playing.specs.Rehearsal.{rehearsal}
 use Rattle.playing.specs.Rehearsal.Laws.{exactly-played, played-says}
 use Rattle.book.specs.declared.Told.{Told}
@@ -186,39 +184,39 @@ refusal-shown = refl
 -- ---- line_of
 -- the line of what came of a call: of the words ws, so many of the lent ones, or of the refusal
 module _ (a : Answer) (new : List ℕ) {line : List ℕ} where
-  pub line-written : (n : ℕ) (ws : List ℕ) → a ≡ Written n → line ≡ listing_line ws → ws ≡ take n new → line ≡ line_of (came a new)
+  pub line-written : (n : ℕ) (ws : List ℕ) → a ≡ Ok n → line ≡ listing_line ws → ws ≡ take n new → line ≡ line_of (came a new)
   unfolding line_of
   line-written n ws e of all =
       of ∙ ap listing_line all ∙ sym (pick_true _ _ _ (eq-eqb 0 0 refl)) ∙ ap (λ (r : Answer). line_of (came r new)) (sym e)
 
-  pub line_refused : (f : Refusal) → a ≡ Refused f → line ≡ refusal_line (refusal_says f) → line ≡ line_of (came a new)
+  pub line_refused : (f : Refusal) → a ≡ Err f → line ≡ refusal_line (refusal_says f) → line ≡ line_of (came a new)
   unfolding line_of
   line_refused f e of =
       of ∙ sym (pick-false _ _ _ (ne_eqb _ _ (refusal-number f))) ∙ ap (λ (r : Answer). line_of (came r new)) (sym e)
 
 -- what is written lies in the lent words: as the code has it
-pub inside-written : {a : Answer} {n room : ℕ} → a ≡ Written n → Inside a room → n ≤ room
+pub inside-written : {a : Answer} {n room : ℕ} → a ≡ Ok n → Inside a room → n ≤ room
 inside-written e h = rw e at h
 
 -- of a translation
 pub inside-outcome : (a : Answer) (b lent new : List ℕ) {room : ℕ} → came a new ≡ outcome b lent → length lent ≤ room → Inside a room
 unfolding outcome
-inside-outcome (Written n) b lent new e h =
+inside-outcome (Ok n) b lent new e h =
     let says = ap (λ (o : Outcome). o.says) e in
     let fits = (exactly-written b lent).0 (sym (ap (λ (s : Said). s.number) says)) in
     let long = ap (λ (s : Said). get_or s.values 0 0) (says ∙ written-says b lent fits.0 fits.1) in
     omega (arith, fits.1)
-inside-outcome (Refused f) b lent new e h = tt
+inside-outcome (Err f) b lent new e h = tt
 
 -- of a rehearsal
 pub inside-rehearsal : (a : Answer) (b ms lent new : List ℕ) {room : ℕ} → came a new ≡ rehearsal b ms lent → length lent ≤ room → Inside a room
 unfolding rehearsal
-inside-rehearsal (Written n) b ms lent new e h =
+inside-rehearsal (Ok n) b ms lent new e h =
     let says = ap (λ (o : Outcome). o.says) e in
     let (plays, moves, named, fits) = (exactly-played b ms lent).0 (sym (ap (λ (s : Said). s.number) says)) in
     let long = ap (λ (s : Said). get_or s.values 0 0) (says ∙ played-says b ms lent plays moves named fits) in
     omega arith
-inside-rehearsal (Refused f) b ms lent new e h = tt
+inside-rehearsal (Err f) b ms lent new e h = tt
 
 -- where there is room for the listing of a book that plays, the line is the listing's
 pub line-listing : (b lent : List ℕ) → Plays b → length (listing b) ≤ length lent → line_of (outcome b lent) ≡ listing_line (listing b)

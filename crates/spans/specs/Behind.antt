@@ -1,9 +1,11 @@
 -- Where what was read ends, as a place in the words.
-use Rattle.std.specs.Prelude.{ℕ, zero, suc, ◌≤◌, ◌<◌, List, [], ◌∷◌, ◌⊎◌, ◌≡◌, length, drop, eqb}
+use Rattle.std.specs.Prelude.{ℕ, zero, suc, ◌+◌, ◌≤◌, ◌<◌, List, [], ◌∷◌, ◌≡◌, length, drop, eqb, Option as Answer, None, Some}
 use Rattle.std.proofs.Math.Option.{Option, none, some}
 use Rattle.words.specs.Choice.{pick, then}
-use Rattle.typing.specs.Reading.{Read, term, effects, type_at}
+use Rattle.typing.specs.Reading.{Read, term, effect_of, effects, type_at, environment_at, process_at}
 pub mod Laws
+pub mod Nested
+pub mod Terms
 pub mod Effects
 pub mod Types
 pub mod Environments
@@ -15,20 +17,29 @@ unfoldable pub rest_of : {A : Type 0} → Read A → Option (List ℕ)
 rest_of none = none
 rest_of (some p) = some p.1
 
--- nothing was read; what was read from the place a on ends at the place r in w
-pub record Nothing (o : Option (List ℕ)) (r : ℕ) : Type 0 where
-  pub zero : r ≡ 0
-  pub none : o ≡ Option.none
-
+-- what was read from the place a on ends at the place r in w
 pub record At (w : List ℕ) (a : ℕ) (o : Option (List ℕ)) (r : ℕ) : Type 0 where
   pub some_word : 0 < r
   pub after : a ≤ r
   pub inside : r ≤ length w
   pub rest : o ≡ some (drop r w)
 
--- r is the place in w behind what was read, or 0 where nothing was
-abbrev pub Ends : List ℕ → ℕ → Option (List ℕ) → ℕ → Type 0
-Ends w a o r = Nothing o r ⊎ At w a o r
+-- the answer is the place in w behind what was read, and none where nothing was
+abbrev pub Ends : List ℕ → ℕ → Option (List ℕ) → Answer ℕ → Type 0
+Ends w a o None = o ≡ none
+Ends w a o (Some r) = At w a o r
+
+-- ---- things that have words of their own, and their parts behind them
+-- m of them, one behind another; fuel bounds the turns, each of which takes at least one word
+unfoldable pub nested : (List ℕ → Option (List ℕ)) → (ℕ → ℕ) → ℕ → ℕ → List ℕ → Option (List ℕ)
+nested own parts zero f u = some u
+nested own parts (suc m) zero u = none
+nested own parts (suc m) (suc f) [] = none
+nested own parts (suc m) (suc f) (c ∷ u) = then (own (c ∷ u)) (nested own parts (m + parts c) f)
+
+-- one of them
+abbrev pub nested_one : (List ℕ → Option (List ℕ)) → (ℕ → ℕ) → List ℕ → Option (List ℕ)
+nested_one own parts u = nested own parts 1 (length u) u
 
 -- what a term's first word begins: 0 nothing, 1 a name or a variable, which have one word more, 2 a term of two parts
 unfoldable pub term_turn : ℕ → ℕ
@@ -38,6 +49,29 @@ term_turn (suc (suc zero)) = 2
 term_turn (suc (suc (suc zero))) = 2
 term_turn (suc (suc (suc (suc zero)))) = 1
 term_turn (suc (suc (suc (suc (suc c))))) = 0
+
+-- a name's one word
+unfoldable pub skip_name : List ℕ → Option (List ℕ)
+skip_name [] = none
+skip_name (x ∷ u) = some u
+
+-- a term's own words, its first and a name's or a variable's number, and what is behind them
+unfoldable pub term_own : List ℕ → Option (List ℕ)
+term_own [] = none
+term_own (zero ∷ u) = none
+term_own (suc zero ∷ u) = skip_name u
+term_own (suc (suc zero) ∷ u) = some u
+term_own (suc (suc (suc zero)) ∷ u) = some u
+term_own (suc (suc (suc (suc zero))) ∷ u) = skip_name u
+term_own (suc (suc (suc (suc (suc c)))) ∷ u) = none
+
+-- how many terms a term has as its parts
+unfoldable pub term_parts : ℕ → ℕ
+term_parts zero = 0
+term_parts (suc zero) = 0
+term_parts (suc (suc zero)) = 2
+term_parts (suc (suc (suc zero))) = 2
+term_parts (suc (suc (suc (suc c)))) = 0
 
 -- a type's own words, its first and a nonce's effects, and what is behind them
 unfoldable pub type_own : List ℕ → Option (List ℕ)
@@ -61,15 +95,20 @@ type_parts (suc (suc (suc (suc zero)))) = 1
 type_parts (suc (suc (suc (suc (suc c))))) = 0
 
 -- ---- passing over things of one sort
-unfoldable pub skip_name : List ℕ → Option (List ℕ)
-skip_name [] = none
-skip_name (x ∷ u) = some u
-
 abbrev pub skip_term : List ℕ → Option (List ℕ)
 skip_term u = rest_of (term u)
 
 abbrev pub skip_type : List ℕ → Option (List ℕ)
 skip_type u = rest_of (type_at u)
+
+abbrev pub skip_effect : List ℕ → Option (List ℕ)
+skip_effect u = rest_of (effect_of u)
+
+abbrev pub skip_environment : List ℕ → Option (List ℕ)
+skip_environment u = rest_of (environment_at u)
+
+abbrev pub skip_process : List ℕ → Option (List ℕ)
+skip_process u = rest_of (process_at u)
 
 unfoldable pub skip_effects : List ℕ → Option (List ℕ)
 skip_effects [] = none

@@ -1,6 +1,5 @@
 -- `spans::environment_end` meets its contract: the older entries begin at the place i. Assumes nothing.
-use Prim.Native.Nat.{◌-◌}
-use lib.ListN.{length}
+use Rattle.std.proofs.Common.{length, ◌-◌}
 use Rattle.spans.specs.Behind.Environments.{Walk}
 use Rattle.spans.proofs.environment_end.Given as goal
 

@@ -1,82 +1,39 @@
 -- `spans::process_own` meets its contract, word by word of the table. Assumes nothing.
-use native.Mathlib.Omega.{arith}
-use Rattle.spans.specs.Behind.Laws.{ends_at}
-use Rattle.spans.specs.Behind.Processes.{own_new, own_out, own-inp, own-parallel, own-stop, own_split, own-match, own-decrypt, own-begin, own-end}
-use Rattle.spans.specs.Behind.Processes.{own-check, own-none, own-cast-none, own-cast}
+use Rattle.std.proofs.Common.{rules}
+use Rattle.spans.specs.Behind.Laws.{ends-nothing, ends_as}
+use Rattle.spans.specs.Behind.Processes.{own_new, own_out, own-inp, own-first, own_split, own-match, own-begin, own-cast-none, own-cast-list, own-none}
 use Rattle.spans.proofs.process_own.Goals as goal
 
-pub skip-requires : goal.skip-requires
-skip-requires c = (omega arith, omega arith)
+pub returns-in_err-end-in-11 : goal.returns-in_err-end-in-11
+returns-in_err-end-in-11 c = search (ends-nothing, own-cast-none, c.in_err-end-in-11.ensures)
 
-pub returns-then-c-eq1 : goal.returns-then-c-eq1
-returns-then-c-eq1 c = search own_new
+pub returns-in_ok-end-in-11 : goal.returns-in_ok-end-in-11
+returns-in_ok-end-in-11 c =
+    ends_as _ _ _ _ _ _ c.in_ok-end-in-11.ensures.after (own-cast-list _ _ c.requires c.in-11.is _ c.in_ok-end-in-11.ensures) c.list_end.ensures
 
-pub skip-requires-then-c-eq2 : goal.skip-requires-then-c-eq2
-skip-requires-then-c-eq2 c = (omega arith, omega arith)
+pub returns-in-1 : goal.returns-in-1
+returns-in-1 c = search (rules, ends_as, own_new)
 
-pub returns-then-c-eq2 : goal.returns-then-c-eq2
-returns-then-c-eq2 c = search own_out
+pub returns-in-2 : goal.returns-in-2
+returns-in-2 c = search (rules, ends_as, own_out)
 
-pub skip-requires-then-c-eq3 : goal.skip-requires-then-c-eq3
-skip-requires-then-c-eq3 c = (omega arith, omega arith)
+pub returns-in-3 : goal.returns-in-3
+returns-in-3 c = search (rules, ends_as, own-inp)
 
-pub returns-then-c-eq3 : goal.returns-then-c-eq3
-returns-then-c-eq3 c = search own-inp
+pub returns-in-6 : goal.returns-in-6
+returns-in-6 c = search (rules, ends_as, own_split)
 
-pub returns-then-c-eq4 : goal.returns-then-c-eq4
-returns-then-c-eq4 c = search own-parallel
+pub returns-in-7 : goal.returns-in-7
+returns-in-7 c = search (rules, ends_as, own-match)
 
-pub returns-then-c-eq5 : goal.returns-then-c-eq5
-returns-then-c-eq5 c = search own-stop
+pub returns-in-9 : goal.returns-in-9
+returns-in-9 c = search (rules, ends_as, own-begin)
 
-pub skip-requires-then-c-eq6 : goal.skip-requires-then-c-eq6
-skip-requires-then-c-eq6 c = (omega arith, omega arith)
+pub returns-in-4 : goal.returns-in-4
+returns-in-4 c = search (rules, own-first)
 
-pub returns-then-c-eq6 : goal.returns-then-c-eq6
-returns-then-c-eq6 c = search own_split
+pub returns-in_default : goal.returns-in_default
+returns-in_default c = search (rules, own-none)
 
-pub skip-requires-then-c-eq7 : goal.skip-requires-then-c-eq7
-skip-requires-then-c-eq7 c = (omega arith, omega arith)
-
-pub returns-then-c-eq7 : goal.returns-then-c-eq7
-returns-then-c-eq7 c = search own-match
-
-pub skip-requires-then-c-eq8 : goal.skip-requires-then-c-eq8
-skip-requires-then-c-eq8 c = (omega arith, omega arith)
-
-pub returns-then-c-eq8 : goal.returns-then-c-eq8
-returns-then-c-eq8 c = search own-decrypt
-
-pub skip-requires-then-c-eq9 : goal.skip-requires-then-c-eq9
-skip-requires-then-c-eq9 c = (omega arith, omega arith)
-
-pub returns-then-c-eq9 : goal.returns-then-c-eq9
-returns-then-c-eq9 c = search own-begin
-
-pub skip-requires-then-c-eq10 : goal.skip-requires-then-c-eq10
-skip-requires-then-c-eq10 c = (omega arith, omega arith)
-
-pub returns-then-c-eq10 : goal.returns-then-c-eq10
-returns-then-c-eq10 c = search own-end
-
-pub skip-requires-then-c-eq12 : goal.skip-requires-then-c-eq12
-skip-requires-then-c-eq12 c = (omega arith, omega arith)
-
-pub returns-then-c-eq12 : goal.returns-then-c-eq12
-returns-then-c-eq12 c = search own-check
-
-pub returns-then-c-ne11 : goal.returns-then-c-ne11
-returns-then-c-ne11 c = search own-none
-
-pub skip-end-requires : goal.skip-end-requires
-skip-end-requires c = (omega arith, omega arith)
-
-pub returns-then-end-eq0 : goal.returns-then-end-eq0
-returns-then-end-eq0 c = search own-cast-none
-
-pub list_end-requires : goal.list_end-requires
-list_end-requires c = let end = ends_at _ _ _ _ c.skip-end.ensures c.if-end-eq0.false in
-    (end.some_word, end.inside)
-
-pub returns : goal.returns
-returns c = search own-cast
+pub returns-in_default-2 : goal.returns-in_default-2
+returns-in_default-2 c = search (rules, own-none)

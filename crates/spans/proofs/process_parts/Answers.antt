@@ -1,13 +1,13 @@
 -- `spans::process_parts` meets its contract, word by word of the table. Assumes nothing.
-use native.Mathlib.Omega.{arith}
-use Rattle.spans.specs.Behind.Processes.{parts-parallel, parts-stop, parts-other}
+use Rattle.std.proofs.Common.{rules}
+use Rattle.spans.specs.Behind.Processes.{parts-two, parts-none, parts-one}
 use Rattle.spans.proofs.process_parts.Goals as goal
 
-pub returns-then-c-eq4 : goal.returns-then-c-eq4
-returns-then-c-eq4 c = (search parts-parallel, omega arith)
+pub returns-in-4 : goal.returns-in-4
+returns-in-4 c = search (rules, parts-two)
 
-pub returns-then-c-eq5 : goal.returns-then-c-eq5
-returns-then-c-eq5 c = (search parts-stop, omega arith)
+pub returns-in-5 : goal.returns-in-5
+returns-in-5 c = search (rules, parts-none)
 
-pub returns : goal.returns
-returns c = (search parts-other, omega arith)
+pub returns-in_default : goal.returns-in_default
+returns-in_default c = search (rules, parts-one)

@@ -1,21 +1,17 @@
 -- `spans::skip` meets its contract: names take a word each, then the terms, then the types. Assumes nothing.
-use native.Mathlib.Omega.{arith}
-use Rattle.spans.specs.Behind.Laws.{ends_at}
-use Rattle.spans.specs.Behind.Processes.{skip-short, skip-no-terms, skip-done}
+use Rattle.std.proofs.Common.{arith}
+use Rattle.spans.specs.Behind.Laws.{ends-nothing, ends_as}
+use Rattle.spans.specs.Behind.Processes.{skip-short, skip-no-terms, skip-types}
 use Rattle.spans.proofs.skip.Goals as goal
 
 pub returns-then-w-a : goal.returns-then-w-a
 returns-then-w-a c = search skip-short
 
-pub terms_end-end-requires : goal.terms_end-end-requires
-terms_end-end-requires c = (omega arith, omega arith)
-
-pub returns-then-end-eq0 : goal.returns-then-end-eq0
-returns-then-end-eq0 c = search skip-no-terms
-
-pub types_end-requires : goal.types_end-requires
-types_end-requires c = let end = ends_at _ _ _ _ c.terms_end-end.ensures c.if-end-eq0.false in
-    (end.some_word, end.inside)
+pub returns-in_err-end : goal.returns-in_err-end
+returns-in_err-end c = search (ends-nothing, skip-no-terms, c.in_err-end.ensures)
 
 pub returns : goal.returns
-returns c = search skip-done
+returns c =
+    ends_as _ _ _ _ _ _ (omega (arith, c.in_ok-end.ensures.after))
+    (skip-types _ _ _ _ _ c.requires.1 c.if-w-a.false _ c.in_ok-end.ensures)
+    c.several_end-2.ensures

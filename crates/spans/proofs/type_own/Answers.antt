@@ -1,24 +1,18 @@
--- `spans::type_own` meets its contract: a nonce has its effects behind its count, and no other type has words of its
--- own but its
+-- `spans::type_own` meets its contract: a nonce has its effects behind its count, and no other type has words of its own but its
 -- first. Assumes nothing.
-use native.Mathlib.Omega.{arith}
-use Rattle.spans.specs.Behind.Types.{type-zero, type-small, type-large, type-cut, type-nonce}
+use Rattle.std.proofs.Common.{rules}
+use Rattle.spans.specs.Behind.Laws.{ends_as}
+use Rattle.spans.specs.Behind.Types.{type-small, type-nonce, type-none}
 use Rattle.spans.proofs.type_own.Goals as goal
 
-pub returns-then-c-eq0 : goal.returns-then-c-eq0
-returns-then-c-eq0 c = search type-zero
+pub returns-in-5 : goal.returns-in-5
+returns-in-5 c = search (rules, ends_as, type-nonce)
 
-pub returns-then-c-lt5 : goal.returns-then-c-lt5
-returns-then-c-lt5 c = search type-small
+pub returns-in-1-to-4 : goal.returns-in-1-to-4
+returns-in-1-to-4 c = search (rules, type-small)
 
-pub returns-then-c-gt5 : goal.returns-then-c-gt5
-returns-then-c-gt5 c = search type-large
+pub returns-in_default : goal.returns-in_default
+returns-in_default c = search (rules, type-none)
 
-pub returns-then-w-i-lt2 : goal.returns-then-w-i-lt2
-returns-then-w-i-lt2 c = search type-cut
-
-pub effects_end-requires : goal.effects_end-requires
-effects_end-requires c = (omega arith, omega arith)
-
-pub returns : goal.returns
-returns c = search type-nonce
+pub returns-in_default-2 : goal.returns-in_default-2
+returns-in_default-2 c = search (rules, type-none)

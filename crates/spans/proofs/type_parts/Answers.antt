@@ -1,16 +1,16 @@
 -- `spans::type_parts` meets its contract, word by word of the table. Assumes nothing.
-use native.Mathlib.Omega.{arith}
-use Rattle.spans.specs.Behind.Types.{parts-pair, parts-channel, parts-symkey, parts-other}
+use Rattle.std.proofs.Common.{rules}
+use Rattle.spans.specs.Behind.Types.{parts-two, parts-one, parts-none}
 use Rattle.spans.proofs.type_parts.Goals as goal
 
-pub returns-then-c-eq2 : goal.returns-then-c-eq2
-returns-then-c-eq2 c = (search parts-pair, omega arith)
+pub returns-in-2 : goal.returns-in-2
+returns-in-2 c = search (rules, parts-two)
 
-pub returns-then-c-eq3 : goal.returns-then-c-eq3
-returns-then-c-eq3 c = (search parts-channel, omega arith)
+pub returns-in-3 : goal.returns-in-3
+returns-in-3 c = search (rules, parts-one)
 
-pub returns-then-c-eq4 : goal.returns-then-c-eq4
-returns-then-c-eq4 c = (search parts-symkey, omega arith)
+pub returns-in_default : goal.returns-in_default
+returns-in_default c = search (rules, parts-none)
 
-pub returns : goal.returns
-returns c = (search parts-other, omega arith)
+pub returns-in_default-2 : goal.returns-in_default-2
+returns-in_default-2 c = search (rules, parts-none)

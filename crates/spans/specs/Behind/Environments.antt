@@ -1,11 +1,12 @@
 -- Where environments end, one turn at a time. Assumes nothing.
 use Rattle.std.specs.Prelude.{ℕ, zero, suc, ◌+◌, ◌-◌, ◌≤◌, ◌<◌, List, [], ◌∷◌, ◌≡◌, refl, length, drop, get_or}
-use Rattle.std.proofs.Common.{inr, ◌∙◌, ap, arith, add-one, length-drop, drop_of_length-le, drop-cons}
+use Rattle.std.proofs.Common.{◌∙◌, ap, arith, add-one, length-drop, drop_of_length-le, drop-cons}
 use Rattle.std.proofs.Math.Option.{none, some}
+use Rattle.std.proofs.Math.Decide.{dec_lt}
 use Rattle.typing.specs.Types.{Environment, ◌⦂◌}
 use Rattle.typing.specs.Reading.{type_at, entries, environment_at}
-use Rattle.spans.specs.Behind.{rest_of, Ends}
-use Rattle.spans.specs.Behind.Laws.{rest-after, ends-none, ends_at, ends-nothing}
+use Rattle.spans.specs.Behind.{rest_of, At}
+use Rattle.spans.specs.Behind.Laws.{rest-after}
 use Rattle.spans.specs.Behind.Effects.{then-none, then_some}
 
 -- ---- entries
@@ -50,9 +51,9 @@ unfolding environment_at
 walk-begin w a = record { fuel = length (drop a w); enough = omega (arith, length-drop a w); same = refl; after = omega arith }
 
 module _ (w : List ℕ) (a i : ℕ) (t : Walk w a i) where
-  pub walk-past : length w ≤ i → Ends w a (rest_of (environment_at (drop a w))) 0
+  pub walk-past : length w ≤ i → rest_of (environment_at (drop a w)) ≡ none
   walk-past l =
-      ends-nothing w a _ (t.same ∙ ap (λ (u : List ℕ). rest_of (entries t.fuel u)) (drop_of_length-le w l) ∙ entries-empty t.fuel)
+      t.same ∙ ap (λ (u : List ℕ). rest_of (entries t.fuel u)) (drop_of_length-le w l) ∙ entries-empty t.fuel
 
   -- with a word at i
   here : i < length w → rest_of (environment_at (drop a w)) ≡ rest_of (entries (suc (t.fuel - 1)) (get_or w i 0 ∷ drop (suc i) w))
@@ -61,42 +62,40 @@ module _ (w : List ℕ) (a i : ℕ) (t : Walk w a i) where
       t.same ∙ ap (λ (f : ℕ). rest_of (entries f (drop i w))) more
       ∙ ap (λ (u : List ℕ). rest_of (entries (suc (t.fuel - 1)) u)) (drop-cons w i 0 l)
 
-  pub walk-last : i < length w → get_or w i 0 ≡ 1 → Ends w a (rest_of (environment_at (drop a w))) (i + 1)
+  pub walk-last : i < length w → get_or w i 0 ≡ 1 → At w a (rest_of (environment_at (drop a w))) (i + 1)
   walk-last l e =
-      inr (record {
+      record {
         some_word = omega arith;
         after = omega (arith, t.after);
         inside = omega arith;
         rest = here l ∙ rw add-one (entries-last (t.fuel - 1) _ (drop (suc i) w) e);
-      })
+      }
 
-  pub walk-other : i < length w → (get_or w i 0 ≡ 1 → ⊥) → (get_or w i 0 ≡ 2 → ⊥) → Ends w a (rest_of (environment_at (drop a w))) 0
-  walk-other l d e = ends-nothing w a _ (here l ∙ entries-other (t.fuel - 1) _ (drop (suc i) w) d e)
-
-  pub walk-cut : i < length w → get_or w i 0 ≡ 2 → length w - i < 2 → Ends w a (rest_of (environment_at (drop a w))) 0
-  walk-cut l e s =
-      let f : drop (suc i) w ≡ [] = drop_of_length-le w {i = suc i} (omega arith) in
-      ends-nothing w a _ (here l ∙ rw f (entries-cut (t.fuel - 1) _ e))
+  pub walk-other : i < length w → (get_or w i 0 ≡ 1 → ⊥) → (get_or w i 0 ≡ 2 → ⊥) → rest_of (environment_at (drop a w)) ≡ none
+  walk-other l d e = here l ∙ entries-other (t.fuel - 1) _ (drop (suc i) w) d e
 
   -- with an entry's name too
-  entry : i < length w → 2 ≤ length w - i
+  entry : i + 1 < length w
       → rest_of (environment_at (drop a w)) ≡ rest_of (entries (suc (t.fuel - 1)) (get_or w i 0 ∷ get_or w (suc i) 0 ∷ drop (i + 2) w))
-  entry l s =
+  entry s =
       let two : i + 2 ≡ suc (suc i) = omega arith in
+      let l : i < length w = omega arith in
       here l ∙ rw (drop-cons w (suc i) 0 (omega arith), two) refl
 
-  pub walk-no-type : i < length w → get_or w i 0 ≡ 2 → 2 ≤ length w - i → (r : ℕ) → Ends w (i + 2) (rest_of (type_at (drop (i + 2) w))) r → r ≡ 0
-      → Ends w a (rest_of (environment_at (drop a w))) 0
-  walk-no-type l e s r q z =
-      ends-nothing w a _ (entry l s ∙ entries-no-type (t.fuel - 1) _ _ (drop (i + 2) w) e (ends-none w (i + 2) _ r q z))
+  -- what is cut off behind the 2 has no type either
+  pub walk-no-type : i < length w → get_or w i 0 ≡ 2 → rest_of (type_at (drop (i + 2) w)) ≡ none → rest_of (environment_at (drop a w)) ≡ none
+  walk-no-type l e z = elim (dec_lt (i + 1) (length w)) [
+    | yes s ↦ entry s ∙ entries-no-type (t.fuel - 1) _ _ (drop (i + 2) w) e z
+    | no s ↦
+        let f : drop (suc i) w ≡ [] = drop_of_length-le w {i = suc i} (omega arith) in
+        here l ∙ rw f (entries-cut (t.fuel - 1) _ e)
+  ]
 
-  pub walk-again : i < length w → get_or w i 0 ≡ 2 → 2 ≤ length w - i → (r : ℕ) → Ends w (i + 2) (rest_of (type_at (drop (i + 2) w))) r
-      → (r ≡ 0 → ⊥) → Walk w a r
-  walk-again l e s r q z =
-      let b = ends_at w (i + 2) _ r q z in
+  pub walk-again : get_or w i 0 ≡ 2 → (r : ℕ) → At w (i + 2) (rest_of (type_at (drop (i + 2) w))) r → Walk w a r
+  walk-again e r b =
       record {
         fuel = t.fuel - 1;
         enough = omega (arith, t.enough, b.after);
-        same = entry l s ∙ entries-type (t.fuel - 1) _ _ (drop (i + 2) w) (drop r w) e b.rest;
+        same = entry (omega (arith, b.after, b.inside)) ∙ entries-type (t.fuel - 1) _ _ (drop (i + 2) w) (drop r w) e b.rest;
         after = omega (arith, t.after, b.after);
       }

@@ -1,8 +1,8 @@
 -- Laws of where things end. Assumes nothing.
-use Rattle.std.specs.Prelude.{ℕ, zero, suc, ◌+◌, ◌*◌, ◌-◌, ◌≤◌, ◌<◌, List, [], ◌∷◌, ◌≡◌, refl, length, drop, get_or}
-use Rattle.std.proofs.Common.{inl, inr, sym, ◌∙◌, ap, arith, drop_of_length-le, drop-cons}
+use Rattle.std.specs.Prelude.{ℕ, zero, suc, ◌+◌, ◌*◌, ◌-◌, ◌≤◌, ◌<◌, List, [], ◌∷◌, ◌≡◌, refl, length}
+use Rattle.std.specs.Prelude.{Option as Answer, None, Some, IsSome}
+use Rattle.std.proofs.Common.{sym, ◌∙◌, ap, subst, arith}
 use Rattle.std.proofs.Math.Option.{Option, none, some}
-use Rattle.std.proofs.Math.Decide.{ℕ_discrete as dec_eq}
 use Rattle.words.specs.Choice.{then}
 use Rattle.typing.specs.Term.{Term}
 use Rattle.typing.specs.Reading.{Read, ahead, joined, altered, after, terms, only, term}
@@ -19,17 +19,29 @@ unfolding rest_of after then
 rest-after f none = refl
 rest-after f (some p) = refl
 
--- ---- Ends, by a test of the place
-pub ends-none : (w : List ℕ) (a : ℕ) (o : Option (List ℕ)) (r : ℕ) → Ends w a o r → r ≡ 0 → o ≡ none
-ends-none w a o r (inl n) z = n.none
-ends-none w a o r (inr h) z = absurd (omega (arith, h.some_word))
+-- ---- Ends
+pub ends-none : (w : List ℕ) (a : ℕ) (o : Option (List ℕ)) (r : Answer ℕ) → Ends w a o r → r ≡ None → o ≡ none
+ends-none w a o None h e = h
+ends-none w a o (Some r) h e = absurd (let z : ◌≡◌ {A = ℕ} 0 1 = cc in omega arith)
 
-pub ends_at : (w : List ℕ) (a : ℕ) (o : Option (List ℕ)) (r : ℕ) → Ends w a o r → (r ≡ 0 → ⊥) → At w a o r
-ends_at w a o r (inl n) z = absurd (z n.zero)
-ends_at w a o r (inr h) z = h
+pub ends_at : (w : List ℕ) (a : ℕ) (o : Option (List ℕ)) (r : Answer ℕ) (e : ℕ) → Ends w a o r → r ≡ Some e → At w a o e
+ends_at w a o None e h q = absurd (let z : ◌≡◌ {A = ℕ} 0 1 = cc in omega arith)
+ends_at w a o (Some r) e h q = subst (λ (n : ℕ). At w a o n) (let s : r ≡ e = cc in s) h
 
-pub ends-nothing : (w : List ℕ) (a : ℕ) (o : Option (List ℕ)) → o ≡ none → Ends w a o 0
-ends-nothing w a o e = inl (record { zero = refl; none = e })
+pub ends-nothing : (w : List ℕ) (a : ℕ) (o : Option (List ℕ)) (r : Answer ℕ) → r ≡ None → o ≡ none → Ends w a o r
+ends-nothing w a o None e h = h
+ends-nothing w a o (Some r) e h = absurd (let z : ◌≡◌ {A = ℕ} 0 1 = cc in omega arith)
+
+-- where something was read, there is a place
+pub ends_some : (w : List ℕ) (a : ℕ) (o : Option (List ℕ)) (v : List ℕ) (r : Answer ℕ) → Ends w a o r → o ≡ some v → IsSome r
+ends_some w a o v None h e = absurd (let z : ◌≡◌ {A = ℕ} 0 1 = cc in omega arith)
+ends_some w a o v (Some r) h e = refl
+
+-- what is read further on
+pub ends_as : (w : List ℕ) (a b : ℕ) (o p : Option (List ℕ)) (r : Answer ℕ) → a ≤ b → o ≡ p → Ends w b p r → Ends w a o r
+ends_as w a b o p None l e h = e ∙ h
+ends_as w a b o p (Some r) l e h =
+    record { some_word = h.some_word; after = omega (arith, h.after); inside = h.inside; rest = e ∙ h.rest }
 
 -- ---- terms
 -- the first word of a term
@@ -86,31 +98,6 @@ turn_small (suc (suc zero)) = omega arith
 turn_small (suc (suc (suc zero))) = omega arith
 turn_small (suc (suc (suc (suc zero)))) = omega arith
 turn_small (suc (suc (suc (suc (suc c))))) = omega arith
-
-pub turn_one : (c : ℕ) → c ≡ 1 → 1 ≡ term_turn c
-unfolding term_turn
-turn_one c e = sym (ap term_turn e)
-
-pub turn-pair : (c : ℕ) → c ≡ 2 → 2 ≡ term_turn c
-unfolding term_turn
-turn-pair c e = sym (ap term_turn e)
-
-pub turn-cipher : (c : ℕ) → c ≡ 3 → 2 ≡ term_turn c
-unfolding term_turn
-turn-cipher c e = sym (ap term_turn e)
-
-pub turn-bound : (c : ℕ) → c ≡ 4 → 1 ≡ term_turn c
-unfolding term_turn
-turn-bound c e = sym (ap term_turn e)
-
-pub turn-nothing : (c : ℕ) → (c ≡ 1 → ⊥) → (c ≡ 2 → ⊥) → (c ≡ 3 → ⊥) → (c ≡ 4 → ⊥) → 0 ≡ term_turn c
-unfolding term_turn
-turn-nothing zero d e f g = refl
-turn-nothing (suc zero) d e f g = absurd (d refl)
-turn-nothing (suc (suc zero)) d e f g = absurd (e refl)
-turn-nothing (suc (suc (suc zero))) d e f g = absurd (f refl)
-turn-nothing (suc (suc (suc (suc zero)))) d e f g = absurd (g refl)
-turn-nothing (suc (suc (suc (suc (suc c))))) d e f g = refl
 
 -- ---- what was read is the list and the words behind it
 read-list : {A : Type 0} (k l : List A) (u v : List ℕ) → ◌≡◌ {A = Read (List A)} (some (k, u)) (some (l, v)) → l ≡ k
@@ -193,16 +180,6 @@ pub rest-term : (u : List ℕ) → rest_of (term u) ≡ rest_of (terms u 1)
 unfolding term
 rest-term u = rest-only (terms u 1) (terms-counted u 1)
 
--- ---- the walk over a term's words: at the place i, `due` terms are still to come
-pub record Terms (w : List ℕ) (a i due : ℕ) : Type 0 where
-  pub same : rest_of (terms (drop a w) 1) ≡ rest_of (terms (drop i w) due)
-  pub few : due ≤ i + 1
-  pub after : a ≤ i
-  pub inside : due ≡ 0 → (0 < i) × (i ≤ length w)
-
-pub terms-begin : (w : List ℕ) (a : ℕ) → Terms w a a 1
-terms-begin w a = record { same = refl; few = omega arith; after = omega arith; inside = λ e. absurd (omega arith) }
-
 pub due-more : (due n : ℕ) → n ≡ 2 → 0 < due → due + 2 * n - 3 ≡ suc (suc (due - 1))
 due-more due n e l = omega arith
 
@@ -214,71 +191,3 @@ few-more due i h l = omega arith
 
 pub few-less : (due i : ℕ) → due ≤ i + 1 → due - 1 ≤ suc (suc i) + 1
 few-less due i h = omega arith
-
-module _ (w : List ℕ) (a i due : ℕ) (t : Terms w a i due) where
-  -- `due` is a successor
-  one_more : 0 < due → due ≡ suc (due - 1)
-  one_more h = omega arith
-
-  terms-stops : rest_of (terms (drop i w) due) ≡ none → Ends w a (rest_of (term (drop a w))) 0
-  terms-stops e = ends-nothing w a _ (rest-term (drop a w) ∙ t.same ∙ e)
-
-  pub terms-past : 0 < due → length w ≤ i → Ends w a (rest_of (term (drop a w))) 0
-  terms-past h l =
-      let d : drop i w ≡ [] = drop_of_length-le w l in
-      terms-stops (rw (one_more h, d) (terms-empty (due - 1)))
-
-  pub terms-none : 0 < due → i < length w → (n : ℕ) → n ≡ term_turn (get_or w i 0) → n ≡ 0 → Ends w a (rest_of (term (drop a w))) 0
-  terms-none h l n e z =
-      let d = drop-cons w i 0 (omega arith) in
-      terms-stops (rw (one_more h, d) (terms-nothing (get_or w i 0) (due - 1) (drop (suc i) w) (sym e ∙ z)))
-
-  pub terms-short : 0 < due → i < length w → (n : ℕ) → n ≡ term_turn (get_or w i 0) → (n ≡ 0 → ⊥) → length w - i < 3 - n
-      → Ends w a (rest_of (term (drop a w))) 0
-  terms-short h l n e z s =
-      let k = turn_small (get_or w i 0) in
-      let d = drop-cons w i 0 (omega arith) in
-      let f : drop (suc i) w ≡ [] = drop_of_length-le w {i = suc i} (omega arith) in
-      let one : n ≡ 1 = omega arith in
-      terms-stops (rw (one_more h, d, f) (terms-cut (get_or w i 0) (due - 1) (sym e ∙ one)))
-
-  pub terms-again : 0 < due → i < length w → (n : ℕ) → n ≡ term_turn (get_or w i 0) → (n ≡ 0 → ⊥) → 3 - n ≤ length w - i
-      → Terms w a (i + 3 - n) (due + 2 * n - 3)
-  terms-again h l n e z s = elim (dec_eq n 1) [
-    | yes one ↦
-        let d = drop-cons w i 0 (omega arith) in
-        let f = drop-cons w (suc i) 0 (omega arith) in
-        let q : rest_of (terms (drop i w) (suc (due - 1))) ≡ rest_of (terms (drop (suc (suc i)) w) (due - 1)) =
-        rw (d, f) (terms-one (get_or w i 0) (due - 1) (get_or w (suc i) 0) (drop (suc (suc i)) w) (sym e ∙ one)) in
-        let at : i + 3 - n ≡ suc (suc i) = omega arith in
-        let less = due-less due n one h in
-        record {
-          same = t.same ∙ ap (λ (k : ℕ). rest_of (terms (drop i w) k)) (one_more h)
-              ∙ rw (at, less) q;
-          few = rw (at, less) (few-less due i t.few);
-          after = rw at (omega (arith, t.after));
-          inside = λ _. rw at
-              (omega arith, omega arith);
-        }
-    | no other ↦
-        let two : n ≡ 2 = omega (arith, turn_small (get_or w i 0)) in
-        let d = drop-cons w i 0 (omega arith) in
-        let q : rest_of (terms (drop i w) (suc (due - 1))) ≡ rest_of (terms (drop (suc i) w) (suc (suc (due - 1)))) =
-        rw d (terms-two (get_or w i 0) (due - 1) (drop (suc i) w) (sym e ∙ two)) in
-        let at : i + 3 - n ≡ suc i = omega arith in
-        let more = due-more due n two h in
-        record {
-          same = t.same ∙ ap (λ (k : ℕ). rest_of (terms (drop i w) k)) (one_more h)
-              ∙ rw (at, more) q;
-          few = rw (at, more) (few-more due i t.few h);
-          after = rw at (omega (arith, t.after));
-          inside = λ _. rw at
-              (omega arith, omega arith);
-        }
-  ]
-
-  pub terms-done : due ≤ 0 → Ends w a (rest_of (term (drop a w))) i
-  terms-done h =
-      let z : due ≡ 0 = omega arith in
-      let (b, l) = t.inside z in
-      inr (record { some_word = b; after = t.after; inside = l; rest = rest-term (drop a w) ∙ t.same ∙ rw z (terms-zero (drop i w)) })

@@ -1,11 +1,10 @@
 -- Passing over several things, one turn at a time, whatever is passed over. Assumes nothing.
 use Rattle.std.specs.Prelude.{ℕ, suc, ◌+◌, ◌-◌, ◌≤◌, ◌<◌, List, ◌≡◌, length, drop}
-use Rattle.std.proofs.Common.{inr, ◌∙◌, ap, arith}
+use Rattle.std.proofs.Common.{◌∙◌, ap, arith}
 use Rattle.std.proofs.Math.Option.{Option, none, some}
 use Rattle.std.proofs.Math.Path.{refl}
 use Rattle.words.specs.Choice.{then}
-use Rattle.spans.specs.Behind.{Ends, times}
-use Rattle.spans.specs.Behind.Laws.{ends-none, ends_at, ends-nothing}
+use Rattle.spans.specs.Behind.{At, times}
 
 module _ (skip : List ℕ → Option (List ℕ)) where
   times_none : (k : ℕ) (u : List ℕ) → skip u ≡ none → times skip (suc k) u ≡ none
@@ -38,13 +37,11 @@ module _ (skip : List ℕ → Option (List ℕ)) where
     one_more : j < k → k - j ≡ suc (k - (j + 1))
     one_more h = omega arith
 
-    pub walk_none : j < k → (r : ℕ) → Ends w i (skip (drop i w)) r → r ≡ 0 → Ends w a (times skip k (drop a w)) 0
-    walk_none h r q z =
-        ends-nothing w a _ (t.same ∙ rw (one_more h) (times_none (k - (j + 1)) (drop i w) (ends-none w i _ r q z)))
+    pub walk_none : j < k → skip (drop i w) ≡ none → times skip k (drop a w) ≡ none
+    walk_none h e = t.same ∙ rw (one_more h) (times_none (k - (j + 1)) (drop i w) e)
 
-    pub walk-again : j < k → (r : ℕ) → Ends w i (skip (drop i w)) r → (r ≡ 0 → ⊥) → Walk w a k r (j + 1)
-    walk-again h r q z =
-        let b = ends_at w i _ r q z in
+    pub walk-again : j < k → (r : ℕ) → At w i (skip (drop i w)) r → Walk w a k r (j + 1)
+    walk-again h r b =
         record {
           same = t.same ∙ rw (one_more h) (times-some (k - (j + 1)) (drop i w) (drop r w) b.rest);
           low = b.some_word;
@@ -53,12 +50,12 @@ module _ (skip : List ℕ → Option (List ℕ)) where
           few = omega arith;
         }
 
-    pub walk-done : k ≤ j → Ends w a (times skip k (drop a w)) i
+    pub walk-done : k ≤ j → At w a (times skip k (drop a w)) i
     walk-done h =
         let z : k - j ≡ 0 = omega arith in
-        inr (record {
+        record {
           some_word = t.low;
           after = t.after;
           inside = t.inside;
           rest = t.same ∙ ap (λ (m : ℕ). times skip m (drop i w)) z ∙ times_zero (drop i w);
-        })
+        }

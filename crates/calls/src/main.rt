@@ -3,15 +3,14 @@
 // they are read and printed.
 #![tactic(auto)]
 
-ghost use Rattle.std.specs.Prelude.{◌≡◌, ◌≤◌, length};
+ghost use Rattle.std.specs.Prelude.{◌≡◌, ◌≤◌, length, None};
 ghost use Rattle.input.specs.Input.{Within};
 ghost use Rattle.functions.specs.Functions.{Known};
 ghost use Rattle.calls.specs.Next.{Asked};
 ghost use Rattle.calls.specs.Request.{Filled, IsSlice, AreNumbers, IsNth, Came, Answered, Numbered};
-ghost use Rattle.calls.specs.declared.Next.TheVariants.{Nothing};
 
 use functions::Function;
-use input::Input;
+use input::Failed;
 use std::io::{Read, Write};
 
 // What is read and printed at most.
@@ -29,28 +28,20 @@ impl Most {
     const REQUESTS: usize = 1048576;
 }
 
-// What came next: a call of a function, or nothing more, and where that is no proper end, it was told.
-#[derive(Drop)]
-enum Next {
-    Call(u32),
-    Nothing,
-}
-
-// Reads bytes until those that are lent for them are full; whether they are.
-fn read_all<R: Read, E: Write>(reader: &mut R, errors: &mut E, bytes: &mut [u8]) -> bool
+// Reads bytes until those that are lent for them are full. Where they don't come, that is told.
+fn read_all<R: Read, E: Write>(
+    reader: &mut R,
+    errors: &mut E,
+    bytes: &mut [u8],
+) -> Result<(), Failed>
     ensures { Filled result (R.remaining reader.old) (R.remaining reader.new) bytes.new }
 {
-    let input = input::fill(reader, errors, b"standard input", bytes);
-    match input {
-        Input::Bytes(n) => {
-            if n == bytes.len() {
-                return true;
-            }
-            let _ = errors.write_all(b"standard input ends inside a request\n");
-            false
-        }
-        Input::Failed => false,
+    let n = input::fill(reader, errors, b"standard input", bytes)?;
+    if n < bytes.len() {
+        let _ = errors.write_all(b"standard input ends inside a request\n");
+        return Err(Failed);
     }
+    Ok(())
 }
 
 // Reads a slice of a function: its count, and then so many words or bytes. Where bytes don't fill the last word, it is filled up, and
@@ -60,24 +51,20 @@ fn read_slice<R: Read, E: Write>(
     errors: &mut E,
     function: u32,
     bytes: &mut [u8],
-) -> Input
+) -> Result<usize, Failed>
     requires { 65536 ≤ length bytes.old }
     ensures within { Within result 65536 }
     ensures came { Came (IsSlice function) result (R.remaining reader.old) (R.remaining reader.new) bytes.new }
 {
     let mut head = [0u8; 4];
-    if !read_all(reader, errors, &mut head) {
-        return Input::Failed;
-    }
+    read_all(reader, errors, &mut head)?;
     let size = functions::slice_size(function, &head);
     if Most::BYTES < size {
         let _ = errors.write_all(b"a slice has more than 65536 bytes\n");
-        return Input::Failed;
+        return Err(Failed);
     }
-    if !read_all(reader, errors, &mut bytes[0..(size + 3) / 4 * 4]) {
-        return Input::Failed;
-    }
-    Input::Bytes(size)
+    read_all(reader, errors, &mut bytes[0..(size + 3) / 4 * 4])?;
+    Ok(size)
 }
 
 // Reads the numbers of a function, a word each; answers how many bytes they have.
@@ -86,16 +73,14 @@ fn read_numbers<R: Read, E: Write>(
     errors: &mut E,
     function: u32,
     bytes: &mut [u8],
-) -> Input
+) -> Result<usize, Failed>
     requires { 65536 ≤ length bytes.old }
     ensures within { Within result 65536 }
     ensures came { Came (AreNumbers function) result (R.remaining reader.old) (R.remaining reader.new) bytes.new }
 {
     let size = 4 * functions::numbers(function);
-    if !read_all(reader, errors, &mut bytes[0..size]) {
-        return Input::Failed;
-    }
-    Input::Bytes(size)
+    read_all(reader, errors, &mut bytes[0..size])?;
+    Ok(size)
 }
 
 // Reads slice k of a function, counted from 0, or behind its slices all of its numbers; where it has none, no bytes come.
@@ -105,7 +90,7 @@ fn read_nth<R: Read, E: Write>(
     function: u32,
     k: usize,
     bytes: &mut [u8],
-) -> Input
+) -> Result<usize, Failed>
     requires { 65536 ≤ length bytes.old }
     ensures within { Within result 65536 }
     ensures came { Came (IsNth function k) result (R.remaining reader.old) (R.remaining reader.new) bytes.new }
@@ -117,31 +102,26 @@ fn read_nth<R: Read, E: Write>(
     if k == n {
         return read_numbers(reader, errors, function, bytes);
     }
-    Input::Bytes(0)
+    Ok(0)
 }
 
-// Reads the slices and the numbers of a call, and prints its line; whether all of them came.
+// Reads the slices and the numbers of a call, and prints its line, where all of them came. A line that can't be printed is told, and the
+// next request is read.
 fn answer<R: Read, W: Write, E: Write>(
     reader: &mut R,
     out: &mut W,
     errors: &mut E,
     function: u32,
-) -> bool
+) -> Result<(), Failed>
     requires { Known function }
     ensures { Answered result function (R.remaining reader.old) (R.remaining reader.new) (W.contents out.old) (W.contents out.new) }
 {
     let mut first = [0u8; Most::BYTES];
-    let Input::Bytes(l) = read_nth(reader, errors, function, 0, &mut first) else {
-        return false;
-    };
+    let l = read_nth(reader, errors, function, 0, &mut first)?;
     let mut second = [0u8; Most::BYTES];
-    let Input::Bytes(m) = read_nth(reader, errors, function, 1, &mut second) else {
-        return false;
-    };
+    let m = read_nth(reader, errors, function, 1, &mut second)?;
     let mut third = [0u8; Most::BYTES];
-    let Input::Bytes(n) = read_nth(reader, errors, function, 2, &mut third) else {
-        return false;
-    };
+    let n = read_nth(reader, errors, function, 2, &mut third)?;
     let mut line = [0u8; Most::LINE];
     let end = calling::call_line(
         &mut line,
@@ -150,31 +130,28 @@ fn answer<R: Read, W: Write, E: Write>(
         &mut second[..m],
         &mut third[..n],
     );
-    line::print(out, errors, &line[..end]);
-    true
+    let _ = line::print(out, errors, &line[..end]);
+    Ok(())
 }
 
 // Says on standard error why nothing more is called.
-fn stop<E: Write>(errors: &mut E, why: &[u8]) -> Next
-    ensures asked { Asked result }
-    ensures nothing { result ≡ Nothing }
+fn stop<E: Write>(errors: &mut E, why: &[u8]) -> Option<u32>
+    ensures { result ≡ None }
 {
     let _ = errors.write_all(why);
-    Next::Nothing
+    None
 }
 
-// Reads the number of a function. Where nothing comes, the requests are at their end.
-fn read_next<R: Read, E: Write>(reader: &mut R, errors: &mut E) -> Next
+// Reads the number of the function that is called next. Where none comes, the requests are at their end; where that is no proper end, it is
+// told.
+fn read_next<R: Read, E: Write>(reader: &mut R, errors: &mut E) -> Option<u32>
     ensures asked { Asked result }
     ensures numbered { Numbered result (R.remaining reader.old) (R.remaining reader.new) }
 {
     let mut head = [0u8; 4];
-    let input = input::fill(reader, errors, b"standard input", &mut head);
-    let Input::Bytes(n) = input else {
-        return Next::Nothing;
-    };
+    let n = input::fill(reader, errors, b"standard input", &mut head).ok()?;
     if n == 0 {
-        return Next::Nothing;
+        return None;
     }
     if n < 4 {
         return stop(errors, b"standard input ends inside a request\n");
@@ -186,22 +163,20 @@ fn read_next<R: Read, E: Write>(reader: &mut R, errors: &mut E) -> Next
     if Function::APART_BYTES < function {
         return stop(errors, b"there is no function of this number\n");
     }
-    Next::Call(function)
+    Some(function)
 }
 
 fn main(rt: HostRuntime) {
     let mut reader = rt.stdin();
     let mut out = rt.stdout();
     let mut errors = rt.stderr();
-    let mut requests = 0;
-    while requests < Most::REQUESTS {
-        let Next::Call(function) = read_next(&mut reader, &mut errors) else {
+    for _ in 0..Most::REQUESTS {
+        let Some(function) = read_next(&mut reader, &mut errors) else {
             return;
         };
-        if !answer(&mut reader, &mut out, &mut errors, function) {
+        if answer(&mut reader, &mut out, &mut errors, function).is_err() {
             return;
         }
-        requests += 1;
     }
     let _ = errors.write_all(b"no more than 1048576 requests are answered\n");
 }

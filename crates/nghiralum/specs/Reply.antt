@@ -1,12 +1,13 @@
 -- What the program prints of the bytes that it read. Rule G1: "words of four bytes, low byte first". G3: "If the number of bytes read
 -- is no multiple of four it says refusal 1, place 0". G4: "A listing is printed as its words". G5: "It lends 16,384 words".
-use Rattle.std.specs.Prelude.{ℕ, ◌%◌, Bool, true, false, Option, IfSome, List, [], ◌∷◌, length, replicate, take, eqb}
+use Rattle.std.specs.Prelude.{ℕ, ◌%◌, Option, IfSome, Result, Ok, Err, List, [], ◌∷◌, length, replicate, take, eqb}
 use Rattle.std.specs.Io.KnownBytes.{Appends}
 use Rattle.words.specs.Choice.{pick}
 use Rattle.book.specs.Said.{said}
 use Rattle.book.specs.Layout.{loaded_bytes}
 use Rattle.octets.specs.Octets.{words_in}
 use Rattle.translation.specs.Outcome.{Outcome, outcome}
+use Rattle.input.specs.declared.Failed.{Failed}
 use Rattle.line.specs.Line.{line_of}
 pub mod Laws
 
@@ -29,8 +30,8 @@ lent_bytes = replicate 65536 0
 unfoldable pub reply_line : List ℕ → List ℕ
 reply_line bs = line_of (outcome_of_bytes bs lent_words)
 
--- whether all was read and printed: where a reader has bytes left, the line of these, as far as there is room for them, is written behind
+-- all was read and printed: where a reader has bytes left, the line of these, as far as there is room for them, is written behind
 -- what the writer held, or where a read or a write failed, a front of that line
-abbrev pub Replied : Bool → Option (List ℕ) → Option (List ℕ) → Option (List ℕ) → Type 0
-Replied true left old new = IfSome left (λ bs. Appends old new (reply_line (take loaded_bytes bs)))
-Replied false left old new = IfSome left (λ bs. (n : ℕ) × Appends old new (take n (reply_line (take loaded_bytes bs))))
+abbrev pub Replied : Result (Unit {0}) Failed → Option (List ℕ) → Option (List ℕ) → Option (List ℕ) → Type 0
+Replied (Ok u) left old new = IfSome left (λ bs. Appends old new (reply_line (take loaded_bytes bs)))
+Replied (Err f) left old new = IfSome left (λ bs. (n : ℕ) × Appends old new (take n (reply_line (take loaded_bytes bs))))

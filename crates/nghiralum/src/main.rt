@@ -9,10 +9,10 @@ ghost use Rattle.book.specs.Layout.{loaded_bytes};
 ghost use Rattle.nghiralum.specs.Reply.{reply_line, Replied};
 
 use book::Layout;
-use input::Input;
+use input::Failed;
 use std::env::{Env, FillError};
 use std::fs::File;
-use std::io::{Error, ErrorKind, Read, Result, Write};
+use std::io::{self, Error, ErrorKind, Read, Write};
 use std::rt::Files;
 
 // What is read, lent and printed at most.
@@ -35,42 +35,37 @@ impl Most {
     const NAME: usize = 4096;
 }
 
-// The line that is printed of the first n bytes of those that there was room for, into the front of `line`; answers its length.
-fn reply(read: &[u8], n: usize, line: &mut [u8]) -> usize
-    requires { (length read.now ≡ loaded_bytes) × (n ≤ loaded_bytes) × (180234 ≤ length line.old) }
+// The line that is printed of the bytes that were read, into the front of `line`; answers its length.
+fn reply(read: &[u8], line: &mut [u8]) -> usize
+    requires { (length read.now ≤ loaded_bytes) × (180234 ≤ length line.old) }
     ensures prefix_len { IsPrefixLen result line.new }
-    ensures line_after { take result line.new ≡ reply_line (take n read.now) }
+    ensures line_after { take result line.new ≡ reply_line read.now }
 {
     let mut out = [0u8; Most::OUT];
-    let answer = editor::translate(&read[..n], &mut out);
+    let answer = editor::translate(read, &mut out);
     let mut lent = [0u32; Most::LENT];
     octets::load(&out, &mut lent);
     line::answer_line(line, answer, &lent)
 }
 
-// Reads a book from what is open, and prints what comes of it; whether all was read and printed. Where not, that is told.
+// Reads a book from what is open, and prints what comes of it. Where not all was read and printed, that is told.
 fn run<R: Read, W: Write, E: Write>(
     reader: &mut R,
     out: &mut W,
     errors: &mut E,
     name: &[u8],
-) -> bool
+) -> Result<(), Failed>
     ensures { Replied result (R.remaining reader.old) (W.contents out.old) (W.contents out.new) }
 {
     let mut bytes = [0u8; Most::BYTES];
-    let input = input::fill(reader, errors, name, &mut bytes);
-    match input {
-        Input::Bytes(n) => {
-            let mut line = [0u8; Most::LINE];
-            let end = reply(&bytes, n, &mut line);
-            line::print(out, errors, &line[..end])
-        }
-        Input::Failed => false,
-    }
+    let n = input::fill(reader, errors, name, &mut bytes)?;
+    let mut line = [0u8; Most::LINE];
+    let end = reply(&bytes[..n], &mut line);
+    line::print(out, errors, &line[..end])
 }
 
 // Opens a file to be read. A name that is no text can't be opened.
-fn open<F: Files>(files: &F, name: &[u8]) -> Result<F::File> {
+fn open<F: Files>(files: &F, name: &[u8]) -> io::Result<F::File> {
     match str::from_utf8(name) {
         Ok(text) => File::open(files, text),
         Err(_) => Err(Error::new(ErrorKind::InvalidFilename, "the name is no UTF-8")),
@@ -83,7 +78,7 @@ fn run_file<S: Env + Files, W: Write, E: Write>(system: &S, out: &mut W, errors:
     match system.arg(1, &mut name) {
         Ok(n) => match open(system, &name[..n]) {
             Ok(mut file) => {
-                run(&mut file, out, errors, &name[..n]);
+                let _ = run(&mut file, out, errors, &name[..n]);
             }
             Err(error) => input::fail(errors, &name[..n], &error),
         },
@@ -97,17 +92,14 @@ fn run_file<S: Env + Files, W: Write, E: Write>(system: &S, out: &mut W, errors:
 // Whether there is an argument of this number, counted from the program's own name as 0.
 fn is_argument(system: &impl Env, number: usize) -> bool {
     let mut name = [0u8; Most::NAME];
-    match system.arg(number, &mut name) {
-        Err(FillError::NotPresent) => false,
-        _ => true,
-    }
+    !matches!(system.arg(number, &mut name), Err(FillError::NotPresent))
 }
 
 fn main(rt: HostRuntime) {
     let mut out = rt.stdout();
     let mut errors = rt.stderr();
     if !is_argument(&rt, 1) {
-        run(&mut rt.stdin(), &mut out, &mut errors, b"standard input");
+        let _ = run(&mut rt.stdin(), &mut out, &mut errors, b"standard input");
     } else if !is_argument(&rt, 2) {
         run_file(&rt, &mut out, &mut errors);
     } else {

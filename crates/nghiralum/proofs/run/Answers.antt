@@ -2,13 +2,12 @@
 -- (`came-front`), so the line that is printed is its line (`replied`). Assumes nothing.
 use native.Mathlib.Omega.{arith}
 use Rattle.book.specs.Layout.{loaded_bytes}
-use Rattle.input.specs.Input.Laws.{within-bytes, came-front}
+use Rattle.input.specs.Input.Laws.{came-front}
 use Rattle.nghiralum.specs.Reply.Laws.{replied}
 use Rattle.nghiralum.proofs.run.Goals as goal
 
-pub returns-in-Bytes : goal.returns-in-Bytes
-returns-in-Bytes g c =
-    let said = c.fill-input.ensures in
-    let few = within-bytes c.in-Bytes.is said.within in
-    let front = came-front _ _ _ loaded_bytes c.in-Bytes.is few (omega arith) said.came in
+pub returns : goal.returns
+returns g c =
+    let read = c.in_ok-n.ensures in
+    let front = came-front _ _ _ loaded_bytes c.in_ok-n.was read.within (omega arith) read.came in
     replied _ _ _ _ _ front c.reply-end.ensures.line_after c.print.ensures

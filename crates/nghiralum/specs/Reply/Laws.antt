@@ -1,6 +1,6 @@
 -- Laws of what comes of the bytes: the translation on bytes comes to it, read back as words, what is written had room, and the line that
 -- is printed is that of what the reader had. Assumes nothing.
-use Rattle.std.specs.Prelude.{ℕ, ◌+◌, ◌%◌, ◌≤◌, Bool, true, false, not, Option, None, Some, IfSome, List, ◌++◌, ◌≡◌, length, take}
+use Rattle.std.specs.Prelude.{ℕ, ◌+◌, ◌%◌, ◌≤◌, not, Option, None, Some, IfSome, Result, Ok, Err, List, ◌++◌, ◌≡◌, length, take}
 use Rattle.std.proofs.Common.{append-nil, sym, ◌∙◌, ap, ap₂, subst, arith, drop_of_length-le, eq-eqb, ne_eqb}
 use Rattle.std.specs.Io.KnownBytes.{Appends}
 use Rattle.std.proofs.Math.Decide.{ℕ_discrete}
@@ -13,9 +13,8 @@ use Rattle.octets.specs.Octets.Laws.{words-length, words-zeros}
 use Rattle.book.specs.Layout.{loaded_bytes}
 use Rattle.line.specs.Line.{Inside, Printed}
 use Rattle.line.specs.Line.Laws.{inside-outcome}
-use Rattle.translation.specs.Outcome.{Outcome, outcome, came}
-use Rattle.translation.specs.declared.Answer.{Answer}
-use Rattle.translation.specs.declared.Answer.TheVariants.{Written, Refused}
+use Rattle.translation.specs.Outcome.{Answer, Outcome, outcome, came}
+use Rattle.input.specs.declared.Failed.{Failed}
 use Rattle.editor.specs.Bytes.{translation_bytes}
 use Rattle.editor.specs.Bytes.Laws.{translation-words, of-odd}
 use Rattle.nghiralum.specs.Reply.{odd_bytes, outcome_of_bytes, lent_words, lent_bytes, reply_line, Replied}
@@ -30,8 +29,8 @@ of-odd-bytes bs lent e = pick-false _ _ _ (ne_eqb _ _ e)
 
 -- a refusal writes nothing
 inside-odd : (a : Answer) (lent new : List ℕ) (room : ℕ) → came a new ≡ odd_bytes lent → Inside a room
-inside-odd (Written n) lent new room e = let number = ap (λ (o : Outcome). o.says.number) e in absurd (omega arith)
-inside-odd (Refused f) lent new room e = tt
+inside-odd (Ok n) lent new room e = let number = ap (λ (o : Outcome). o.says.number) e in absurd (omega arith)
+inside-odd (Err f) lent new room e = tt
 
 -- what was written had room
 pub inside-bytes : (a : Answer) (bs lent new : List ℕ) {room : ℕ} → came a new ≡ outcome_of_bytes bs lent → length lent ≤ room → Inside a room
@@ -92,10 +91,10 @@ reply-came bs given out new a r f z w =
     ap₂ (λ s (ws : List ℕ). record { says = s; lent = ws }) (ap (λ (o : Outcome). o.says) e ∙ l.says) (loaded ∙ ap words_in lent ∙ l.words)
 
 -- ---- what was read is the front of what the reader had, and its line was printed
-pub replied : (all : Bool) (left old new : Option (List ℕ)) (came : List ℕ) {line : List ℕ} → IfSome left (λ bs. take loaded_bytes bs ≡ came)
+pub replied : (all : Result (Unit {0}) Failed) (left old new : Option (List ℕ)) (came : List ℕ) {line : List ℕ} → IfSome left (λ bs. take loaded_bytes bs ≡ came)
     → line ≡ reply_line came → Printed all old new line → Replied all left old new
-replied true None old new came front e p = tt
-replied true (Some bs) old new came front e p = subst (Appends old new) (e ∙ ap reply_line (sym front)) p
-replied false None old new came front e p = tt
-replied false (Some bs) old new came front e p =
+replied (Ok u) None old new came front e p = tt
+replied (Ok u) (Some bs) old new came front e p = subst (Appends old new) (e ∙ ap reply_line (sym front)) p
+replied (Err f) None old new came front e p = tt
+replied (Err f) (Some bs) old new came front e p =
     (p.0, subst (λ l. Appends old new (take p.0 l)) (e ∙ ap reply_line (sym front)) p.2)

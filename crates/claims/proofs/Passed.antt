@@ -1,6 +1,6 @@
 -- What the loops over parties, known rows and steps have marked: at the start, after one round more, at the end. Assumes nothing.
-use Prim.Native.Nat.{ℕ, ◌+◌, ◌≤◌, ◌<◌}
-use mathlib.Core.List.{List, [], ◌∷◌, map}
+use Prim.Native.Nat.{ℕ, ◌+◌, ◌<◌}
+use mathlib.Core.List.{List, [], ◌∷◌, ◌++◌, map}
 use mathlib.Core.Path.{◌≡◌, refl}
 use native.Mathlib.Omega.{arith}
 use lib.ListN.{length}
@@ -14,47 +14,21 @@ use Rattle.book.specs.Span.Laws.{span-step}
 use Rattle.translation.specs.Narration.{narration}
 use Rattle.translation.specs.Taken.{joined}
 use Rattle.claims.specs.Marked.{Marked}
-use Rattle.claims.specs.Marked.Laws.{marked-none, marked-end, marked-value, marked-joined, marked-pooled}
+use Rattle.claims.specs.Marked.Laws.{marked-none, marked-end, marked-party, marked-pooled}
 use Rattle.claims.specs.Claims.{Claims, ClaimsBefore}
 use Rattle.claims.specs.Claims.Laws.{claims-step, claims-end}
 
--- ---- the parties' names: those of the p parties passed, of n
-abbrev name_term : List ℕ → ℕ → Term
-name_term b p = term (table b) (name b p)
-
-pub record Names (b : List ℕ) (n p : ℕ) (l m : List ℕ) : Type 0 where
-  pub within : p ≤ n
-  pub done : Marked (values (name_term b) 0 p) 1 l m
-
-module _ (b : List ℕ) (n : ℕ) (e : n ≡ parties b) where
-  pub names-start : (l : List ℕ) → length l ≡ 1024 → Names b n 0 l l
-  unfolding values
-  names-start l h = record { within = omega arith; done = marked-none 1 l h }
-
-  pub name-low : (v : Valid b) (p r : ℕ) → p < n → r ≡ name b p → r < rows b
-  name-low v p r h d = let z = (v.parties_keep p (omega arith)).named in omega arith
-
-  pub names-on : (p r : ℕ) {l m k : List ℕ} → p < n → r ≡ name b p → Names b n p l m
-      → Marked (term (table b) r ∷ []) 1 m k → Names b n (p + 1) l k
-  names-on p r h d i x = record { within = omega arith; done = marked-value (name_term b) p i.done (rw (← d) x) }
-
-  pub names-end : (p : ℕ) {l m : List ℕ} → n ≤ p → Names b n p l m → Marked (narration b).names 1 l m
-  unfolding narration
-  names-end p h i = let l = i.within in let z : p ≡ parties b = omega arith in rw (← z) i.done
-
--- ---- what one party knows: the first j of its n rows
-pub record Knows (b : List ℕ) (f n j : ℕ) (l m : List ℕ) : Type 0 where
-  pub within : j ≤ n
+-- ---- what one party knows: the first j of its rows
+pub record Knows (b : List ℕ) (f j : ℕ) (l m : List ℕ) : Type 0 where
   pub done : Marked (map (term (table b)) (list_at b f j)) 1 l m
 
-pub knows_start : {b : List ℕ} {f n : ℕ} {l : List ℕ} → length l ≡ 1024 → Knows b f n 0 l l
-knows_start {b} {f} {n} {l} h = record { within = omega arith; done = marked-end b f 0 1 l refl h }
+pub knows_start : {b : List ℕ} {f : ℕ} {l : List ℕ} → length l ≡ 1024 → Knows b f 0 l l
+knows_start {b} {f} {l} h = record { done = marked-end b f 0 1 l refl h }
 
 -- the rows known were marked with x, which is 1: they are taken from step 0 on
-pub knows_on : {b : List ℕ} {f n j r x : ℕ} {l m k : List ℕ} → j < n → r ≡ pooled b f j → Knows b f n j l m
-    → Marked (term (table b) r ∷ []) x m k → x ≡ 1 → Knows b f n (j + 1) l k
-knows_on {b} {f} {n} {j} {r} {x} h d i y o =
-    record { within = omega arith; done = marked-pooled b f j i.done (rw (← d) (rw o at y)) }
+pub knows_on : {b : List ℕ} {f j r x : ℕ} {l m k : List ℕ} → r ≡ pooled b f j → Knows b f j l m
+    → Marked (term (table b) r ∷ []) x m k → x ≡ 1 → Knows b f (j + 1) l k
+knows_on {b} {f} {j} d i y o = record { done = marked-pooled b f j i.done (rw (← d) (rw o at y)) }
 
 module _ {b : List ℕ} {p f n : ℕ} (d : f ≡ party_first b p) (e : n ≡ party_count b p) where
   pub known-inside : Valid b → p < parties b → (j : ℕ) → j < n → f + j < pool b
@@ -65,35 +39,39 @@ module _ {b : List ℕ} {p f n : ℕ} (d : f ≡ party_first b p) (e : n ≡ par
       let z : pooled b f j < rows b = rw d ((v.parties_keep p h).listed.each j (omega arith)) in
       omega arith
 
-pub knows-end : {b : List ℕ} (p : ℕ) {f n j : ℕ} {l m : List ℕ} → f ≡ party_first b p → n ≡ party_count b p → n ≤ j
-    → Knows b f n j l m → Marked (map (term (table b)) (known b p)) 1 l m
-knows-end {b} p {j = j} d e h i =
-    let l = i.within in
-    let z : j ≡ party_count b p = omega arith in
-    rw (← z, ← d) i.done
+pub knows-end : {b : List ℕ} (p : ℕ) {f j : ℕ} {l m : List ℕ} → f ≡ party_first b p → j ≡ party_count b p → Knows b f j l m
+    → Marked (map (term (table b)) (known b p)) 1 l m
+knows-end p d e i = rw (← e, ← d) i.done
 
--- ---- what all parties know: that of the p parties passed, of n
+-- ---- the names of the p parties passed, and what they know
+abbrev name_term : List ℕ → ℕ → Term
+name_term b p = term (table b) (name b p)
+
 abbrev known_terms : List ℕ → ℕ → List Term
 known_terms b p = map (term (table b)) (known b p)
 
-pub record Knowledge (b : List ℕ) (n p : ℕ) (l m : List ℕ) : Type 0 where
-  pub within : p ≤ n
-  pub done : Marked (joined (values (known_terms b) 0 p)) 1 l m
+pub record Begun (b : List ℕ) (p : ℕ) (l m : List ℕ) : Type 0 where
+  pub done : Marked (values (name_term b) 0 p ++ joined (values (known_terms b) 0 p)) 1 l m
 
-pub knowledge-start : (b : List ℕ) (n : ℕ) (l : List ℕ) → length l ≡ 1024 → Knowledge b n 0 l l
+pub begun-start : (b : List ℕ) {l : List ℕ} → length l ≡ 1024 → Begun b 0 l l
 unfolding values joined
-knowledge-start b n l h = record { within = omega arith; done = marked-none 1 l h }
+begun-start b {l} h = record { done = marked-none 1 l h }
 
--- the knowledge of party q was marked, which is the next one
-pub knowledge-on : {b : List ℕ} {n p q : ℕ} {l m k : List ℕ} → p < n → Knowledge b n p l m
-    → Marked (map (term (table b)) (known b q)) 1 m k → q ≡ p → Knowledge b n (p + 1) l k
-knowledge-on {b} {n} {p} {q} h i x e =
-    record { within = omega arith; done = marked-joined (known_terms b) p i.done (rw (← e) x) }
+pub name-low : {b : List ℕ} {p r : ℕ} → Valid b → p < parties b → r ≡ name b p → r < rows b
+name-low {p = p} v h d = let z = (v.parties_keep p h).named in omega arith
 
-pub knowledge-end : (b : List ℕ) (n p : ℕ) {l m : List ℕ} → n ≡ parties b → n ≤ p → Knowledge b n p l m
-    → Marked (joined (narration b).knows) 1 l m
+-- the name and the knowledge of party q were marked, which is the next one
+pub begun-on : {b : List ℕ} {p q r : ℕ} {l m k o : List ℕ} → Begun b p l m → r ≡ name b p → Marked (term (table b) r ∷ []) 1 m k
+    → Marked (map (term (table b)) (known b q)) 1 k o → q ≡ p → Begun b (p + 1) l o
+begun-on {b} {p} {m = m} {k = k} {o = o} i d x y e =
+    let named : Marked (name_term b p ∷ []) 1 m k = rw (← d) x in
+    let knows : Marked (known_terms b p) 1 k o = rw (← e) y in
+    record { done = marked-party (name_term b) (known_terms b) p i.done named knows }
+
+pub begun-end : {b : List ℕ} {p : ℕ} {l m : List ℕ} → p ≡ parties b → Begun b p l m
+    → Marked ((narration b).names ++ joined (narration b).knows) 1 l m
 unfolding narration
-knowledge-end b n p e h i = let l = i.within in let z : p ≡ parties b = omega arith in rw (← z) i.done
+begun-end z i = rw (← z) i.done
 
 -- ---- the steps
 -- the messages of a step that the loop is at, below a bound that was read as the number of rows
@@ -106,5 +84,5 @@ pub step-claimed : {b : List ℕ} {s f n x : ℕ} {l m : List ℕ} → f ≡ ste
     → Marked (map (term (table b)) (list_at b f n)) x l m → x ≡ s + 2 → ClaimsBefore b (s + 1) m
 step-claimed {b} {s} {f} {n} {x} {l} {m} d e c y o = claims-step b s l m c (rw (← d, ← e) (rw o at y))
 
-pub steps-claimed : (b : List ℕ) (n s : ℕ) (l : List ℕ) → n ≡ steps b → s ≤ n → n ≤ s → ClaimsBefore b s l → Claims b l
-steps-claimed b n s l e h k c = claims-end b s l (omega arith) c
+pub steps-claimed : {b : List ℕ} {s : ℕ} {l : List ℕ} → s ≡ steps b → ClaimsBefore b s l → Claims b l
+steps-claimed {b} {s} {l} e c = claims-end b s l e c

@@ -1,8 +1,8 @@
 // From which step on each atom is taken: it is a party's name, known at the start, or in a message of an earlier step. `claims`
 // answers the table of these steps for a valid book, an entry for each row.
-#![tactic(auto)]
+#![tactic(auto, using(book::specs::Headed::Laws::headed_rules))]
 
-ghost use Rattle.std.specs.Prelude.{◌≡◌, [], ◌∷◌, map, ◌≤◌, ◌<◌, length};
+ghost use Rattle.std.specs.Prelude.{◌≡◌, [], ◌∷◌, ◌++◌, map, ◌≤◌, ◌<◌, length};
 ghost use Rattle.terms.specs.Term.{atom};
 ghost use Rattle.terms.specs.Table.{term};
 ghost use Rattle.book.specs.Layout.{rows as rows_of, parties as parties_of, table, list_at, known};
@@ -55,6 +55,7 @@ fn mark(book: &[u32], since: &mut ByRow, seen: &mut ByRow, row: u32, from: u32)
 }
 
 // The atoms that occur in a list of rows below a bound.
+// Kept: a recursion from a row to its list and back, as making and receiving are.
 #[cycle(mark_mark_list)]
 fn mark_list(
     book: &[u32],
@@ -75,43 +76,25 @@ fn mark_list(
     mark_list(book, since, seen, bound, first + 1, left - 1, from);
 }
 
-// The names of the parties: taken from step 0 on, and so marked with 1.
-fn mark_names(book: &[u32], since: &mut ByRow, seen: &mut ByRow)
-    requires { Valid book.now × Ready book.now since.old seen.old }
-    ensures { Marked (narration book.now).names 1 since.old since.new × Ready book.now since.new seen.new }
-{
-    let n = parties(book);
-    let mut party = 0;
-    while party < n {
-        mark(book, since, seen, party_name(book, party), 1);
-        party += 1;
-    }
-}
-
 // What a party knows at the start: taken from step 0 on.
 fn mark_known(book: &[u32], since: &mut ByRow, seen: &mut ByRow, party: u32)
     requires { Valid book.now × Ready book.now since.old seen.old × (party < parties_of book.now) }
     ensures { Marked (map (term (table book.now)) (known book.now party)) 1 since.old since.new × Ready book.now since.new seen.new }
 {
     let first = party_first(book, party);
-    let n = party_count(book, party);
-    let mut j = 0;
-    while j < n {
+    for j in 0..party_count(book, party) {
         mark(book, since, seen, pooled(book, first, j), 1);
-        j += 1;
     }
 }
 
-// What all parties know at the start.
-fn mark_knowledge(book: &[u32], since: &mut ByRow, seen: &mut ByRow)
+// The names of the parties, and what they know at the start: taken from step 0 on, and so marked with 1.
+fn mark_start(book: &[u32], since: &mut ByRow, seen: &mut ByRow)
     requires { Valid book.now × Ready book.now since.old seen.old }
-    ensures { Marked (joined (narration book.now).knows) 1 since.old since.new × Ready book.now since.new seen.new }
+    ensures { Marked ((narration book.now).names ++ joined (narration book.now).knows) 1 since.old since.new × Ready book.now since.new seen.new }
 {
-    let n = parties(book);
-    let mut party = 0;
-    while party < n {
+    for party in 0..parties(book) {
+        mark(book, since, seen, party_name(book, party), 1);
         mark_known(book, since, seen, party);
-        party += 1;
     }
 }
 
@@ -120,9 +103,7 @@ fn mark_steps(book: &[u32], since: &mut ByRow, seen: &mut ByRow)
     requires { Valid book.now × ClaimsBefore book.now 0 since.old × Ready book.now since.old seen.old }
     ensures { Claims book.now since.new }
 {
-    let n = steps(book);
-    let mut step = 0;
-    while step < n {
+    for step in 0..steps(book) {
         mark_list(
             book,
             since,
@@ -132,19 +113,18 @@ fn mark_steps(book: &[u32], since: &mut ByRow, seen: &mut ByRow)
             step_count(book, step),
             step + 2,
         );
-        step += 1;
     }
 }
 
 // For each row one more than the first step at which its atom is taken; 0 where it never is, and where the row is no atom.
+// Kept: 0 stands for never, for the table is lent on to other rooms and is fixed memory of words.
 pub fn claims(book: &[u32]) -> ByRow
     requires { Valid book.now }
     ensures { Claims book.now result }
 {
     let mut since = [0u32; 1024];
     let mut seen = [0u32; 1024];
-    mark_names(book, &mut since, &mut seen);
-    mark_knowledge(book, &mut since, &mut seen);
+    mark_start(book, &mut since, &mut seen);
     mark_steps(book, &mut since, &mut seen);
     since
 }

@@ -16,10 +16,6 @@ use Rattle.holding.specs.Entry.Laws.{held_at}
 use Rattle.holding.specs.AtRow.{image_at, images_at, head_words, entry_words}
 use Rattle.holding.specs.AtRow.Laws.{image-held, image-free, images-none, images-more}
 
--- ---- where an operation, a cipher and the halves are ruled out, a row is an atom
-pub atom-left : (k : ℕ) → (k ≡ 1 → ⊥) → (k ≡ 2 → ⊥) → k < 3 → k ≡ 0
-atom-left k one two below = omega arith
-
 -- ---- a row, of which the code reads the entry at w, and of which t tells whether it is held
 pub held-wrote : (b e : List ℕ) (r w : ℕ) {t : Bool} → Valid b → r < rows b → w ≡ r → t ≡ is_held (held_of (get_or e w 0)) → t ≡ true
     → {o s : List ℕ} {a j : ℕ} → Wrote (entry_words r (held_of (get_or e w 0))) o a s j → Wrote (image_at b e r) o a s j

@@ -2,9 +2,9 @@
 // at the start, `buildable` and `can_open` whether a row, and a key's partner, can be built; the `write_..` functions write images.
 // All of it is the meaning's own (translation/specs/Dictionary.antt), for a valid book. Where the partners' rows are is looked up in a
 // table, which `partners` makes once for the book.
-#![tactic(auto)]
+#![tactic(auto, using(book::specs::Headed::Laws::headed_rules))]
 
-ghost use Rattle.std.specs.Prelude.{true, ◌≡◌, map, ◌+◌, ◌-◌, ◌≤◌, ◌<◌};
+ghost use Rattle.std.specs.Prelude.{ℕ, true, ◌≡◌, map, ◌+◌, ◌-◌, ◌≤◌, ◌<◌, unwrap_or};
 ghost use Rattle.words.specs.Overlay.{Wrote};
 ghost use Rattle.terms.specs.Term.{partner};
 ghost use Rattle.terms.specs.Image.{words};
@@ -23,9 +23,10 @@ use book::{
     ByRow, ImageCode, Kind, Limit, entry, first_part, is_half, other_half, party_count,
     party_first, pooled, row_count, row_first, row_kind, row_tag, rows,
 };
-use words::{narrow, put, put2, put3, wide};
+use words::{narrow, put, put_each, wide};
 
 // An entry of a dictionary, a word: what it says is `held_of`, specs/Entry.antt. From 2 to 63 nothing is written.
+// Kept: an entry is coded in one word, 0 for none, so that a dictionary is 1,024 words that are handed on by value at each level.
 #[derive(Drop)]
 pub struct Entry {}
 
@@ -73,17 +74,17 @@ impl Entry {
         Entry::STORED + Limit::STEPS * place + step
     }
 
-    // After how many steps the row is first held, and `never` if it is not.
-    pub fn since(entry: u32, never: u32) -> u32
-        ensures { result ≡ since_of never (held_of entry) }
+    // After how many steps the row is first held, if it is.
+    pub fn since(entry: u32) -> Option<u32>
+        ensures { (never : ℕ) → unwrap_or result never ≡ since_of never (held_of entry) }
     {
         if entry == 0 {
-            return never;
+            None
+        } else if entry < Entry::MADE {
+            Some(0)
+        } else {
+            Some(entry % Limit::STEPS + 1)
         }
-        if entry < Entry::MADE {
-            return 0;
-        }
-        entry % Limit::STEPS + 1
     }
 }
 
@@ -93,11 +94,9 @@ pub fn start(book: &[u32], party: u32) -> ByRow
     ensures { view book.now result ≡ start_of (map (term (table book.now)) (known book.now party)) }
 {
     let first = party_first(book, party);
-    let mut left = party_count(book, party);
     let mut entries = [Entry::free(); 1024];
-    while 0 < left {
-        left -= 1;
-        entries[wide(pooled(book, first, left))] = Entry::given();
+    for j in 0..party_count(book, party) {
+        entries[wide(pooled(book, first, j))] = Entry::given();
     }
     entries
 }
@@ -113,14 +112,12 @@ pub fn buildable(book: &[u32], entries: &ByRow, row: u32) -> bool
     if row_kind(book, row) == Kind::ATOM {
         return false;
     }
-    let mut from = row_first(book, row);
-    let mut left = row_count(book, row);
-    while 0 < left {
-        if !buildable(book, entries, entry(book, from, left, row)) {
+    let first = row_first(book, row);
+    let n = row_count(book, row);
+    for j in 0..n {
+        if !buildable(book, entries, entry(book, first + j, n - j, row)) {
             return false;
         }
-        from += 1;
-        left -= 1;
     }
     true
 }
@@ -139,7 +136,8 @@ fn join(book: &[u32], table: &mut ByRow, seen: &mut ByRow, row: u32)
     seen[wide(part)] = row;
 }
 
-// The row of each row's partner, or T where that is no row, made once for the book. A row that is no half is its own partner.
+// The row of each row's partner, or the number of rows where that is no row, made once for the book. A row that is no half is its own partner.
+// Kept: the number of rows stands for none in both tables, for a table lent on to other rooms is fixed memory of words.
 pub fn partners(book: &[u32]) -> ByRow
     requires { Valid book.now }
     ensures { Partners book.now result }
@@ -147,14 +145,12 @@ pub fn partners(book: &[u32]) -> ByRow
     let n = rows(book);
     let mut table = [0u32; 1024];
     let mut seen = [n; 1024];
-    let mut row = 0;
-    while row < n {
+    for row in 0..n {
         if is_half(row_kind(book, row)) {
             join(book, &mut table, &mut seen, row);
         } else {
             table[wide(row)] = row;
         }
-        row += 1;
     }
     table
 }
@@ -179,22 +175,15 @@ fn put_head(book: &[u32], row: u32, out: &mut [u32], at: usize) -> usize
 {
     let kind = row_kind(book, row);
     let head = Kind::of(kind);
-    if kind == Kind::OPERATION {
-        return put3(
-            out,
-            at,
-            head.code,
-            row_tag(book, row),
-            narrow(row_count(book, row)),
-        );
+    match kind {
+        Kind::ATOM => put_each(out, at, [head.code, row]),
+        Kind::OPERATION => {
+            let arguments = narrow(row_count(book, row));
+            put_each(out, at, [head.code, row_tag(book, row), arguments])
+        }
+        Kind::CIPHER => put_each(out, at, [head.code, narrow(row_count(book, row) - 1)]),
+        _ => put(out, at, head.code),
     }
-    if kind == Kind::CIPHER {
-        return put2(out, at, head.code, narrow(row_count(book, row) - 1));
-    }
-    if is_half(kind) {
-        return put(out, at, head.code);
-    }
-    put2(out, at, head.code, row)
 }
 
 // The image of a row that is held: itself, or its placeholder.
@@ -203,14 +192,10 @@ fn put_entry(row: u32, held: u32, out: &mut [u32], at: usize) -> usize
     ensures { Wrote (entry_words row (held_of held)) out.old at out.new result }
 {
     if held < Entry::STORED {
-        return put2(out, at, ImageCode::ITSELF, row);
+        return put_each(out, at, [ImageCode::ITSELF, row]);
     }
-    put2(
-        out,
-        at,
-        ImageCode::PLACEHOLDER,
-        (held - Entry::STORED) / Limit::STEPS,
-    )
+    let place = (held - Entry::STORED) / Limit::STEPS;
+    put_each(out, at, [ImageCode::PLACEHOLDER, place])
 }
 
 // The image of a row, in prefix words.
@@ -236,6 +221,7 @@ pub fn write_image(book: &[u32], entries: &ByRow, row: u32, out: &mut [u32], at:
 }
 
 // The images of a list of rows below a bound.
+// Kept: a recursion from a row to its list and back, as making and receiving are.
 #[cycle(write_image_write_images)]
 pub fn write_images(
     book: &[u32],

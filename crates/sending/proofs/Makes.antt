@@ -1,6 +1,7 @@
 -- Making the atoms of a row, of a list of rows, and sending a step's messages: what the code leaves behind. Assumes nothing.
 use Prim.Native.Nat.{ℕ, ◌+◌, ◌-◌, ◌*◌, ◌/◌, ◌≤◌, ◌<◌}
 use mathlib.Core.Bool.{Bool, true, false}
+use Rattle.std.specs.Prelude.{Option, None}
 use mathlib.Core.List.{List, [], ◌∷◌}
 use mathlib.Core.Path.{◌≡◌, refl, sym, ap, ◌∙◌}
 use native.Mathlib.Omega.{arith}
@@ -11,8 +12,7 @@ use Rattle.terms.specs.Table.{term, terms}
 use Rattle.book.specs.Layout.{rows, kind, row_first, row_count, table, list_at}
 use Rattle.book.specs.Valid.{Valid}
 use Rattle.book.specs.Headed.Laws.{few-rows}
-use Rattle.book.specs.Span.{entry, Span}
-use Rattle.book.specs.Stop.{nowhere}
+use Rattle.book.specs.Span.{entry}
 use Rattle.book.specs.declared.Stop.{Stop}
 use Rattle.translation.specs.Dictionary.{Held, is_held, Dictionary}
 use Rattle.translation.specs.Build.{build, build_all}
@@ -43,7 +43,7 @@ module _ {b l : List ℕ} (e : List ℕ) {k s r : ℕ} (v : Valid b) (h : r < ro
   held-makes d c z = makes-as (makes-nothing j) (making-held s b e v r h (held_at e r _ d c z))
 
   -- the word a is entered at u
-  pub atom-makes : {w u g : ℕ} (a : ℕ) {t : Bool} {o p : List ℕ} {i : ℕ} {y : Stop} → w ≡ r → t ≡ is_held (held_of (get_or e w 0)) → t ≡ false
+  pub atom-makes : {w u g : ℕ} (a : ℕ) {t : Bool} {o p : List ℕ} {i : ℕ} {y : Option Stop} → w ≡ r → t ≡ is_held (held_of (get_or e w 0)) → t ≡ false
       → g ≡ kind b r → g ≡ 0 → held_of a ≡ Held.made s → u ≡ r → Wrote (1 ∷ r ∷ []) o m.at p i
       → y ≡ or_stop m.stop (against_in l k s r) s r
       → Makes b l k s (making (build s (term (table b) r) (view b e))) m (set e u a) o p (record { at = i; stop = y })
@@ -92,17 +92,13 @@ more-makes b l e k s f n x h d u w =
     (making-more s b f n (view b e) (omega arith))
 
 -- ---- a step
--- its messages lie below a bound that was read as the number of rows
-pub bound-span : (b : List ℕ) (bound f n : ℕ) → bound ≡ rows b → Span b (rows b) f n → Span b bound f n
-bound-span b bound f n d s = rw d s
-
 -- each NEW took two words
 pub record News (b e : List ℕ) (s f n a : ℕ) (m : Made) : Type 0 where
   pub words : m.at ≡ a + 2 * length (build_all s (terms (table b) (list_at b f n)) (view b e)).made
   pub few : length (build_all s (terms (table b) (list_at b f n)) (view b e)).made ≤ step_size
 
 pub news : {b l e : List ℕ} {k s f n a : ℕ} {after o p : List ℕ} {m : Made} → SendReady b s f n e a
-    → Makes b l k s (all_making (build_all s (terms (table b) (list_at b f n)) (view b e))) (record { at = a; stop = nowhere s }) after o p m
+    → Makes b l k s (all_making (build_all s (terms (table b) (list_at b f n)) (view b e))) (record { at = a; stop = None }) after o p m
     → News b e s f n a m
 news {b} {e = e} {s = s} {f = f} {n = n} ready x =
     let few = ready.few in
@@ -113,7 +109,7 @@ news {b} {e = e} {s = s} {f = f} {n = n} ready x =
 
 -- the SEND stands at w, which is the place behind the NEWs
 pub sends : {b l e : List ℕ} {k s f n c a w j : ℕ} {after o p q t : List ℕ} {m : Made} {i z : ℕ} → SendReady b s f n e a → c ≡ n
-    → Makes b l k s (all_making (build_all s (terms (table b) (list_at b f n)) (view b e))) (record { at = a; stop = nowhere s }) after o p m
+    → Makes b l k s (all_making (build_all s (terms (table b) (list_at b f n)) (view b e))) (record { at = a; stop = None }) after o p m
     → Wrote (2 ∷ s ∷ c ∷ []) p w q i → w ≡ m.at → Wrote (images_at b after f n) q i t z → j ≡ (m.at - a) / 2
     → Sends b l k s (build_all s (terms (table b) (list_at b f n)) (view b e)) a after o t (record { at = z; made = j; stop = m.stop })
 sends {b} {e = e} {s = s} {f = f} {n = n} {after = after} ready d x y g z dk =

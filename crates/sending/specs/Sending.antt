@@ -1,13 +1,15 @@
 -- Sending as the code does it: the atoms of a step's messages are made first, each with its NEW, then one SEND is written with the
 -- messages' images. What is made and written is `build_all`'s and `sent`'s; of the atoms made, the first that can't be made is where making
 -- stops: "the walk stops at the first atom that can't be made, with 10 if it is taken and else 13" (document 02, [5]).
-use Rattle.std.specs.Prelude.{ℕ, ◌+◌, ◌*◌, ◌≤◌, ◌<◌, List, [], ◌∷◌, map, ◌≡◌, eqb, length}
+use Rattle.std.specs.Prelude.{ℕ, ◌+◌, ◌*◌, ◌≤◌, ◌<◌, List, [], ◌∷◌, map, ◌≡◌, eqb, length, Option, None, Some}
 use Rattle.words.specs.Choice.{pick}
 use Rattle.words.specs.Overlay.{cap, Wrote}
 use Rattle.terms.specs.Table.{terms}
 use Rattle.book.specs.Layout.{rows, table, list_at}
 use Rattle.book.specs.Span.{Span}
-use Rattle.book.specs.Stop.{stop, nowhere}
+use Rattle.book.specs.Stop.{stop}
+use Rattle.book.specs.declared.Against.{Against}
+use Rattle.book.specs.declared.Against.TheVariants as Against
 use Rattle.book.specs.declared.Stop.{Stop}
 use Rattle.book.specs.Valid.{Valid}
 use Rattle.translation.specs.Dictionary.{Dictionary}
@@ -35,16 +37,18 @@ abbrev pub all_making : AllBuilt → Making
 all_making b = record { dictionary = b.dictionary; made = b.made }
 
 -- ---- the first atom that can't be made
--- what stands against making the atom of row r at step s, by the table l and the sender's mark k: the number of the refusal, or 0
-unfoldable pub against_in : List ℕ → ℕ → ℕ → ℕ → ℕ
-against_in l k s r = pick (taken_in l s r) 10 (pick (eqb k 1) 0 13)
+-- what stands against making the atom of row r at step s, by the table l and the sender's mark k
+unfoldable pub against_in : List ℕ → ℕ → ℕ → ℕ → Option Against
+against_in l k s r = pick (taken_in l s r) (Some Against.Taken) (pick (eqb k 1) None (Some Against.Maker))
 
--- where it stopped before, x; else at row r of step s, if n is what stands against that
-unfoldable pub or_stop : Stop → ℕ → ℕ → ℕ → Stop
-or_stop x n s r = pick (eqb x.number 0) (pick (eqb n 0) x (stop n s r)) x
+-- where it stopped before, x; else at row r of step s, if something stands against that
+abbrev pub or_stop : Option Stop → Option Against → ℕ → ℕ → Option Stop
+or_stop (Some x) a s r = Some x
+or_stop None None s r = None
+or_stop None (Some a) s r = Some (stop a s r)
 
 -- where it stopped before, or at the first of the rows of step s against which something stands, as w tells
-unfoldable pub first_in : (ℕ → ℕ) → ℕ → Stop → List ℕ → Stop
+unfoldable pub first_in : (ℕ → Option Against) → ℕ → Option Stop → List ℕ → Option Stop
 first_in w s x [] = x
 first_in w s x (r ∷ rs) = first_in w s (or_stop x (w r) s r) rs
 
@@ -71,5 +75,5 @@ pub record Sends (b l : List ℕ) (k s : ℕ) (g : AllBuilt) (a : ℕ) (e out ou
   pub holds : view b e ≡ g.dictionary
   pub wrote : Wrote (program_words (row_of b) (sent s g).events) out a out_after r.at
   pub made : r.made ≡ length g.made
-  pub stops : r.stop ≡ first_in (against_in l k s) s (nowhere s) g.made
+  pub stops : r.stop ≡ first_in (against_in l k s) s None g.made
   pub size : length e ≡ 1024

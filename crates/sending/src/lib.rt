@@ -1,7 +1,7 @@
 // Figure 3's S: what a party does to send a step's messages. `send` writes a NEW for each atom that has to be made, in building
 // order, then the SEND with its images, and tells how many atoms were made and where making them stops: at the first that can't
 // be made.
-#![tactic(auto)]
+#![tactic(auto, using(book::specs::Headed::Laws::headed_rules))]
 
 ghost use Rattle.std.specs.Prelude.{◌≡◌, ◌≤◌, ◌<◌, length};
 ghost use Rattle.terms.specs.Table.{term, terms};
@@ -14,64 +14,56 @@ ghost use Rattle.book.specs.Span.{Span};
 ghost use Rattle.claims.specs.Since.{taken_in};
 ghost use Rattle.sending.specs.Sending.{making, all_making, against_in, or_stop, SendReady, Makes, Sends};
 
-use book::{ByRow, Code, Kind, Mark, Stop, entry, row_count, row_first, row_kind, rows};
+use book::{Against, ByRow, Code, Kind, Mark, Stop, entry, row_count, row_first, row_kind, rows};
 use holding::{Entry, write_images};
-use words::{narrow, put2, put3, wide};
+use words::{narrow, put_each, wide};
 
-// Where the next word goes, and where making stopped.
+// Where the next word goes, and where making stopped, if it did.
 #[derive(Drop)]
 struct Made {
     at: usize,
-    stop: Stop,
+    stop: Option<Stop>,
 }
 
-// What sending left: where the next word goes, how many atoms were made, and where making them stopped.
+// What sending left: where the next word goes, how many atoms were made, and where making them stopped, if it did.
 #[derive(Drop)]
 pub struct Sent {
     pub at: usize,
     pub made: u32,
-    pub stop: Stop,
+    pub stop: Option<Stop>,
 }
 
 // The atom of that row is taken at the step.
+#[tactic(auto, unfolding(claims::specs::Since::taken_in, words::specs::Choice::pick))]
 fn is_taken(since: &ByRow, row: u32, step: u32) -> bool
     requires { row < 1024 }
     ensures { result ≡ taken_in since.now step row }
 {
     let from = since[wide(row)];
-    if from == 0 {
-        return false;
-    }
-    from - 1 <= step
+    from != 0 && from - 1 <= step
 }
 
-// What stands against making the atom of that row at the step, by a sender with that mark: the number of the refusal, or 0.
-fn against(since: &ByRow, mark: u32, row: u32, step: u32) -> u32
+// What stands against making the atom of that row at the step, by a sender with that mark, if anything does.
+#[tactic(auto, unfolding(crate::specs::Sending::against_in, words::specs::Choice::pick))]
+fn against(since: &ByRow, mark: u32, row: u32, step: u32) -> Option<Against>
     requires { row < 1024 }
     ensures { result ≡ against_in since.now mark step row }
 {
     if is_taken(since, row, step) {
-        return Stop::TAKEN;
+        Some(Against::Taken)
+    } else if mark == Mark::MAKES {
+        None
+    } else {
+        Some(Against::Maker)
     }
-    if mark == Mark::MAKES {
-        return 0;
-    }
-    Stop::MAKER
 }
 
 // Where making stopped before, or else here if something stands against the row's atom.
-fn first_stop(since: &ByRow, mark: u32, row: u32, step: u32, before: Stop) -> Stop
+fn first_stop(since: &ByRow, mark: u32, row: u32, step: u32, before: Option<Stop>) -> Option<Stop>
     requires { row < 1024 }
     ensures { result ≡ or_stop before (against_in since.now mark step row) step row }
 {
-    if before.number != 0 {
-        return before;
-    }
-    let number = against(since, mark, row, step);
-    if number == 0 {
-        return before;
-    }
-    Stop { number, step, row }
+    before.or_else(|| against(since, mark, row, step).map(|against| Stop { against, step, row }))
 }
 
 // Makes the atoms of a row that are not held, parts first, and writes a NEW for each.
@@ -95,9 +87,8 @@ fn make(
     if row_kind(book, row) == Kind::ATOM {
         let made = Entry::made(step);
         entries[wide(row)] = made;
-        let at = put2(out, m.at, Code::NEW, row);
-        let before = m.stop;
-        let stop = first_stop(since, mark, row, step, before);
+        let at = put_each(out, m.at, [Code::NEW, row]);
+        let stop = first_stop(since, mark, row, step, m.stop);
         return Made { at, stop };
     }
     make_list(
@@ -115,6 +106,7 @@ fn make(
 }
 
 // The same for a list of rows below a bound.
+// Kept: a recursion from a row to its list and back, as marking and receiving are.
 #[cycle(make_make_list)]
 fn make_list(
     book: &[u32],
@@ -174,11 +166,6 @@ pub fn send(
     ensures { Sends book.now since.now mark step (build_all step (terms (table book.now) (list_at book.now first n)) (view book.now entries.old)) at entries.new out.old out.new result }
 {
     let bound = rows(book);
-    let nowhere = Stop {
-        number: 0,
-        step,
-        row: 0,
-    };
     let m = make_list(
         book,
         since,
@@ -188,15 +175,14 @@ pub fn send(
         bound,
         first,
         n,
-        Made { at, stop: nowhere },
+        Made { at, stop: None },
         out,
     );
-    let next = put3(out, m.at, Code::SEND, step, narrow(n));
+    let next = put_each(out, m.at, [Code::SEND, step, narrow(n)]);
     let end = write_images(book, entries, bound, first, n, out, next);
-    let stop = m.stop;
     Sent {
         at: end,
         made: narrow((m.at - at) / 2),
-        stop,
+        stop: m.stop,
     }
 }

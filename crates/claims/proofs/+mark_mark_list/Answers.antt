@@ -3,24 +3,11 @@
 use Rattle.std.proofs.Common.{rules, arith}
 use Rattle.book.specs.Span.{Span}
 use Rattle.book.specs.Span.Laws.{span-row, span_rest}
-use Rattle.book.specs.Headed.Laws.{valid-headed, few-rows, small-pool}
 use Rattle.claims.proofs.Marks.{atom-marked, ready_marked, row_done, seen_done, none_done, more-marked}
 use Rattle.claims.proofs.+mark_mark_list.Goals as goal
 
-pub mark-row_kind-requires : goal.mark-row_kind-requires
-mark-row_kind-requires t c = search (valid-headed, rules)
-
-pub mark-mark_atom-requires : goal.mark-mark_atom-requires
-mark-mark_atom-requires t c = (search rules, omega (arith, few-rows))
-
 pub mark-returns-then-row_kind-eq-ATOM : goal.mark-returns-then-row_kind-eq-ATOM
 mark-returns-then-row_kind-eq-ATOM t c = (search atom-marked, search ready_marked)
-
-pub mark-offset_bounds-seen-wide : goal.mark-offset_bounds-seen-wide
-mark-offset_bounds-seen-wide t c = omega (arith, few-rows)
-
-pub mark-bounds-seen-wide : goal.mark-bounds-seen-wide
-mark-bounds-seen-wide t c = omega (arith, few-rows)
 
 -- the row's entry in `seen` is not 0
 pub mark-returns-then-seen-wide-ne0 : goal.mark-returns-then-seen-wide-ne0
@@ -28,23 +15,11 @@ mark-returns-then-seen-wide-ne0 t c =
     let (valid, ready, inside, some) = c.requires in
     seen_done {r = c.args.row} c.wide.ensures.0 ready c.if-seen-wide-ne0.true
 
-pub mark-row_first-requires : goal.mark-row_first-requires
-mark-row_first-requires t c = search (valid-headed, rules)
-
-pub mark-row_count-requires : goal.mark-row_count-requires
-mark-row_count-requires t c = search (valid-headed, rules)
-
 -- the parts of a row are rows before it, so they lie below the row
 pub mark-mark_list-requires : goal.mark-mark_list-requires
 mark-mark_list-requires t c =
     let parts : Span c.args.book.now c.args.row c.row_first.result c.row_count.result = search span-row in
     (omega (arith, parts), (search rules, search rules, omega arith, parts, search rules))
-
-pub mark-offset_bounds-seen-wide-2 : goal.mark-offset_bounds-seen-wide-2
-mark-offset_bounds-seen-wide-2 t c = omega (arith, few-rows)
-
-pub mark-bounds-seen-wide-2 : goal.mark-bounds-seen-wide-2
-mark-bounds-seen-wide-2 t c = omega (arith, few-rows)
 
 -- the parts are marked, and the row is noted as gone through
 pub mark-returns : goal.mark-returns
@@ -59,15 +34,6 @@ pub mark_list-returns-then-left-eq0 : goal.mark_list-returns-then-left-eq0
 mark_list-returns-then-left-eq0 t c =
     let (valid, ready, inside, span, some) = c.requires in
     none_done _ c.if-left-eq0.true ready
-
-pub mark_list-entry-requires : goal.mark_list-entry-requires
-mark_list-entry-requires t c = (search rules, search rules, omega arith)
-
-pub mark_list-mark-requires : goal.mark_list-mark-requires
-mark_list-mark-requires t c = (omega arith, (search rules, search rules, omega arith, search rules))
-
-pub mark_list-overflow_add-first : goal.mark_list-overflow_add-first
-mark_list-overflow_add-first t c = omega (arith, small-pool)
 
 -- one row less is left
 pub mark_list-mark_list-requires : goal.mark_list-mark_list-requires

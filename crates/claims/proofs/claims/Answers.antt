@@ -5,14 +5,9 @@ use Rattle.claims.specs.Claims.Laws.{claims-start}
 use borrow.Author.Rules.{rules}
 use Rattle.claims.proofs.claims.Goals as goal
 
-pub mark_names-requires : goal.mark_names-requires
-mark_names-requires c = search (ready-start, rules)
+pub mark_start-requires : goal.mark_start-requires
+mark_start-requires c = search (ready-start, rules)
 
 -- names and starting knowledge are marked with 1, over zeros
 pub mark_steps-requires : goal.mark_steps-requires
-mark_steps-requires c = (
-  search rules,
-  claims-start _ _ _ _ all-zero c.mark_names.ensures.0
-      c.mark_knowledge.ensures.0,
-  search rules,
-)
+mark_steps-requires c = (search rules, claims-start _ _ _ all-zero c.mark_start.ensures.0, search rules)

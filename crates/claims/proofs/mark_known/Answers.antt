@@ -6,12 +6,6 @@ use borrow.Author.Rules.{rules}
 use native.Mathlib.Omega.{arith}
 use Rattle.claims.proofs.mark_known.Goals as goal
 
-pub party_first-first-requires : goal.party_first-first-requires
-party_first-first-requires c = search (valid-headed, rules)
-
-pub party_count-n-requires : goal.party_count-n-requires
-party_count-n-requires c = search (valid-headed, rules)
-
 -- no row is marked before the first
 pub loop-j-init : goal.loop-j-init
 loop-j-init c = let (valid, ready, inside) = c.requires in
@@ -26,18 +20,17 @@ mark-requires c = (
   search rules,
   search rules,
   let (valid, ready, inside) = c.requires in
-      known-low c.party_first-first.ensures.0 c.party_count-n.ensures.0 valid inside
-      c.loop-j-test.true c.pooled.ensures,
+      known-low c.party_first-first.ensures.0 c.party_count-j-end.ensures.0 valid inside
+      (omega arith) c.pooled.ensures,
   omega arith,
 )
 
 -- the next row is marked, and with 1
 pub loop-j-preserved : goal.loop-j-preserved
 loop-j-preserved c = (
-  knows_on c.loop-j-test.true c.pooled.ensures c.loop-j.invariant.0
-      c.mark.ensures.0 refl,
+  knows_on c.pooled.ensures c.loop-j.invariant.0 c.mark.ensures.0 refl,
   c.mark.ensures.1,
 )
 
 pub returns : goal.returns
-returns c = search (knows-end, rules)
+returns c = (knows-end _ c.party_first-first.ensures.0 (omega arith) c.loop-j.invariant.0, c.loop-j.invariant.1)

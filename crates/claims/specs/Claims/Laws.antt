@@ -19,7 +19,7 @@ use Rattle.translation.specs.Narration.{narration, step_at}
 use Rattle.translation.specs.Taken.{joined, all_messages, claimed, occurs_in_one, taken}
 use Rattle.claims.specs.Since.{taken_in}
 use Rattle.claims.specs.Marked.{marked, Marked}
-use Rattle.claims.specs.Marked.Laws.{one-append, marked-then}
+use Rattle.claims.specs.Marked.Laws.{one-append}
 use Rattle.claims.specs.Claims.{Claims, cut, ClaimsBefore}
 
 -- ---- an entry, at a step
@@ -117,12 +117,12 @@ module _ (b : List ℕ) (q : ℕ) where
 
 -- ---- ClaimsBefore
 -- no step is gone through: names and starting knowledge are marked with 1
-pub claims-start : (b l m n : List ℕ) → ((q : ℕ) → get_or l q 0 ≡ 0) → Marked (narration b).names 1 l m
-    → Marked (joined (narration b).knows) 1 m n → ClaimsBefore b 0 n
+pub claims-start : (b l m : List ℕ) → ((q : ℕ) → get_or l q 0 ≡ 0) → Marked ((narration b).names ++ joined (narration b).knows) 1 l m
+    → ClaimsBefore b 0 m
 unfolding taken_in
-claims-start b l m n z d e =
+claims-start b l m z d =
     record {
-      sized = e.sized;
+      sized = d.sized;
       early = λ q. rw (is q) (marked-low 0 (0 + 1) 1 (here q) (omega arith) (omega arith));
       claims = λ s q. ap (λ x. since x s) (is q) ∙ since-start s (here q) ∙ sym (taken_start b q s);
     }
@@ -130,8 +130,8 @@ claims-start b l m n z d e =
     here : ℕ → Bool
     here q = occurs_in_one q ((narration b).names ++ joined (narration b).knows)
 
-    is : (q : ℕ) → get_or n q 0 ≡ marked 0 (here q) 1
-    is q = (marked-then d e).each q ∙ ap (λ x. marked x (here q) 1) (z q)
+    is : (q : ℕ) → get_or m q 0 ≡ marked 0 (here q) 1
+    is q = d.each q ∙ ap (λ x. marked x (here q) 1) (z q)
 
 -- one more step is
 pub claims-step : (b : List ℕ) (k : ℕ) (l m : List ℕ) → ClaimsBefore b k l → Marked (map (term (table b)) (messages b k)) (k + 2) l m

@@ -1,7 +1,7 @@
 -- Laws of marking: one atom, a row by its parts, terms one after another. Assumes nothing.
 use Rattle.std.specs.Prelude.{ℕ, zero, suc, ◌+◌, ◌-◌, ◌≤◌, ◌<◌, Bool, true, false, ◌||◌, List, [], ◌∷◌, ◌++◌, map, ◌≡◌, refl, length, get_or, set, eqb}
 use Rattle.std.proofs.Math.Bool.{or-false, or_assoc}
-use Rattle.std.proofs.Common.{append-nil, append_assoc, sym, ap, ◌∙◌, arith, length-set, get_or-set_same, get_or-set_other, eq-eqb, ne_eqb}
+use Rattle.std.proofs.Common.{append-nil, append_assoc, sym, ap, ap₂, ◌∙◌, arith, length-set, get_or-set_same, get_or-set_other, eq-eqb, ne_eqb}
 use Rattle.std.proofs.Math.Decide.{ℕ_discrete}
 use Rattle.words.specs.Choice.{pick}
 use Rattle.words.specs.Run.{run, values}
@@ -133,22 +133,29 @@ map_last : {X Y : Type 0} (f : X → Y) (xs : List X) (x : X) → map f (xs ++ (
 map_last f [] x = refl
 map_last {Y = Y} f (y ∷ xs) x = ap (λ (l : List Y). f y ∷ l) (map_last f xs x)
 
+turned : (a b c d : Bool) → ((a || b) || (c || d)) ≡ ((a || c) || (b || d))
+turned true b c d = refl
+turned false true true d = refl
+turned false true false d = refl
+turned false false c d = refl
+
+-- a party's name and what it knows, beside those of the parties before it
+pub marked-party : (f : ℕ → Term) (g : ℕ → List Term) (n : ℕ) {x : ℕ} {l m k o : List ℕ} → Marked (values f 0 n ++ joined (values g 0 n)) x l m
+    → Marked (f n ∷ []) x m k → Marked (g n) x k o → Marked (values f 0 (n + 1) ++ joined (values g 0 (n + 1))) x l o
+marked-party f g n d e c =
+    let z : n + 1 ≡ suc n = omega arith in
+    let y : 0 + n ≡ n = omega arith in
+    let names = values f 0 n in
+    let known = joined (values g 0 n) in
+    rw (z, values-last f 0 n, values-last g 0 n, y, joined-last (values g 0 n) (g n)) (marked-as (marked-then d (marked-then e c))
+    (λ q.
+    one-append q (names ++ (f n ∷ [])) (known ++ g n)
+    ∙ ap₂ ◌||◌ (one-append q names (f n ∷ [])) (one-append q known (g n))
+    ∙ turned (occurs_in_one q names) (occurs_in_one q (f n ∷ [])) (occurs_in_one q known) (occurs_in_one q (g n))
+    ∙ sym (one-append q (names ++ known) ((f n ∷ []) ++ g n)
+    ∙ ap₂ ◌||◌ (one-append q names known) (one-append q (f n ∷ []) (g n)))))
+
 module _ {x : ℕ} {l m k : List ℕ} where
-  -- names
-  pub marked-value : (f : ℕ → Term) (n : ℕ) → Marked (values f 0 n) x l m → Marked (f n ∷ []) x m k → Marked (values f 0 (n + 1)) x l k
-  marked-value f n d e =
-      let z : n + 1 ≡ suc n = omega arith in
-      let y : 0 + n ≡ n = omega arith in
-      rw (z, values-last f 0 n, y) (marked-then d e)
-
-  -- knowledge of the parties
-  pub marked-joined : (f : ℕ → List Term) (n : ℕ) → Marked (joined (values f 0 n)) x l m → Marked (f n) x m k
-      → Marked (joined (values f 0 (n + 1))) x l k
-  marked-joined f n d e =
-      let z : n + 1 ≡ suc n = omega arith in
-      let y : 0 + n ≡ n = omega arith in
-      rw (z, values-last f 0 n, y, joined-last (values f 0 n) (f n)) (marked-then d e)
-
   -- knowledge of one
   pub marked-pooled : (b : List ℕ) (f n : ℕ) → Marked (map (term (table b)) (list_at b f n)) x l m → Marked (term (table b) (pooled b f n) ∷ []) x m k
       → Marked (map (term (table b)) (list_at b f (n + 1))) x l k

@@ -7,7 +7,6 @@ use lib.ListN.{get_or}
 use Rattle.terms.specs.Term.{partner}
 use Rattle.terms.specs.Table.{term}
 use Rattle.book.specs.Layout.{table}
-use Rattle.book.specs.Headed.Laws.{valid-headed, few-rows}
 use Rattle.holding.specs.View.{row_of}
 use Rattle.holding.specs.Partners.Laws.{looked-up, opens_row, opens-part, key-half}
 use Rattle.holding.proofs.can_open.Goals as goal
@@ -19,15 +18,6 @@ module _ (c : After-wide) where
       ≡ row_of c.args.book.now (partner (term (table c.args.book.now) c.args.key))
   found = let (valid, table, inside) = c.requires in looked-up table inside c.wide.ensures.0
 
-pub bounds-partners-wide : goal.bounds-partners-wide
-bounds-partners-wide c = omega (arith, few-rows)
-
-pub rows-requires : goal.rows-requires
-rows-requires c = search valid-headed
-
-pub buildable-requires : goal.buildable-requires
-buildable-requires c = (search rules, omega arith)
-
 -- the partner is a row
 pub returns-then-other-rows : goal.returns-then-other-rows
 returns-then-other-rows c = let (valid, table, inside) = c.requires in
@@ -38,9 +28,6 @@ pub first_part-part-requires : goal.first_part-part-requires
 first_part-part-requires c = let (valid, table, inside) = c.requires in
     let half = key-half _ [] valid inside (found (goal.at.first_part-part-requires c).After-wide) (omega arith) in
     (search rules, search rules, omega arith)
-
-pub buildable-requires-2 : goal.buildable-requires-2
-buildable-requires-2 c = (search rules, omega arith)
 
 pub returns : goal.returns
 returns c = let (valid, table, inside) = c.requires in

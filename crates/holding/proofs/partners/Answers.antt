@@ -2,32 +2,19 @@
 -- partner. Assumes nothing.
 use Prim.Native.Nat.{◌≤◌, ◌<◌}
 use native.Mathlib.Omega.{arith}
-use Rattle.book.specs.Headed.Laws.{valid-headed, few-rows}
 use Rattle.book.specs.Kinds.Laws.{a_half, no-half}
 use Rattle.holding.proofs.Tables.{partners-start, partners-plain, partners-done}
 use Rattle.holding.proofs.partners.Goals as goal
 
-pub rows-n-requires : goal.rows-n-requires
-rows-n-requires c = search valid-headed
-
 -- no row is passed yet
 pub loop-row-init : goal.loop-row-init
 loop-row-init c = partners-start c.requires c.rows-n.ensures
-
-pub row_kind-requires : goal.row_kind-requires
-row_kind-requires c = (search valid-headed, omega arith)
 
 -- the row is a half
 pub join-requires : goal.join-requires
 join-requires c = let is = c.row_kind.ensures in
     let half : 3 ≤ c.row_kind.result = a_half _ c.is_half.ensures c.if-is_half.true in
     (c.requires, c.loop-row.invariant, omega arith, omega (arith, is, half))
-
-pub offset_bounds-table-wide : goal.offset_bounds-table-wide
-offset_bounds-table-wide c = omega (arith, few-rows)
-
-pub bounds-table-wide : goal.bounds-table-wide
-bounds-table-wide c = omega (arith, few-rows)
 
 -- one row more is entered
 pub loop-row-preserved : goal.loop-row-preserved
@@ -42,4 +29,4 @@ loop-row-preserved c = let is = c.row_kind.ensures in
 
 -- all are
 pub returns : goal.returns
-returns c = partners-done c.requires c.loop-row.invariant c.rows-n.ensures c.loop-row-test.false
+returns c = partners-done c.requires c.loop-row.invariant c.rows-n.ensures (omega arith)

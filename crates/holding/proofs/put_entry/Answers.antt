@@ -4,7 +4,7 @@ use Rattle.holding.specs.AtRow.Laws.{entry-itself, entry-placeholder}
 use Rattle.holding.proofs.put_entry.Goals as goal
 
 pub returns-then-held-lt-STORED : goal.returns-then-held-lt-STORED
-returns-then-held-lt-STORED c = wrote_as c.put2.ensures (entry-itself _ _ c.requires c.if-held-lt-STORED.true)
+returns-then-held-lt-STORED c = wrote_as c.put_each.ensures (entry-itself _ _ c.requires c.if-held-lt-STORED.true)
 
 pub returns : goal.returns
-returns c = wrote_as c.put2-2.ensures (entry-placeholder _ _ c.if-held-lt-STORED.false)
+returns c = wrote_as c.put_each-2.ensures (entry-placeholder _ _ c.if-held-lt-STORED.false)

@@ -10,7 +10,6 @@ use Rattle.terms.specs.Kind.{of_kind, other_half}
 use Rattle.terms.specs.Term.{partner}
 use Rattle.terms.specs.Table.{term}
 use Rattle.book.specs.Layout.{table}
-use Rattle.book.specs.Headed.Laws.{valid-headed, few-rows}
 use Rattle.holding.specs.View.{row_of}
 use Rattle.holding.specs.Partners.Laws.{looked-up, shows-row, shows-part, key-half}
 use Rattle.holding.proofs.write_partner.Goals as goal
@@ -22,31 +21,16 @@ module _ (c : After-wide) where
       ≡ row_of c.args.book.now (partner (term (table c.args.book.now) c.args.key))
   found = let (valid, table, inside) = c.requires in looked-up table inside c.wide.ensures.0
 
-pub bounds-partners-wide : goal.bounds-partners-wide
-bounds-partners-wide c = omega (arith, few-rows)
-
-pub rows-requires : goal.rows-requires
-rows-requires c = search valid-headed
-
-pub write_image-requires : goal.write_image-requires
-write_image-requires c = (search rules, omega arith)
-
 -- the partner is a row
 pub returns-then-other-rows : goal.returns-then-other-rows
 returns-then-other-rows c = let (valid, table, inside) = c.requires in
     wrote_as c.write_image.ensures (shows-row _ _ valid inside (found (goal.at.returns-then-other-rows c).After-wide) (omega arith))
-
-pub row_kind-side-requires : goal.row_kind-side-requires
-row_kind-side-requires c = search (valid-headed, rules)
 
 -- it is no row
 pub first_part-requires : goal.first_part-requires
 first_part-requires c = let (valid, table, inside) = c.requires in
     let half = key-half _ [] valid inside (found (goal.at.first_part-requires c).After-wide) (omega arith) in
     (search rules, search rules, omega arith)
-
-pub write_image-requires-2 : goal.write_image-requires-2
-write_image-requires-2 c = (search rules, omega arith)
 
 -- the other half's code, and the part's image
 pub returns : goal.returns

@@ -3,33 +3,14 @@
 use Rattle.std.proofs.Common.{rules, arith}
 use Rattle.book.specs.Span.{Span}
 use Rattle.book.specs.Span.Laws.{span-row, span_rest}
-use Rattle.book.specs.Headed.Laws.{valid-headed, few-rows, small-pool}
 use Rattle.sending.proofs.Makes.{held-makes, atom-makes, parts-makes, none-makes, more-makes}
 use Rattle.sending.proofs.+make_make_list.Goals as goal
-
-pub make-offset_bounds-entries-wide : goal.make-offset_bounds-entries-wide
-make-offset_bounds-entries-wide t c = omega (arith, few-rows)
-
-pub make-bounds-entries-wide : goal.make-bounds-entries-wide
-make-bounds-entries-wide t c = omega (arith, few-rows)
 
 -- the row is held
 pub make-returns-then-held : goal.make-returns-then-held
 make-returns-then-held t c =
     let (valid, inside, sized, low) = c.requires in
     held-makes c.args.entries.now valid inside sized c.wide.ensures.0 c.held.ensures c.if-held.true
-
-pub make-row_kind-requires : goal.make-row_kind-requires
-make-row_kind-requires t c = search (valid-headed, rules)
-
-pub make-offset_bounds-entries-wide-then-row_kind-eq-ATOM : goal.make-offset_bounds-entries-wide-then-row_kind-eq-ATOM
-make-offset_bounds-entries-wide-then-row_kind-eq-ATOM t c = omega (arith, few-rows)
-
-pub make-bounds-entries-wide-then-row_kind-eq-ATOM : goal.make-bounds-entries-wide-then-row_kind-eq-ATOM
-make-bounds-entries-wide-then-row_kind-eq-ATOM t c = omega (arith, few-rows)
-
-pub make-first_stop-stop-requires : goal.make-first_stop-stop-requires
-make-first_stop-stop-requires t c = omega (arith, few-rows)
 
 -- the row is an atom that is not held: it is made, its NEW is written, and it is asked what stands against it
 pub make-returns-then-row_kind-eq-ATOM : goal.make-returns-then-row_kind-eq-ATOM
@@ -38,14 +19,8 @@ make-returns-then-row_kind-eq-ATOM t c =
     atom-makes {l = c.args.since.now} c.args.entries.now {k = c.args.mark}
     {s = c.args.step} valid inside {m = c.args.m} sized _ c.wide.ensures.0
     c.held.ensures c.if-held.false c.row_kind.ensures c.if-row_kind-eq-ATOM.true
-    c.made-made.ensures c.wide-then-row_kind-eq-ATOM.ensures.0 c.put2-at.ensures
+    c.made-made.ensures c.wide-then-row_kind-eq-ATOM.ensures.0 c.put_each-at.ensures
     c.first_stop-stop.ensures
-
-pub make-row_first-requires : goal.make-row_first-requires
-make-row_first-requires t c = search (valid-headed, rules)
-
-pub make-row_count-requires : goal.make-row_count-requires
-make-row_count-requires t c = search (valid-headed, rules)
 
 -- the parts of a row are rows before it, so they lie below the row
 pub make-make_list-requires : goal.make-make_list-requires
@@ -61,15 +36,6 @@ pub make_list-returns-then-left-eq0 : goal.make_list-returns-then-left-eq0
 make_list-returns-then-left-eq0 t c =
     let (valid, inside, span, sized, low) = c.requires in
     none-makes _ sized c.if-left-eq0.true
-
-pub make_list-entry-requires : goal.make_list-entry-requires
-make_list-entry-requires t c = (search rules, search rules, omega arith)
-
-pub make_list-make-next-requires : goal.make_list-make-next-requires
-make_list-make-next-requires t c = (omega arith, (search rules, omega arith, search rules, search rules))
-
-pub make_list-overflow_add-first : goal.make_list-overflow_add-first
-make_list-overflow_add-first t c = omega (arith, small-pool)
 
 -- one row less is left
 pub make_list-make_list-requires : goal.make_list-make_list-requires

@@ -1,6 +1,6 @@
 -- Laws of sending: what building a row makes, by the row's kind; the first atom that can't be made; a SEND's words. Assumes nothing.
 use Prim.Native.Nat.{ℕ, zero, suc, ◌+◌, ◌-◌, ◌≤◌, ◌<◌}
-use Rattle.std.specs.Prelude.{Bool, ◌⊎◌, ◌≡◌, eqb, get_or, set}
+use Rattle.std.specs.Prelude.{Bool, ◌⊎◌, ◌≡◌, eqb, get_or, set, Option, None, Some}
 use Rattle.std.proofs.Math.Bool.{true, false}
 use mathlib.Core.List.{List, [], ◌∷◌, ◌++◌, map, map-map, append-nil}
 use Rattle.std.proofs.Math.Logic.{inl, inr, ⊎_elim}
@@ -10,7 +10,6 @@ use Rattle.std.proofs.Math.ListN.{length}
 use Rattle.std.proofs.lemmas.List.{length-map}
 use borrow.Author.Tests.{eq-eqb, ne_eqb}
 use Rattle.words.specs.Choice.{pick}
-use Rattle.words.specs.Choice.Laws.{pick_true, pick-false}
 use Rattle.words.specs.First.{first, any}
 use Rattle.words.specs.First.Laws.{clash, first-at, any_at, any_none}
 use Rattle.words.specs.Run.Laws.{run_length}
@@ -28,7 +27,8 @@ use Rattle.translation.specs.Receive.{Event}
 use Rattle.translation.specs.Program.{sent}
 use Rattle.translation.specs.Listing.{event_words, program_words}
 use Rattle.translation.proofs.Listing.Laws.{program-append}
-use Rattle.book.specs.Stop.{stop, nowhere}
+use Rattle.book.specs.Stop.{stop}
+use Rattle.book.specs.declared.Against.{Against}
 use Rattle.book.specs.declared.Stop.{Stop}
 use Rattle.book.specs.Span.{entry}
 use Rattle.book.specs.Span.Laws.{list-none, list-more}
@@ -117,44 +117,31 @@ pub making-more : (i : ℕ) (b : List ℕ) (f n : ℕ) (δ : Dictionary) → 0 <
 unfolding build terms gathered
 making-more i b f n δ h = rw (list-more b f n h)
 
--- ---- or_stop
-pub or-stays : (x : Stop) (n s r : ℕ) → (x.number ≡ 0 → ⊥) → or_stop x n s r ≡ x
-unfolding or_stop
-or-stays x n s r k = pick-false _ _ _ (ne_eqb x.number 0 k)
-
-pub or-stops : (x : Stop) (n s r : ℕ) → x.number ≡ 0 → (n ≡ 0 → ⊥) → or_stop x n s r ≡ stop n s r
-unfolding or_stop
-or-stops x n s r z k = pick_true _ _ _ (eq-eqb x.number 0 z) ∙ pick-false _ _ _ (ne_eqb n 0 k)
-
-pub or-passes : (x : Stop) (n s r : ℕ) → x.number ≡ 0 → n ≡ 0 → or_stop x n s r ≡ x
-unfolding or_stop
-or-passes x n s r z k = pick_true _ _ _ (eq-eqb x.number 0 z) ∙ pick_true _ _ _ (eq-eqb n 0 k)
-
 -- ---- first_in
-pub first-append : (w : ℕ → ℕ) (s : ℕ) (x : Stop) (l m : List ℕ) → first_in w s x (l ++ m) ≡ first_in w s (first_in w s x l) m
+pub first-append : (w : ℕ → Option Against) (s : ℕ) (x : Option Stop) (l m : List ℕ) → first_in w s x (l ++ m) ≡ first_in w s (first_in w s x l) m
 unfolding first_in
 first-append w s x [] m = refl
 first-append w s x (r ∷ l) m = first-append w s (or_stop x (w r) s r) l m
 
-first-stays : (w : ℕ → ℕ) (s : ℕ) (x : Stop) (rs : List ℕ) → (x.number ≡ 0 → ⊥) → first_in w s x rs ≡ x
+first-stays : (w : ℕ → Option Against) (s : ℕ) (x : Stop) (rs : List ℕ) → first_in w s (Some x) rs ≡ Some x
 unfolding first_in
-first-stays w s x [] n = refl
-first-stays w s x (r ∷ rs) n = ap (λ y. first_in w s y rs) (or-stays x (w r) s r n) ∙ first-stays w s x rs n
+first-stays w s x [] = refl
+first-stays w s x (r ∷ rs) = first-stays w s x rs
 
--- t tells against which rows something stands
-module _ (w : ℕ → ℕ) (s : ℕ) (t : ℕ → Bool)
-    (free : (r : ℕ) → t r ≡ false → w r ≡ 0) (bars : (r : ℕ) → t r ≡ true → w r ≡ 0 → ⊥) where
+-- t tells against which rows something stands, and a what
+module _ (w : ℕ → Option Against) (s : ℕ) (t : ℕ → Bool) (a : ℕ → Against)
+    (free : (r : ℕ) → t r ≡ false → w r ≡ None) (bars : (r : ℕ) → t r ≡ true → w r ≡ Some (a r)) where
   -- nothing stands against the rows, or something does against one and nothing against those before it
   record NoneStops (rs : List ℕ) : Type 0 where
     none : (k : ℕ) → k < length rs → t (get_or rs k 0) ≡ false
-    passes : first_in w s (nowhere s) rs ≡ nowhere s
+    passes : first_in w s None rs ≡ None
 
   record OneStops (rs : List ℕ) : Type 0 where
     place : ℕ
     within : place < length rs
     before : (k : ℕ) → k < place → t (get_or rs k 0) ≡ false
     barred : t (get_or rs place 0) ≡ true
-    stops : first_in w s (nowhere s) rs ≡ stop (w (get_or rs place 0)) s (get_or rs place 0)
+    stops : first_in w s None rs ≡ Some (stop (a (get_or rs place 0)) s (get_or rs place 0))
 
   none-or-one : (rs : List ℕ) → NoneStops rs ⊎ OneStops rs
   unfolding first_in
@@ -168,19 +155,19 @@ module _ (w : ℕ → ℕ) (s : ℕ) (t : ℕ → Bool)
             within = omega arith;
             before = λ k h. absurd (omega arith);
             barred = e;
-            stops = ap (λ y. first_in w s y rs) (or-stops (nowhere s) (w r) s r refl (bars r e)) ∙ first-stays w s (stop (w r) s r) rs (bars r e);
+            stops = ap (λ y. first_in w s (or_stop None y s r) rs) (bars r e) ∙ first-stays w s (stop (a r) s r) rs;
           })
       go false e o = ⊎_elim
           (λ (n : NoneStops rs). inl (record {
             none = λ k h. later k h n.none;
-            passes = ap (λ y. first_in w s y rs) (or-passes (nowhere s) (w r) s r refl (free r e)) ∙ n.passes;
+            passes = ap (λ y. first_in w s (or_stop None y s r) rs) (free r e) ∙ n.passes;
           }))
           (λ (n : OneStops rs). inr (record {
             place = suc n.place;
             within = let l = n.within in omega arith;
             before = λ k h. sooner k n.place h n.before;
             barred = n.barred;
-            stops = ap (λ y. first_in w s y rs) (or-passes (nowhere s) (w r) s r refl (free r e)) ∙ n.stops;
+            stops = ap (λ y. first_in w s (or_stop None y s r) rs) (free r e) ∙ n.stops;
           }))
           o
         where
@@ -195,19 +182,19 @@ module _ (w : ℕ → ℕ) (s : ℕ) (t : ℕ → Bool)
   module _ (rs : List ℕ) where
     -- it stops at the first of the rows against which something stands, where there is one
     pub some-stops : any (λ j. t (get_or rs j 0)) (length rs) ≡ true
-        → first_in w s (nowhere s) rs
-        ≡ stop (w (get_or rs (first (λ j. t (get_or rs j 0)) (length rs)) 0)) s (get_or rs (first (λ j. t (get_or rs j 0)) (length rs)) 0)
-    some-stops a = ⊎_elim
-        (λ (n : NoneStops rs). absurd (clash a (any_none (λ j. t (get_or rs j 0)) (length rs) n.none)))
+        → first_in w s None rs
+        ≡ Some (stop (a (get_or rs (first (λ j. t (get_or rs j 0)) (length rs)) 0)) s (get_or rs (first (λ j. t (get_or rs j 0)) (length rs)) 0))
+    some-stops e = ⊎_elim
+        (λ (n : NoneStops rs). absurd (clash e (any_none (λ j. t (get_or rs j 0)) (length rs) n.none)))
         (λ (n : OneStops rs). n.stops
-        ∙ ap (λ k. stop (w (get_or rs k 0)) s (get_or rs k 0))
+        ∙ ap (λ k. Some (stop (a (get_or rs k 0)) s (get_or rs k 0)))
         (first-at (λ j. t (get_or rs j 0)) (length rs) n.place n.within n.before n.barred))
         (none-or-one rs)
 
     -- and else nowhere
-    pub none-stops : any (λ j. t (get_or rs j 0)) (length rs) ≡ false → first_in w s (nowhere s) rs ≡ nowhere s
-    none-stops a = ⊎_elim (λ (n : NoneStops rs). n.passes)
-        (λ (n : OneStops rs). absurd (clash (any_at (λ j. t (get_or rs j 0)) (length rs) n.place n.within n.barred) a))
+    pub none-stops : any (λ j. t (get_or rs j 0)) (length rs) ≡ false → first_in w s None rs ≡ None
+    none-stops e = ⊎_elim (λ (n : NoneStops rs). n.passes)
+        (λ (n : OneStops rs). absurd (clash (any_at (λ j. t (get_or rs j 0)) (length rs) n.place n.within n.barred) e))
         (none-or-one rs)
 
 -- ---- the words of events

@@ -12,7 +12,7 @@ ghost use Rattle.book.specs.Sections.{OfSection};
 ghost use Rattle.book.specs.Said.{refusal_says, told_says};
 ghost use Rattle.book.specs.Span.{entry as entry_at, Span};
 ghost use Rattle.book.specs.Valid.{Valid};
-ghost use Rattle.book.specs.Layout.{sections, width, rows as rows_of, parties as parties_of, steps as steps_of, pool as pool_of, field, pooled as pooled_at};
+ghost use Rattle.book.specs.Layout.{sections, width, rows as rows_of, parties as parties_of, steps as steps_of, pool as pool_of, counted, field as field_at, pooled as pooled_at};
 ghost use Rattle.book.specs.Layout.{kind, tag, row_first, row_count, name, party_first, party_count, mark, sender, receiver, step_first, step_count};
 
 use words::wide;
@@ -121,31 +121,27 @@ impl Section {
         requires { section < sections }
         ensures { OfSection section result }
     {
-        if section == Section::ROWS {
-            return Section {
+        match section {
+            Section::ROWS => Section {
                 width: Layout::ROW,
                 least: 1,
                 most: Limit::ROWS,
-            };
-        }
-        if section == Section::PARTIES {
-            return Section {
+            },
+            Section::PARTIES => Section {
                 width: Layout::PARTY,
                 least: 1,
                 most: Limit::PARTIES,
-            };
-        }
-        if section == Section::STEPS {
-            return Section {
+            },
+            Section::STEPS => Section {
                 width: Layout::STEP,
                 least: 0,
                 most: Limit::STEPS,
-            };
-        }
-        Section {
-            width: Layout::POOL,
-            least: 0,
-            most: Limit::POOL,
+            },
+            _ => Section {
+                width: Layout::POOL,
+                least: 0,
+                most: Limit::POOL,
+            },
         }
     }
 }
@@ -176,48 +172,42 @@ impl Kind {
     pub fn of(kind: u32) -> Kind
         ensures { OfKind kind result }
     {
-        if kind == Kind::ATOM {
-            return Kind {
+        match kind {
+            Kind::ATOM => Kind {
                 size: 2,
                 fewest: 0,
                 most: 0,
                 tag: 0,
                 code: ImageCode::ITSELF,
-            };
-        }
-        if kind == Kind::OPERATION {
-            return Kind {
+            },
+            Kind::OPERATION => Kind {
                 size: 3,
                 fewest: 0,
                 most: Limit::ARGUMENTS,
                 tag: Limit::TAG,
                 code: ImageCode::OPERATION,
-            };
-        }
-        if kind == Kind::CIPHER {
-            return Kind {
+            },
+            Kind::CIPHER => Kind {
                 size: 2,
                 fewest: 1,
                 most: Limit::PARTS,
                 tag: 0,
                 code: ImageCode::CIPHER,
-            };
-        }
-        if kind == Kind::PUBLIC {
-            return Kind {
+            },
+            Kind::PUBLIC => Kind {
                 size: 1,
                 fewest: 1,
                 most: 1,
                 tag: 0,
                 code: ImageCode::PUBLIC,
-            };
-        }
-        Kind {
-            size: 1,
-            fewest: 1,
-            most: 1,
-            tag: 0,
-            code: ImageCode::PRIVATE,
+            },
+            _ => Kind {
+                size: 1,
+                fewest: 1,
+                most: 1,
+                tag: 0,
+                code: ImageCode::PRIVATE,
+            },
         }
     }
 }
@@ -234,9 +224,10 @@ pub fn other_half(kind: u32) -> u32
     ensures { result ≡ other_half kind }
 {
     if kind == Kind::PUBLIC {
-        return Kind::PRIVATE;
+        Kind::PRIVATE
+    } else {
+        Kind::PUBLIC
     }
-    Kind::PUBLIC
 }
 
 // The events' codes.
@@ -346,26 +337,13 @@ pub fn pool(book: &[u32]) -> usize
     wide(book[6])
 }
 
-// Word k of a row's, a party's and a step's record.
-pub fn row_word(book: &[u32], row: u32, k: usize) -> u32
-    requires { Headed book.now × (row < rows_of book.now) × (k < width 0) }
-    ensures { result ≡ field book.now 0 row k }
+// Word k of record i of a section: a row's, a party's or a step's.
+pub fn field(book: &[u32], section: u32, i: u32, k: usize) -> u32
+    requires { Headed book.now × (section < 3) × (i < counted book.now section) × (k < width section) }
+    ensures { result ≡ field_at book.now section i k }
 {
-    book[wide(Layout::HEADER + Layout::ROW * row) + k]
-}
-
-pub fn party_word(book: &[u32], party: u32, k: usize) -> u32
-    requires { Headed book.now × (party < parties_of book.now) × (k < width 1) }
-    ensures { result ≡ field book.now 1 party k }
-{
-    book[wide(book[3] + Layout::PARTY * party) + k]
-}
-
-pub fn step_word(book: &[u32], step: u32, k: usize) -> u32
-    requires { Headed book.now × (step < steps_of book.now) × (k < width 2) }
-    ensures { result ≡ field book.now 2 step k }
-{
-    book[wide(book[5] + Layout::STEP * step) + k]
+    let record = book[wide(2 * section + 1)] + Section::of(section).width * i;
+    book[wide(record) + k]
 }
 
 // Word j of the list that begins at `first` in the pool.
@@ -381,28 +359,28 @@ pub fn row_kind(book: &[u32], row: u32) -> u32
     requires { Headed book.now × (row < rows_of book.now) }
     ensures { result ≡ kind book.now row }
 {
-    row_word(book, row, 0)
+    field(book, Section::ROWS, row, 0)
 }
 
 pub fn row_tag(book: &[u32], row: u32) -> u32
     requires { Headed book.now × (row < rows_of book.now) }
     ensures { result ≡ tag book.now row }
 {
-    row_word(book, row, 1)
+    field(book, Section::ROWS, row, 1)
 }
 
 pub fn row_first(book: &[u32], row: u32) -> usize
     requires { Headed book.now × (row < rows_of book.now) }
     ensures { (result ≡ row_first book.now row) × (result < 2 ^ 32) }
 {
-    wide(row_word(book, row, 2))
+    wide(field(book, Section::ROWS, row, 2))
 }
 
 pub fn row_count(book: &[u32], row: u32) -> usize
     requires { Headed book.now × (row < rows_of book.now) }
     ensures { (result ≡ row_count book.now row) × (result < 2 ^ 32) }
 {
-    wide(row_word(book, row, 3))
+    wide(field(book, Section::ROWS, row, 3))
 }
 
 // A party's record: name, first, count, mark.
@@ -410,28 +388,28 @@ pub fn party_name(book: &[u32], party: u32) -> u32
     requires { Headed book.now × (party < parties_of book.now) }
     ensures { result ≡ name book.now party }
 {
-    party_word(book, party, 0)
+    field(book, Section::PARTIES, party, 0)
 }
 
 pub fn party_first(book: &[u32], party: u32) -> usize
     requires { Headed book.now × (party < parties_of book.now) }
     ensures { (result ≡ party_first book.now party) × (result < 2 ^ 32) }
 {
-    wide(party_word(book, party, 1))
+    wide(field(book, Section::PARTIES, party, 1))
 }
 
 pub fn party_count(book: &[u32], party: u32) -> usize
     requires { Headed book.now × (party < parties_of book.now) }
     ensures { (result ≡ party_count book.now party) × (result < 2 ^ 32) }
 {
-    wide(party_word(book, party, 2))
+    wide(field(book, Section::PARTIES, party, 2))
 }
 
 pub fn party_mark(book: &[u32], party: u32) -> u32
     requires { Headed book.now × (party < parties_of book.now) }
     ensures { result ≡ mark book.now party }
 {
-    party_word(book, party, 3)
+    field(book, Section::PARTIES, party, 3)
 }
 
 // A step's record: sender, receiver, first, count.
@@ -439,28 +417,28 @@ pub fn step_sender(book: &[u32], step: u32) -> u32
     requires { Headed book.now × (step < steps_of book.now) }
     ensures { result ≡ sender book.now step }
 {
-    step_word(book, step, 0)
+    field(book, Section::STEPS, step, 0)
 }
 
 pub fn step_receiver(book: &[u32], step: u32) -> u32
     requires { Headed book.now × (step < steps_of book.now) }
     ensures { result ≡ receiver book.now step }
 {
-    step_word(book, step, 1)
+    field(book, Section::STEPS, step, 1)
 }
 
 pub fn step_first(book: &[u32], step: u32) -> usize
     requires { Headed book.now × (step < steps_of book.now) }
     ensures { (result ≡ step_first book.now step) × (result < 2 ^ 32) }
 {
-    wide(step_word(book, step, 2))
+    wide(field(book, Section::STEPS, step, 2))
 }
 
 pub fn step_count(book: &[u32], step: u32) -> usize
     requires { Headed book.now × (step < steps_of book.now) }
     ensures { (result ≡ step_count book.now step) × (result < 2 ^ 32) }
 {
-    wide(step_word(book, step, 3))
+    wide(field(book, Section::STEPS, step, 3))
 }
 
 // The row that stands at a place of the pool, of a list that goes on there.
@@ -476,8 +454,7 @@ pub fn first_part(book: &[u32], row: u32) -> u32
     requires { Valid book.now × (row < rows_of book.now) × (2 ≤ kind book.now row) }
     ensures { (result ≡ entry_at book.now (row_first book.now row)) × (result < row) }
 {
-    let from = row_first(book, row);
-    pooled(book, from, 0)
+    pooled(book, row_first(book, row), 0)
 }
 
 // The number and the values of a refusal.

@@ -4,12 +4,13 @@
 // them, the words that bytes make, either of which may be none.
 #![tactic(auto)]
 
-ghost use Rattle.std.specs.Prelude.{◌≡◌, [], false, ◌+◌, ◌-◌, ◌≤◌, ◌<◌, min, max, length, get_or, eqb};
+ghost use Rattle.std.specs.Prelude.{◌≡◌, [], false, ◌+◌, ◌-◌, ◌≤◌, ◌<◌, MatchOption, length, get_or};
 ghost use Rattle.words.specs.Choice.{pick};
 ghost use Rattle.words.specs.First.{first};
 ghost use Rattle.words.specs.Overlay.{Wrote};
 ghost use Rattle.renaming.specs.Slot.{Slot};
 ghost use Rattle.renaming.specs.Renaming.{numbers, fresh, agrees};
+ghost use Rattle.scanning.specs.Scan.{of_length};
 ghost use Rattle.naming.specs.Mirror.{theirs, handed_by};
 ghost use Rattle.naming.specs.Called.{Ranged, Wider, is_placeholder, name_of, recent_names};
 
@@ -39,9 +40,10 @@ pub fn their(words: &[u32], bytes: &[u8], i: usize) -> u32
 {
     let n = words.len();
     if i < n {
-        return words[i];
+        words[i]
+    } else {
+        word_at(bytes, i - n)
     }
-    word_at(bytes, i - n)
 }
 
 // None of the m numbers from x on is one of the n numbers from y on.
@@ -49,25 +51,18 @@ fn apart(x: u32, m: u32, y: u32, n: u32) -> bool
     requires { 0 < n }
     ensures { result ≡ fresh (numbers x m) y n }
 {
-    if m == 0 {
-        return true;
-    }
-    if wide(x) + wide(m) <= wide(y) {
-        return true;
-    }
-    wide(y) + wide(n) <= wide(x)
+    m == 0 || wide(x) + wide(m) <= wide(y) || wide(y) + wide(n) <= wide(x)
 }
 
 // Still free, behind a word that may be the length of a run.
-fn still(free: bool, class: u32, x: u32, m: u32, y: u32, n: u32) -> bool
+fn still(free: bool, class: Class, x: u32, m: u32, y: u32, n: u32) -> bool
     requires { 0 < n }
-    ensures { result ≡ pick free (fresh (pick (eqb class 3) (numbers x m) []) y n) false }
+    ensures { result ≡ pick free (fresh (pick (of_length class) (numbers x m) []) y n) false }
 {
-    if class == Class::LENGTH {
-        let other = apart(x, m, y, n);
-        return free && other;
+    match class {
+        Class::Length => free && apart(x, m, y, n),
+        _ => free,
     }
-    free
 }
 
 // None of the n numbers from y on is handed out by their words before the place.
@@ -78,19 +73,23 @@ fn free_before(words: &[u32], bytes: &[u8], place: usize, y: u32, n: u32) -> boo
     let mut mode = Mode::Event;
     let mut last = 0;
     let mut free = true;
-    let mut i = 0;
-    while i < place {
+    for i in 0..place {
         let w = their(words, bytes, i);
         free = still(free, mode.class(), last, w, y, n);
         mode = mode.next(w);
         last = w;
-        i += 1;
     }
     free
 }
 
-// Their word y begins a run of n numbers that are no names yet; a run of none has our number f. All numbers so far are from `low` to
-// below `high`.
+// The range of all their numbers.
+#[derive(Clone, Copy)]
+pub struct Range {
+    pub low: usize,
+    pub high: usize,
+}
+
+// Their word y begins a run of n numbers that are no names yet; a run of none has our number f. All numbers so far are in the range.
 pub fn begins_run(
     words: &[u32],
     bytes: &[u8],
@@ -98,10 +97,9 @@ pub fn begins_run(
     f: u32,
     n: u32,
     y: u32,
-    low: usize,
-    high: usize,
+    range: Range,
 ) -> bool
-    requires { Ranged low high (handed_by (theirs words.now bytes.now) place) }
+    requires { Ranged range.low range.high (handed_by (theirs words.now bytes.now) place) }
     ensures { result ≡ agrees (handed_by (theirs words.now bytes.now) place) (Slot.runs f n) y }
 {
     if n == 0 {
@@ -112,38 +110,28 @@ pub fn begins_run(
     if Numbers::ALL < end {
         return false;
     }
-    if high <= begin {
-        return true;
-    }
-    if end <= low {
-        return true;
-    }
-    free_before(words, bytes, place, y, n)
+    let outside = range.high <= begin || end <= range.low;
+    outside || free_before(words, bytes, place, y, n)
 }
 
-// Which of the n stored placeholders x is, or n.
-fn find(log: &[u32], n: usize, x: u32) -> usize
+// Which of the n stored placeholders x is.
+fn find(log: &[u32], n: usize, x: u32) -> Option<usize>
     requires { n ≤ 1024 }
-    ensures { result ≡ first (is_placeholder log.now x) n }
+    ensures { MatchOption result (n ≡ first (is_placeholder log.now x) n) (λ k. k ≡ first (is_placeholder log.now x) n) }
 {
-    let mut k = 0;
-    while k < n {
+    for k in 0..n {
         if word(log, Triple::WORDS * k + 1) == x {
-            return k;
+            return Some(k);
         }
-        k += 1;
     }
-    k
+    None
 }
 
 // What they call our placeholder x of the step at hand, whose first is `begin`.
 fn recent(x: u32, begin: u32, table: &[u32]) -> u32
     ensures { result ≡ get_or table.now (x - begin) 0 }
 {
-    if x < begin {
-        return word(table, 0);
-    }
-    word(table, wide(x - begin))
+    word(table, wide(x.saturating_sub(begin)))
 }
 
 // What they call our placeholder x: of the step at hand by the step's table, and else by the n that are stored.
@@ -152,9 +140,10 @@ pub fn name_of(x: u32, begin: u32, table: &[u32], log: &[u32], n: usize, called:
     ensures { result ≡ name_of x begin table.now log.now n called.now }
 {
     if begin <= x {
-        return recent(x, begin, table);
+        recent(x, begin, table)
+    } else {
+        word(called, find(log, n, x).unwrap_or(n))
     }
-    word(called, find(log, n, x))
 }
 
 // A run's numbers, into the step's table.
@@ -163,38 +152,10 @@ pub fn fill(table: &mut [u32], at: usize, y: u32, n: u32) -> usize
     ensures { Wrote (numbers y n) table.old at table.new result }
 {
     let mut next = at;
-    let mut j = 0;
-    while j < n {
+    for j in 0..n {
         next = put(table, next, y + j);
-        j += 1;
     }
     next
-}
-
-// The range of all their numbers.
-#[derive(Drop)]
-pub struct Range {
-    pub low: usize,
-    pub high: usize,
-}
-
-// The lower of two, and the higher.
-fn lower(m: usize, n: usize) -> usize
-    ensures { result ≡ min m n }
-{
-    if m < n {
-        return m;
-    }
-    n
-}
-
-fn higher(m: usize, n: usize) -> usize
-    ensures { result ≡ max m n }
-{
-    if m < n {
-        return n;
-    }
-    m
 }
 
 // With a run more.
@@ -206,9 +167,10 @@ pub fn widened(range: Range, y: u32, n: u32) -> Range
     }
     let begin = wide(y);
     let end = begin + wide(n);
-    let low = lower(range.low, begin);
-    let high = higher(range.high, end);
-    Range { low, high }
+    Range {
+        low: range.low.min(begin),
+        high: range.high.max(end),
+    }
 }
 
 // What they call the placeholders of the triples from the first on to before the last, which a step stored, by the step's table.
@@ -224,11 +186,9 @@ pub fn keep_names(
     ensures { Wrote (recent_names log.now begin table.now first (last - first)) called.old first called.new result }
 {
     let mut next = first;
-    let mut k = first;
-    while k < last {
+    for k in first..last {
         let x = word(log, Triple::WORDS * k + 1);
         next = put(called, next, recent(x, begin, table));
-        k += 1;
     }
     next
 }

@@ -1,12 +1,9 @@
 -- `naming::find` meets its contract: none of the placeholders before is the one. Assumes nothing.
-use Prim.Native.Nat.{◌-◌, ◌≤◌, ◌<◌, ℕ}
+use Prim.Native.Nat.{◌<◌, ℕ}
 use mathlib.Core.Bool.{false}
 use mathlib.Core.Path.{◌≡◌}
 use Rattle.naming.specs.Called.{is_placeholder}
 use Rattle.naming.proofs.find.Given as goal
 
 abbrev pub invariant-loop-k : goal.invariant-loop-k
-invariant-loop-k l = (l.k ≤ l.n) × ((j : ℕ) → j < l.k → is_placeholder l.log l.x j ≡ false)
-
-abbrev pub decreases-loop-k : goal.decreases-loop-k
-decreases-loop-k l = l.n - l.k
+invariant-loop-k l = (j : ℕ) → j < l.k → is_placeholder l.log l.x j ≡ false

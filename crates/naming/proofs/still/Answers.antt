@@ -1,13 +1,16 @@
 -- `naming::still` meets its contract: a run counts where the word is its length. Assumes nothing.
-use Rattle.naming.specs.Mirror.Laws.{still-run, still-lost, still-other}
+use Rattle.words.specs.Choice.{pick}
+use Rattle.naming.specs.Mirror.Laws.{still-other}
 use Rattle.naming.proofs.still.Goals as goal
 
--- it was free, and the run is apart
+-- it was free, and the run is apart or not
 pub returns-then-free : goal.returns-then-free
-returns-then-free c = still-run _ _ _ c.if-class-eq-LENGTH.true c.if-free.true c.apart-other.ensures
+unfolding pick
+returns-then-free c = rw (c.in-Length.is, c.if-free.true, pick) c.apart.ensures
 
 pub returns-else-free : goal.returns-else-free
-returns-else-free c = still-lost _ _ c.if-free.false
+unfolding pick
+returns-else-free c = rw (c.if-free.false, pick)
 
-pub returns : goal.returns
-returns c = still-other _ _ _ _ _ c.if-class-eq-LENGTH.false
+pub returns-in_default : goal.returns-in_default
+returns-in_default c = still-other _ _ _ _ _ c.in_default.not-Length

@@ -1,10 +1,11 @@
 -- Laws of what they call our placeholders. Assumes nothing.
-use Rattle.std.specs.Prelude.{ℕ, zero, suc, ◌+◌, ◌-◌, ◌≤◌, ◌<◌, Bool, true, false, List, [], ◌∷◌, ◌++◌, ◌≡◌, refl, length, eqb, ltb}
+use Rattle.std.specs.Prelude.{ℕ, zero, suc, ◌+◌, ◌-◌, ◌≤◌, ◌<◌, Bool, true, false, List, [], ◌∷◌, ◌++◌, ◌≡◌, refl, length, eqb, ltb, Option, None, Some, MatchOption}
 use Rattle.std.proofs.Common.{sym, ap₂, ◌∙◌, arith, add-one, length-append, get_or-append-add}
 use Rattle.std.proofs.Math.Path.{ap}
 use Rattle.std.proofs.Math.ListN.{get_or, get_or-append}
 use Rattle.std.proofs.lemmas.List.Edits.{sets}
-use borrow.Author.Tests.{le-leb, lt-leb, eqb-true, eqb-false, eq-eqb, ne_eqb, ltb-true, ltb-false}
+use borrow.Author.Tests.{le-leb, lt-leb, eqb-true, eq-eqb, ltb-true, ltb-false}
+use Rattle.std.specs.Option.{unwrap_or}
 use Rattle.words.specs.Choice.Laws.{pick_true, pick-false}
 use Rattle.words.specs.First.{first}
 use Rattle.words.specs.First.Laws.{first_holds, any_at, any-first}
@@ -64,14 +65,10 @@ module _ {names : List ℕ} {begin : ℕ} {table log : List ℕ} {n : ℕ} {call
       let q = eqb-true _ _ (first_holds t n k) in
       pick-false _ _ _ (lt-leb begin x (omega arith)) ∙ c.older (first t n) k ∙ ap (λ z. get_or names z 0) q
 
--- ---- the hunt for a stored placeholder
-pub found-not : (log : List ℕ) (x k w : ℕ) → w ≡ placeholder_at log k → (w ≡ x → ⊥) → ((j : ℕ) → j < k → is_placeholder log x j ≡ false)
-    → (j : ℕ) → j < k + 1 → is_placeholder log x j ≡ false
-found-not log x k w e n f j h = go (eqb j k) refl
-  where
-    go : (v : Bool) → eqb j k ≡ v → is_placeholder log x j ≡ false
-    go true q = let z = eqb-true j k q in ne_eqb _ x (λ t. n (e ∙ ap (placeholder_at log) (sym z) ∙ t))
-    go false q = let z = eqb-false j k q in f j (omega arith)
+-- ---- the hunt for a stored placeholder: where it is, or n
+pub found-or : (o : Option ℕ) (n k : ℕ) → MatchOption o (n ≡ k) (λ j. j ≡ k) → unwrap_or o n ≡ k
+found-or None n k e = e
+found-or (Some j) n k e = e
 
 -- ---- a run's first number, by whether it is free
 pub run_none : (names : List ℕ) (f n y : ℕ) → n ≡ 0 → eqb y f ≡ agrees names (Slot.runs f n) y
@@ -120,9 +117,6 @@ filled_none y = wrote_none
 pub filled_more : (y j : ℕ) {o m n : List ℕ} {a p r : ℕ} → Wrote (numbers y j) o a m p → Wrote ((y + j) ∷ []) m p n r
     → Wrote (numbers y (j + 1)) o a n r
 filled_more y j f g = wrote_as (wrote_then f g) (numbers_more y j)
-
-pub filled-all : (y : ℕ) {j n : ℕ} {o m : List ℕ} {a p : ℕ} → Wrote (numbers y j) o a m p → j ≡ n → Wrote (numbers y n) o a m p
-filled-all y f e = rw (← e) f
 
 -- ---- a run more of names
 module _ {names : List ℕ} {begin : ℕ} {table log : List ℕ} {n : ℕ} {called : List ℕ} (c : Called names begin table log n called)
@@ -181,10 +175,6 @@ kept_more f k j h g w =
     let z : j + 1 - k ≡ suc (j - k) = omega arith in
     let e : k + (j - k) ≡ j = omega arith in
     wrote_as (wrote_then g w) (ap (values f k) z ∙ values-last f k (j - k) ∙ ap (λ i. values f k (j - k) ++ (f i ∷ [])) e)
-
-pub kept-all : (f : ℕ → ℕ) (k : ℕ) {j l : ℕ} {o m : List ℕ} {a p : ℕ} → Wrote (values f k (j - k)) o a m p → j ≡ l
-    → Wrote (values f k (l - k)) o a m p
-kept-all f k g e = rw (← e) g
 
 -- ---- and read
 module _ (f : ℕ → ℕ) (k n : ℕ) {l l' : List ℕ} {r : ℕ} (w : Wrote (values f k n) l k l' r) where

@@ -1,35 +1,28 @@
 -- Laws of their words gone through as ours are. Assumes nothing.
-use Rattle.std.specs.Prelude.{ℕ, zero, suc, ◌+◌, ◌-◌, ◌/◌, ◌≤◌, ◌<◌, Bool, ◌≡◌, length, get_or, eqb}
+use Rattle.std.specs.Prelude.{ℕ, zero, suc, ◌+◌, ◌-◌, ◌/◌, Bool, ◌≡◌, length, get_or}
 use Rattle.std.proofs.Math.Bool.{true, false}
 use mathlib.Core.List.{List, [], ◌++◌, append-nil}
 use Rattle.std.proofs.Math.Path.{refl, ap₂}
-use Rattle.std.proofs.Common.{sym, ap, ◌∙◌, arith, add-one, length-append, get_or-append-add, eqb-true, ne_eqb}
-use Rattle.std.proofs.Math.ListN.{get_or-append}
+use Rattle.std.proofs.Common.{sym, ap, ◌∙◌, arith, add-one, length-append, eqb-true}
 use Rattle.words.specs.Choice.{pick}
+use Rattle.words.specs.Run.{values}
 use Rattle.words.specs.First.Laws.{clash}
 use Rattle.octets.specs.Octets.{words_in}
 use Rattle.octets.specs.Octets.Laws.{words-length}
 use Rattle.renaming.specs.Renaming.{numbers, fresh, agrees, named}
 use Rattle.renaming.specs.Renaming.Fresh.{fresh-append}
+use Rattle.scanning.specs.declared.Class.{Class}
 use Rattle.scanning.specs.declared.Mode.{Mode}
 use Rattle.scanning.specs.declared.Mode.TheVariants.{Event, Image, Last, Tag, More, Step, First, Length, Use, Opened, Row, Stored, Since}
-use Rattle.scanning.specs.Scan.{more_pending, resumed, in_event, in_image, next_mode, class_of, slot_of, is_length}
+use Rattle.scanning.specs.Scan.{more_pending, resumed, in_event, in_image, next_mode, class_of, slot_of, of_length, is_length, run_by}
 use Rattle.naming.specs.Mirror.{theirs, mode_at, handed_by, told}
 
 -- ---- words and bytes
 pub theirs-length : (ws bs : List ℕ) → length (theirs ws bs) ≡ length ws + length bs / 4
 theirs-length ws bs = let a = length-append ws (words_in bs) in let b = words-length bs in omega arith
 
-pub theirs-words : (ws bs : List ℕ) (i : ℕ) → i < length ws → get_or ws i 0 ≡ get_or (theirs ws bs) i 0
-theirs-words ws bs i h = sym (get_or-append ws (words_in bs) 0 i h)
-
-pub theirs-bytes : (ws bs : List ℕ) (i : ℕ) → length ws ≤ i → get_or (words_in bs) (i - length ws) 0 ≡ get_or (theirs ws bs) i 0
-theirs-bytes ws bs i h =
-    let e : length ws + (i - length ws) ≡ i = omega arith in
-    sym (get_or-append-add ws (words_in bs) (i - length ws) 0) ∙ ap (λ k. get_or (theirs ws bs) k 0) e
-
 -- ---- what the next word is, does not depend on a placeholder
-pub next-same : (m : Mode) (w y : ℕ) → (class_of m ≡ 0 → y ≡ w) → (class_of m ≡ 3 → y ≡ w) → next_mode m y ≡ next_mode m w
+pub next-same : (m : Mode) (w y : ℕ) → (class_of m ≡ Class.Plain → y ≡ w) → (class_of m ≡ Class.Length → y ≡ w) → next_mode m y ≡ next_mode m w
 next-same Event w y f g = ap in_event (f refl)
 next-same (Image l) w y f g = ap (λ z. in_image z l) (f refl)
 next-same (Last l) w y f g = refl
@@ -65,20 +58,21 @@ image-length (suc (suc zero)) l = refl
 image-length (suc (suc (suc zero))) l = refl
 image-length (suc (suc (suc (suc w)))) l = refl
 
-next-length : (m : Mode) (w : ℕ) → is_length (next_mode m w) ≡ eqb (class_of m) 2
-next-length Event w = event-length w
-next-length (Image l) w = image-length w l
-next-length (Last l) w = resumed-length l
-next-length (Tag l) w = refl
-next-length (More l) w = resumed-length (more_pending l w)
-next-length Step w = refl
-next-length (First l) w = refl
-next-length (Length l) w = resumed-length l
-next-length (Use l) w = resumed-length l
-next-length Opened w = refl
-next-length Row w = refl
-next-length Stored w = refl
-next-length Since w = refl
+next-run : (m : Mode) (w y v : ℕ) → pick (is_length (next_mode m w)) (numbers y v) [] ≡ numbers y (run_by (class_of m) v)
+unfolding pick values
+next-run Event w y v = rw (event-length w)
+next-run (Image l) w y v = rw (image-length w l)
+next-run (Last l) w y v = rw (resumed-length l)
+next-run (Tag l) w y v = refl
+next-run (More l) w y v = rw (resumed-length (more_pending l w))
+next-run Step w y v = refl
+next-run (First l) w y v = refl
+next-run (Length l) w y v = rw (resumed-length l)
+next-run (Use l) w y v = rw (resumed-length l)
+next-run Opened w y v = refl
+next-run Row w y v = refl
+next-run Stored w y v = refl
+next-run Since w y v = refl
 
 -- ---- a word more of theirs
 pub mode_at-on : (ws : List ℕ) (a : ℕ) → next_mode (mode_at ws a) (get_or ws a 0) ≡ mode_at ws (a + 1)
@@ -91,27 +85,22 @@ unfolding handed_by
 handed_by-on ws a = rw add-one
 
 -- the word that agrees is ours where it is plain
-plain-agrees : (names : List ℕ) (c w v y : ℕ) → c ≡ 0 → agrees names (slot_of c w v) y ≡ true → y ≡ w
+plain-agrees : (names : List ℕ) (c : Class) (w v y : ℕ) → c ≡ Class.Plain → agrees names (slot_of c w v) y ≡ true → y ≡ w
 unfolding agrees
 plain-agrees names c w v y e h = eqb-true y w (rw e at h)
 
-length-agrees : (names : List ℕ) (c w v y : ℕ) → c ≡ 3 → agrees names (slot_of c w v) y ≡ true → y ≡ w
+length-agrees : (names : List ℕ) (c : Class) (w v y : ℕ) → c ≡ Class.Length → agrees names (slot_of c w v) y ≡ true → y ≡ w
 unfolding agrees
 length-agrees names c w v y e h = eqb-true y w (rw e at h)
 
 -- the names behind it
-told-class : (c : ℕ) (h : List ℕ) (prev w v y : ℕ) → (c ≡ 3 → y ≡ w)
-    → (h ++ pick (eqb c 3) (numbers prev y) []) ++ pick (eqb c 2) (numbers y v) [] ≡ named (h ++ pick (eqb c 3) (numbers prev w) []) (slot_of c w v) y
-unfolding pick named
-told-class zero h prev w v y f = append-nil (h ++ [])
-told-class (suc zero) h prev w v y f = append-nil (h ++ [])
-told-class (suc (suc zero)) h prev w v y f = refl
-told-class (suc (suc (suc zero))) h prev w v y f = append-nil _ ∙ ap (λ z. h ++ numbers prev z) (f refl)
-told-class (suc (suc (suc (suc c)))) h prev w v y f =
-    let four = suc (suc (suc (suc c))) in
-    let three : eqb four 3 ≡ false = ne_eqb four 3 (λ e. omega arith) in
-    let two : eqb four 2 ≡ false = ne_eqb four 2 (λ e. omega arith) in
-    rw (three, two) (append-nil _)
+told-class : (c : Class) (h : List ℕ) (prev w v y : ℕ) → (c ≡ Class.Length → y ≡ w)
+    → (h ++ pick (of_length c) (numbers prev y) []) ++ numbers y (run_by c v) ≡ named (h ++ pick (of_length c) (numbers prev w) []) (slot_of c w v) y
+unfolding pick named values
+told-class Class.Plain h prev w v y f = append-nil (h ++ [])
+told-class Class.Use h prev w v y f = append-nil (h ++ [])
+told-class Class.First h prev w v y f = refl
+told-class Class.Length h prev w v y f = append-nil _ ∙ ap (λ z. h ++ numbers prev z) (f refl)
 
 module _ (ws : List ℕ) (a : ℕ) (m : Mode) (w v : ℕ) (e : m ≡ mode_at ws a)
     (h : agrees (told ws a m w) (slot_of (class_of m) w v) (get_or ws a 0) ≡ true) where
@@ -125,8 +114,8 @@ module _ (ws : List ℕ) (a : ℕ) (m : Mode) (w v : ℕ) (e : m ≡ mode_at ws 
       let y = get_or ws a 0 in
       let one : a + 1 - 1 ≡ a = omega arith in
       let front = handed_by-on ws a ∙ ap (λ (k : Mode). handed_by ws a ++ pick (is_length k) (numbers (get_or ws (a - 1) 0) y) []) (sym e) in
-      let last : pick (is_length (next_mode m w)) (numbers (get_or ws (a + 1 - 1) 0) v) [] ≡ pick (eqb (class_of m) 2) (numbers y v) [] =
-      rw (next-length m w, one) in
+      let last : pick (is_length (next_mode m w)) (numbers (get_or ws (a + 1 - 1) 0) v) [] ≡ numbers y (run_by (class_of m) v) =
+      rw one (next-run m w y v) in
       ap₂ ◌++◌ front last ∙ told-class (class_of m) (handed_by ws a) (get_or ws (a - 1) 0) w v y (λ z. length-agrees _ (class_of m) w v y z h)
 
 -- ---- the hunt through their words: how far it got
@@ -141,8 +130,8 @@ hunted-start = record { mode = refl; prior = λ e. absurd (clash e refl); free-s
 
 module _ {ws : List ℕ} {y n i : ℕ} {m : Mode} {last : ℕ} {free : Bool} (g : Hunted ws y n i m last free) where
   -- what word i tells, by what was read
-  pub hunted-word : {w c : ℕ} → w ≡ get_or ws i 0 → c ≡ class_of m
-      → pick (eqb c 3) (numbers last w) [] ≡ pick (is_length (mode_at ws i)) (numbers (get_or ws (i - 1) 0) (get_or ws i 0)) []
+  pub hunted-word : {w : ℕ} {c : Class} → w ≡ get_or ws i 0 → c ≡ class_of m
+      → pick (of_length c) (numbers last w) [] ≡ pick (is_length (mode_at ws i)) (numbers (get_or ws (i - 1) 0) (get_or ws i 0)) []
   unfolding pick
   hunted-word {w} {c} e q = rw (q, g.mode) (go (is_length (mode_at ws i)) refl)
     where
@@ -150,8 +139,8 @@ module _ {ws : List ℕ} {y n i : ℕ} {m : Mode} {last : ℕ} {free : Bool} (g 
       go true z = ap₂ numbers (g.prior (ap is_length g.mode ∙ z)) e
       go false z = refl
 
-  pub hunted-on : {k : Mode} {w c : ℕ} {more : Bool} → w ≡ get_or ws i 0 → c ≡ class_of m
-      → more ≡ pick free (fresh (pick (eqb c 3) (numbers last w) []) y n) false → k ≡ next_mode m w → Hunted ws y n (i + 1) k w more
+  pub hunted-on : {k : Mode} {w : ℕ} {c : Class} {more : Bool} → w ≡ get_or ws i 0 → c ≡ class_of m
+      → more ≡ pick free (fresh (pick (of_length c) (numbers last w) []) y n) false → k ≡ next_mode m w → Hunted ws y n (i + 1) k w more
   hunted-on {k} {w} {c} {more} e q f t =
       let one : i + 1 - 1 ≡ i = omega arith in
       let word = hunted-word e q in
@@ -164,21 +153,12 @@ module _ {ws : List ℕ} {y n i : ℕ} {m : Mode} {last : ℕ} {free : Bool} (g 
             ∙ sym (fresh-append (handed_by ws i) added y n) ∙ ap (λ (x : List ℕ). fresh x y n) (sym (handed_by-on ws i));
       }
 
-pub hunted-end : {ws : List ℕ} {y n i : ℕ} {m : Mode} {last : ℕ} {free : Bool} (place : ℕ) → Hunted ws y n i m last free → i ≡ place
-    → free ≡ fresh (handed_by ws place) y n
-hunted-end {ws} {y} {n} place g e = g.free-so-far ∙ ap (λ j. fresh (handed_by ws j) y n) e
-
--- ---- one word of the hunt
-pub still-run : (y n : ℕ) (xs : List ℕ) {free r : Bool} {c : ℕ} → c ≡ 3 → free ≡ true → r ≡ fresh xs y n
-    → r ≡ pick free (fresh (pick (eqb c 3) xs []) y n) false
-unfolding pick
-still-run y n xs e f h = rw (e, f, pick) h
-
-pub still-lost : (free r : Bool) → free ≡ false → free ≡ pick free r false
-unfolding pick
-still-lost free r f = rw (f, pick)
-
-pub still-other : (free : Bool) (c y n : ℕ) (xs : List ℕ) → (c ≡ 3 → ⊥) → free ≡ pick free (fresh (pick (eqb c 3) xs []) y n) false
+-- ---- a word that is no run's length
+pub still-other : (free : Bool) (c : Class) (y n : ℕ) (xs : List ℕ) → (c ≡ Class.Length → ⊥)
+    → free ≡ pick free (fresh (pick (of_length c) xs []) y n) false
 unfolding pick fresh
-still-other true c y n xs h = let e = ne_eqb c 3 h in rw (e, pick)
 still-other false c y n xs h = refl
+still-other true Class.Plain y n xs h = refl
+still-other true Class.Use y n xs h = refl
+still-other true Class.First y n xs h = refl
+still-other true Class.Length y n xs h = absurd (h refl)

@@ -1,5 +1,5 @@
 -- Effects in the words, and whether a multiset is a difference and a sum of others.
-use Rattle.std.specs.Prelude.{ℕ, ◌+◌, ◌-◌, ◌≤◌, ◌<◌, Bool, true, ◌&&◌, List, [], ◌∷◌, ◌≡◌, eqb, drop}
+use Rattle.std.specs.Prelude.{ℕ, ◌+◌, ◌-◌, ◌≤◌, ◌<◌, Bool, List, [], ◌∷◌, ◌≡◌, eqb, drop}
 use Rattle.std.proofs.Math.Option.{some}
 use Rattle.words.specs.Choice.{pick}
 use Rattle.typing.specs.Term.{Term, Effect}
@@ -28,8 +28,3 @@ There w (Many a k e) = rest_of (effects k (drop a w)) ≡ some (drop e w)
 -- the effect x stands in r as often as in a, less as often as in b, and as in d
 unfoldable pub level_at : List ℕ → Effects → Effects → Effects → Effects → Effect → Bool
 level_at w r a b d x = eqb (count x (list_of w r)) (count x (list_of w a) - count x (list_of w b) + count x (list_of w d))
-
--- a test holds of every effect of a list
-unfoldable pub every : (Effect → Bool) → List Effect → Bool
-every p [] = true
-every p (x ∷ l) = p x && every p l

@@ -1,26 +1,23 @@
 -- `balance::balanced` meets its contract: what stands in none of the three lists is level. Assumes nothing.
-use Rattle.std.proofs.Common.{ap, not}
-use Rattle.balance.specs.Sum.Laws.{balance-result, balance-given, balance-added}
+use Rattle.std.proofs.Common.{sym, ◌∙◌}
+use Rattle.words.specs.First.Laws.{clash}
+use Rattle.balance.specs.Sum.Laws.{balance-fails, balance-holds}
 use Rattle.balance.proofs.balanced.Goals as goal
+use Rattle.balance.proofs.balanced.Goals.{then-level_all, else-level_all}
 
-pub level_all-requires : goal.level_all-requires
-level_all-requires c = let (r, a, b, d) = c.requires in
-    (r, a, b, d, r)
+pub returns-then-level_all-2 : goal.returns-then-level_all-2
+returns-then-level_all-2 c =
+    elim c.if-level_all.branch [
+      | then-level_all w ↦
+          balance-holds _ _ _ _ _ (sym c.level_all.ensures ∙ w.if-level_all.true)
+          (sym w.level_all-then-level_all.ensures ∙ sym w.value-is ∙ c.if-level_all-2.true) _ c.level_all-then-level_all-2.ensures
+      | else-level_all w ↦ absurd (clash c.if-level_all-2.true (w.value-is ∙ w.if-level_all.false))
+    ]
 
-pub returns-then-not-level_all : goal.returns-then-not-level_all
-returns-then-not-level_all c = balance-result _ _ _ _ _ _ c.level_all.ensures (ap not c.if-not-level_all.true)
-
-pub level_all-requires-2 : goal.level_all-requires-2
-level_all-requires-2 c = let (r, a, b, d) = c.requires in
-    (r, a, b, d, a)
-
-pub returns-then-not-level_all-2 : goal.returns-then-not-level_all-2
-returns-then-not-level_all-2 c = balance-given _ _ _ _ _ _ c.level_all-2.ensures (ap not c.if-not-level_all-2.true)
-
-pub level_all-requires-3 : goal.level_all-requires-3
-level_all-requires-3 c = let (r, a, b, d) = c.requires in
-    (r, a, b, d, d)
-
-pub returns : goal.returns
-returns c = balance-added _ _ _ _ _ _ c.level_all.ensures (ap not c.if-not-level_all.false) _
-    c.level_all-2.ensures (ap not c.if-not-level_all-2.false) _ c.level_all-3.ensures
+pub returns-else-level_all-2 : goal.returns-else-level_all-2
+returns-else-level_all-2 c =
+    elim c.if-level_all.branch [
+      | then-level_all w ↦
+          c.if-level_all-2.false ∙ balance-fails _ _ _ _ _ _ _ w.level_all-then-level_all.ensures (sym w.value-is ∙ c.if-level_all-2.false)
+      | else-level_all w ↦ c.if-level_all-2.false ∙ balance-fails _ _ _ _ _ _ _ c.level_all.ensures w.if-level_all.false
+    ]

@@ -1,30 +1,27 @@
 -- `balance::count_in` meets its contract, by which list it is. Assumes nothing.
+use Rattle.std.proofs.Common.{rules, sym, ◌∙◌}
 use native.Mathlib.Omega.{arith}
-use Rattle.balance.specs.Sum.Laws.{one-there, many-there, in-other, in_one, in-many, few-count}
+use Rattle.typing.specs.Term.{same_effect}
+use Rattle.alike.specs.Same.{term_in, effects_in, test}
+use Rattle.alike.specs.Same.Each.{count-by}
+use Rattle.balance.specs.Sum.{effect_by}
+use Rattle.balance.specs.Sum.Laws.{spelled, few-count, list-one, list-many, count_one, one_small}
 use Rattle.balance.proofs.count_in.Goals as goal
 
-pub returns-then-d-c : goal.returns-then-d-c
-returns-then-d-c c = let (there, low, high, other) = c.requires in
-    (in-other _ _ _ _ _ c.in-One.is there _ _ low high c.if-d-c.true, omega arith)
+pub count_where-requires-clause-asked : goal.count_where-requires-clause-asked
+count_where-requires-clause-asked c = λ i e t. let s = spelled t in search rules
 
-pub same_term-requires : goal.same_term-requires
-same_term-requires c = let (there, low, high, other) = c.requires in
-    ((one-there _ _ _ _ _ c.in-One.is there).2, other)
-
-pub count_many-requires : goal.count_many-requires
-count_many-requires c = let (there, low, high, other) = c.requires in
-    (many-there _ _ _ _ _ c.in-Many.is there, low, high, other)
-
-pub returns-else-d-c : goal.returns-else-d-c
-returns-else-d-c c = let (there, low, high, other) = c.requires in (
-  in_one _ _ _ _ _ c.in-One.is there _ _ low high c.if-d-c.false _
-      c.same_term.ensures _
-      c.one.ensures.0,
-  omega (arith, other.some_word, other.inside, c.one.ensures.1),
+pub returns-in-One : goal.returns-in-One
+returns-in-One c = let (there, low, high, other) = c.requires in (
+  rw (c.from.ensures, list-one _ _ _ _ _ c.in-One.is) (count_one _ _ _ c.is_effect.ensures),
+  omega (arith, other.some_word, other.inside, one_small c.is_effect.result, c.from.ensures),
 )
 
 pub returns-in-Many : goal.returns-in-Many
-returns-in-Many c = let (there, low, high, other) = c.requires in (
-  in-many _ _ _ _ _ _ _ _ c.in-Many.is c.count_many.ensures.0,
-  few-count c.args.w.now _ _ _ _ _ c.in-Many.is there c.count_many.ensures.1,
-)
+returns-in-Many c = let (there, low, high, other) = c.requires in
+    let x = effect_by c.args.c (term_in c.args.w.now c.args.b) in (
+      rw (list-many _ _ _ _ _ c.in-Many.is)
+          (c.count_where.ensures.counts (λ y. test (same_effect y x)) (λ i e r t k. rw (spelled t).effect_is (search rules))
+          ∙ sym (count-by x (effects_in c.args.w.now c.in-Many.a c.in-Many.k))),
+      few-count c.args.w.now _ _ _ _ _ c.in-Many.is there c.count_where.ensures.few,
+    )

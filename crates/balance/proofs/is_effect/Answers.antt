@@ -1,11 +1,13 @@
 -- `balance::is_effect` meets its contract: the words are equal, and the terms. Assumes nothing.
-use Rattle.balance.specs.Sum.Laws.{is-other, is_one}
+use borrow.Author.Tests.{ne_eqb}
+use Rattle.std.proofs.Common.{◌∙◌}
+use Rattle.balance.specs.Sum.Laws.{by-other, by_one}
 use Rattle.balance.proofs.is_effect.Goals as goal
 
-pub returns-then-w-i : goal.returns-then-w-i
-returns-then-w-i c = let (effect, own, low, high, other) = c.requires in
-    is-other _ _ _ effect own _ _ low high c.if-w-i.true
+pub returns-then-d-c : goal.returns-then-d-c
+returns-then-d-c c = let (l, h, own, low, high, other) = c.requires in
+    by_one _ _ _ _ l h c.if-d-c.true _ c.same_term.ensures
 
-pub returns : goal.returns
-returns c = let (effect, own, low, high, other) = c.requires in
-    is_one _ _ _ effect own _ _ c.if-w-i.false _ c.same_term.ensures
+pub returns-else-d-c : goal.returns-else-d-c
+returns-else-d-c c = let (l, h, own, low, high, other) = c.requires in
+    ne_eqb _ _ c.if-d-c.false ∙ by-other _ _ _ _ l h low high c.if-d-c.false

@@ -1,6 +1,8 @@
 -- Laws of sums and differences of effects, by counting. Assumes nothing.
 use Prim.Native.Nat.{ℕ, zero, suc, ◌+◌, ◌-◌, ◌≤◌, ◌<◌}
-use Rattle.std.specs.Prelude.{Bool, not, ◌&&◌, ◌≡◌, refl, eqb, length, drop, get_or}
+use Rattle.std.specs.Prelude.{Bool, ◌&&◌, ◌≡◌, refl, eqb, length, drop, get_or}
+use Rattle.std.specs.List.{list_all}
+use Rattle.std.specs.Int.{from_bool}
 use Rattle.std.proofs.Math.Bool.{true, false}
 use Rattle.std.proofs.Common.{◌∙◌, subst, add-one, length-drop, drop-cons}
 use mathlib.Core.List.{List, [], ◌∷◌}
@@ -8,7 +10,7 @@ use Rattle.std.proofs.Math.Option.{none, some}
 use Rattle.std.proofs.Math.Path.{sym, ap}
 use native.Mathlib.Omega.{arith}
 use Rattle.std.proofs.Math.Decide.{dec_lt, ℕ_discrete as dec_eq}
-use borrow.Author.Tests.{eq-eqb, ne_eqb, eqb-true, not-true, not-false}
+use borrow.Author.Tests.{eq-eqb, ne_eqb, eqb-true}
 use Rattle.words.specs.Choice.{pick, then}
 use Rattle.words.specs.Choice.Laws.{pick_true, pick-false}
 use Rattle.words.specs.First.Laws.{clash}
@@ -19,12 +21,12 @@ use Rattle.typing.specs.Types.{same_effects}
 use Rattle.typing.proofs.Check.Laws.{both, and_both}
 use Rattle.typing.specs.Reading.{Read, after, term, effect_of, effects}
 use Rattle.typing.specs.Reading.Laws.{shorter-after, term-shorter}
-use Rattle.spans.specs.Behind.{rest_of, At, Ends}
+use Rattle.spans.specs.Behind.{rest_of, At}
 use Rattle.spans.specs.Behind.Laws.{rest-ahead}
 use Rattle.alike.specs.Same.{value_or, term_in, effect_in, effects_in, test}
 use Rattle.alike.specs.Same.Laws.{test-yes, test-no, test-true}
-use Rattle.alike.specs.Same.Effects.{Along, along-inside, along-end, along-term, along-again, along-list, list-none}
-use Rattle.balance.specs.Sum.{effect_by, list_of, There, level_at, every}
+use Rattle.alike.specs.Same.Each.{EffectAt}
+use Rattle.balance.specs.Sum.{effect_by, list_of, There, level_at}
 use Rattle.balance.specs.declared.Effects.{Effects}
 use Rattle.balance.specs.declared.Effects.TheVariants.{One, Many}
 
@@ -82,31 +84,27 @@ read_by (suc zero) u v h = (omega arith, omega arith, value_after Effect.end (te
 read_by (suc (suc zero)) u v h = (omega arith, omega arith, value_after Effect.check (term u) v h)
 read_by (suc (suc (suc c))) u v h = absurd (let z : ◌≡◌ {A = ℕ} 0 1 = cc in omega arith)
 
-module _ (w : List ℕ) (i e : ℕ) (b : At w i (rest_of (effect_of (drop i w))) e) (t : At w (i + 1) (rest_of (term (drop (i + 1) w))) e) where
-  pub effect-inside : i < length w
-  effect-inside = omega (arith, t.after, t.inside)
-
-  whole : drop i w ≡ get_or w i 0 ∷ drop (i + 1) w
-  whole = rw add-one (drop-cons w i 0 effect-inside)
-
-  parts : (0 < get_or w i 0) × (get_or w i 0 ≤ 2)
-      × (value_or (Effect.end (Term.bound 0)) (effect_of (get_or w i 0 ∷ drop (i + 1) w))
-      ≡ effect_by (get_or w i 0) (value_or (Term.bound 0) (term (drop (i + 1) w))))
-  parts = read_by (get_or w i 0) (drop (i + 1) w) (drop e w) (sym (ap (λ (u : List ℕ). rest_of (effect_of u)) whole) ∙ b.rest)
-
-  pub effect-word : (0 < get_or w i 0) × (get_or w i 0 ≤ 2)
-  effect-word = (parts.0, parts.1)
-
+-- an effect in the words is the one with its word and its term
+pub record Spelled (w : List ℕ) (i e : ℕ) : Type 0 where
+  pub inside : i < length w
+  pub some_word : 0 < get_or w i 0
+  pub small : get_or w i 0 ≤ 2
+  pub own : At w (i + 1) (rest_of (term (drop (i + 1) w))) e
   pub effect_is : effect_in w i ≡ effect_by (get_or w i 0) (term_in w (i + 1))
-  unfolding effect_in term_in
-  effect_is = ap (λ (u : List ℕ). value_or (Effect.end (Term.bound 0)) (effect_of u)) whole ∙ parts.2
 
-  pub is-other : (c a : ℕ) → 0 < c → c ≤ 2 → (get_or w i 0 ≡ c → ⊥) → false ≡ test (same_effect (effect_in w i) (effect_by c (term_in w a)))
-  is-other c a l h d = rw effect_is (by-other (get_or w i 0) c (term_in w (i + 1)) (term_in w a) parts.0 parts.1 l h d)
-
-  pub is_one : (c a : ℕ) → get_or w i 0 ≡ c → (r : Bool) → r ≡ test (same_term (term_in w (i + 1)) (term_in w a))
-      → r ≡ test (same_effect (effect_in w i) (effect_by c (term_in w a)))
-  is_one c a d r k = rw effect_is (by_one (get_or w i 0) c (term_in w (i + 1)) (term_in w a) parts.0 parts.1 d r k)
+pub spelled : {w : List ℕ} {i e : ℕ} → EffectAt w i e → Spelled w i e
+unfolding effect_in term_in
+spelled {w} {i} {e} t =
+    let inside : i < length w = omega (arith, t.own.after, t.own.inside) in
+    let whole : drop i w ≡ get_or w i 0 ∷ drop (i + 1) w = rw add-one (drop-cons w i 0 inside) in
+    let parts = read_by (get_or w i 0) (drop (i + 1) w) (drop e w) (sym (ap (λ (u : List ℕ). rest_of (effect_of u)) whole) ∙ t.effect.rest) in
+    record {
+      inside = inside;
+      some_word = parts.0;
+      small = parts.1;
+      own = t.own;
+      effect_is = ap (λ (u : List ℕ). value_or (Effect.end (Term.bound 0)) (effect_of u)) whole ∙ parts.2;
+    }
 
 -- ---- counts are no larger than the words are many
 count-length : (x : Effect) (es : List Effect) → count x es ≤ length es
@@ -151,130 +149,46 @@ many-there w s a k e q h = subst (There w) q h
 pub few-count : (w : List ℕ) (s : Effects) (a k e n : ℕ) → s ≡ Many a k e → There w s → n ≤ k → n ≤ length w
 few-count w s a k e n q h l = omega (arith, few-effects w a k e (many-there w s a k e q h))
 
-module _ (w : List ℕ) (s : Effects) (d a e : ℕ) (q : s ≡ One d a e) (there : There w s) (c b : ℕ) (l : 0 < c) (h : c ≤ 2) where
-  list-one : list_of w s ≡ effect_by d (term_in w a) ∷ []
-  unfolding list_of
-  list-one = ap (list_of w) q
-
-  pub in-other : (d ≡ c → ⊥) → 0 ≡ count (effect_by c (term_in w b)) (list_of w s)
-  in-other n =
-      let (k, m, t) = one-there w s d a e q there in
-      rw list-one (sym (count-other (effect_by c (term_in w b)) (effect_by d (term_in w a)) []
-      (λ z. n (sym (by-same c d (term_in w b) (term_in w a) l h k m z).0)) ∙ count_none (effect_by c (term_in w b))))
-
-  pub in_one : d ≡ c → (r : Bool) → r ≡ test (same_term (term_in w a) (term_in w b)) → (n : ℕ) → n ≡ pick r 1 0
-      → n ≡ count (effect_by c (term_in w b)) (list_of w s)
-  unfolding pick
-  in_one x true t n m =
-      let o : term_in w a ≡ term_in w b = test-true (same_term (term_in w a) (term_in w b)) (sym t) in
-      let same : effect_by c (term_in w b) ≡ effect_by d (term_in w a) = cc in
-      rw list-one (m ∙ sym (count-here (effect_by c (term_in w b)) (effect_by d (term_in w a)) [] same ∙ ap suc (count_none (effect_by c (term_in w b)))))
-  in_one x false t n m =
-      let (k, i, u) = one-there w s d a e q there in
-      rw list-one (m ∙ sym (count-other (effect_by c (term_in w b)) (effect_by d (term_in w a)) [] (λ z.
-      clash (test-yes (same_term (term_in w a) (term_in w b)) (sym (by-same c d (term_in w b) (term_in w a) l h k i z).1)) (sym t))
-      ∙ count_none (effect_by c (term_in w b))))
-
-pub in-many : (w : List ℕ) (s : Effects) (a k e c b n : ℕ) → s ≡ Many a k e → n ≡ count (effect_by c (term_in w b)) (effects_in w a k)
-    → n ≡ count (effect_by c (term_in w b)) (list_of w s)
+pub list-one : (w : List ℕ) (s : Effects) (d a e : ℕ) → s ≡ One d a e → list_of w s ≡ effect_by d (term_in w a) ∷ []
 unfolding list_of
-in-many w s a k e c b n q h = h ∙ sym (ap (λ (z : Effects). count (effect_by c (term_in w b)) (list_of w z)) q)
+list-one w s d a e q = ap (list_of w) q
 
--- ---- level
-module _ (w : List ℕ) (r a b d : Effects) (x : Effect) (have from less more : ℕ) (p : have ≡ count x (list_of w r)) (q : from ≡ count x (list_of w a))
-    (s : less ≡ count x (list_of w b)) (t : more ≡ count x (list_of w d)) where
-  level_by : (n : ℕ) → n ≡ from - less + more → eqb have n ≡ level_at w r a b d x
-  unfolding level_at
-  level_by n e = rw (e, p, q, s, t)
+pub list-many : (w : List ℕ) (s : Effects) (a k e : ℕ) → s ≡ Many a k e → list_of w s ≡ effects_in w a k
+unfolding list_of
+list-many w s a k e q = ap (list_of w) q
 
-  pub level-none : from < less → eqb have more ≡ level_at w r a b d x
-  level-none l = level_by more (omega arith)
+-- one effect is counted by whether it is the same, and no more than once
+pub count_one : (x y : Effect) (r : Bool) → r ≡ test (same_effect y x) → from_bool r ≡ count x (y ∷ [])
+count_one x y true h = sym (count-here x y [] (sym (test-true (same_effect y x) (sym h))) ∙ ap suc (count_none x))
+count_one x y false h =
+    sym (count-other x y [] (λ z. clash (test-yes (same_effect y x) (sym z)) (sym h)) ∙ count_none x)
 
-  pub level-some : less ≤ from → eqb have (from - less + more) ≡ level_at w r a b d x
-  level-some l = level_by (from - less + more) refl
+pub one_small : (r : Bool) → from_bool r ≤ 1
+one_small true = omega arith
+one_small false = omega arith
 
--- ---- every, one effect after another
-pub record Walk (w : List ℕ) (f : Effect → Bool) (p k end i j : ℕ) : Type 0 where
-  pub along : Along w end (k - j) i
-  pub same : every f (effects_in w p k) ≡ every f (effects_in w i (k - j))
-  pub few : j ≤ k
-
-sub-zero : (k : ℕ) → k - 0 ≡ k
-sub-zero k = omega arith
-
-pub walk-begin : (w : List ℕ) (f : Effect → Bool) (p k end : ℕ) → rest_of (effects k (drop p w)) ≡ some (drop end w) → Walk w f p k end p 0
-walk-begin w f p k end h = record { along = record { reads = rw (sub-zero k) h }; same = rw (sub-zero k) refl; few = omega arith }
-
-module _ (w : List ℕ) (f : Effect → Bool) (p k end i j : ℕ) (t : Walk w f p k end i j) where
-  due : j < k → 0 < k - j
-  due h = omega arith
-
-  fewer : k - j - 1 ≡ k - (j + 1)
-  fewer = omega arith
-
-  pub walk_inside : j < k → i < length w
-  walk_inside h = along-inside w end (k - j) i t.along (due h)
-
-  module _ (h : j < k) (e : ℕ) (q : Ends w (i + 1) (rest_of (term (drop (i + 1) w))) e) where
-    pub walk-effect : At w i (rest_of (effect_of (drop i w))) e
-    walk-effect = along-end w end (k - j) i t.along (due h) e q
-
-    pub walk-term : At w (i + 1) (rest_of (term (drop (i + 1) w))) e
-    walk-term = along-term w end (k - j) i t.along (due h) e q
-
-    turn : every f (effects_in w p k) ≡ (f (effect_by (get_or w i 0) (term_in w (i + 1))) && every f (effects_in w e (k - (j + 1))))
-    unfolding every
-    turn =
-        t.same ∙ ap (every f) (along-list w end (k - j) i t.along (due h) e q ∙ ap (λ (m : ℕ). effect_in w i ∷ effects_in w e m) fewer)
-        ∙ ap (λ (x : Effect). f x && every f (effects_in w e (k - (j + 1)))) (effect_is w i e walk-effect walk-term)
-
-    pub walk-fails : (b : Bool) → b ≡ f (effect_by (get_or w i 0) (term_in w (i + 1))) → not b ≡ true → false ≡ every f (effects_in w p k)
-    walk-fails b d z = sym (turn ∙ ap (λ (c : Bool). c && every f (effects_in w e (k - (j + 1)))) (sym d ∙ not-true b z))
-
-    pub walk-again : (b : Bool) → b ≡ f (effect_by (get_or w i 0) (term_in w (i + 1))) → not b ≡ false → Walk w f p k end e (j + 1)
-    walk-again b d z =
-        record {
-          along = rw fewer at (along-again w end (k - j) i t.along (due h) e q);
-          same = turn ∙ ap (λ (c : Bool). c && every f (effects_in w e (k - (j + 1)))) (sym d ∙ not-false b z);
-          few = omega arith;
-        }
-
-  pub walk-done : k ≤ j → true ≡ every f (effects_in w p k)
-  unfolding every
-  walk-done h =
-      let z : k - j ≡ 0 = omega arith in
-      sym (t.same ∙ ap (λ (m : ℕ). every f (effects_in w i m)) z ∙ ap (every f) (list-none w i))
-
+-- ---- every effect of a list
 and-true : (b : Bool) → (b && true) ≡ b
 and-true true = refl
 and-true false = refl
 
-pub every_one : (w : List ℕ) (f : Effect → Bool) (s : Effects) (c a e : ℕ) → s ≡ One c a e → (b : Bool) → b ≡ f (effect_by c (term_in w a))
-    → b ≡ every f (list_of w s)
-unfolding every list_of
-every_one w f s c a e q b h = rw q (h ∙ sym (and-true (f (effect_by c (term_in w a)))))
+pub every_one : (f : Effect → Bool) (x : Effect) → f x ≡ list_all f (x ∷ [])
+every_one f x = sym (and-true (f x))
 
-pub every-many : (w : List ℕ) (f : Effect → Bool) (s : Effects) (p k e : ℕ) → s ≡ Many p k e → (b : Bool) → b ≡ every f (effects_in w p k)
-    → b ≡ every f (list_of w s)
-unfolding list_of
-every-many w f s p k e q b h = rw q h
-
-every-counted : (f : Effect → Bool) (l : List Effect) → every f l ≡ true → (x : Effect) → 0 < count x l → f x ≡ true
-unfolding every
+every-counted : (f : Effect → Bool) (l : List Effect) → list_all f l ≡ true → (x : Effect) → 0 < count x l → f x ≡ true
 every-counted f [] h x k = absurd (omega (arith, count_none x))
 every-counted f (y ∷ l) h x k =
-    let (p, q) = both (f y) (every f l) h in
+    let (p, q) = both (f y) (list_all f l) h in
     let r = every-counted f l q x in
     elim (same_effect x y) [
       | yes e ↦ ap f e ∙ p
       | no e ↦ r (omega (arith, count-other x y l e))
     ]
 
-counted-every : (f : Effect → Bool) (l : List Effect) → ((x : Effect) → 0 < count x l → f x ≡ true) → every f l ≡ true
-unfolding every
+counted-every : (f : Effect → Bool) (l : List Effect) → ((x : Effect) → 0 < count x l → f x ≡ true) → list_all f l ≡ true
 counted-every f [] h = refl
 counted-every f (y ∷ l) h =
-    and_both (f y) (every f l) (h y (omega (arith, count-here y y l refl))) (counted-every f l (λ x k. h x (more x k)))
+    and_both (f y) (list_all f l) (h y (omega (arith, count-here y y l refl))) (counted-every f l (λ x k. h x (more x k)))
   where
     more : (x : Effect) → 0 < count x l → 0 < count x (y ∷ l)
     more x k = elim (same_effect x y) [
@@ -314,7 +228,7 @@ module _ (w : List ℕ) (r a b d : Effects) where
   unfolding level_at
   of-level e x = eq-eqb _ _ (sym (count-bag x R) ∙ ap (count x) e ∙ count-X x)
 
-  all-level : every L R ≡ true → every L A ≡ true → every L D ≡ true → bag R ≡ X
+  all-level : list_all L R ≡ true → list_all L A ≡ true → list_all L D ≡ true → bag R ≡ X
   all-level p q s =
       ordered_same (bag R) X (bag-ordered R) (plus-ordered (bag D) (minus (bag A) (bag B)) (minus-ordered (bag A) (bag B) (bag-ordered A)))
       (λ x. count-bag x R ∙ at x ∙ sym (count-X x))
@@ -331,18 +245,10 @@ module _ (w : List ℕ) (r a b d : Effects) where
         ]
       ]
 
-  fails-in : (l : List Effect) (p : Bool) → p ≡ every L l → not p ≡ true → false ≡ test (same_effects (bag R) X)
-  fails-in l p e z = sym (test-no (same_effects (bag R) X) (λ h. clash (e ∙ counted-every L l (λ x _. of-level h x)) (not-true p z)))
+  pub balance-fails : (l : List Effect) (p : Bool) → p ≡ list_all L l → p ≡ false → false ≡ test (same_effects (bag R) X)
+  balance-fails l p e z =
+      sym (test-no (same_effects (bag R) X) (λ h. clash (e ∙ counted-every L l (λ x _. of-level h x)) z))
 
-  pub balance-result : (p : Bool) → p ≡ every L R → not p ≡ true → false ≡ test (same_effects (bag R) X)
-  balance-result p e z = fails-in R p e z
-
-  pub balance-given : (p : Bool) → p ≡ every L A → not p ≡ true → false ≡ test (same_effects (bag R) X)
-  balance-given p e z = fails-in A p e z
-
-  pub balance-added : (p : Bool) → p ≡ every L R → not p ≡ false → (q : Bool) → q ≡ every L A → not q ≡ false → (s : Bool)
-      → s ≡ every L D
-      → s ≡ test (same_effects (bag R) X)
-  balance-added p e x q f y true g =
-      sym (test-yes (same_effects (bag R) X) (all-level (sym e ∙ not-false p x) (sym f ∙ not-false q y) (sym g)))
-  balance-added p e x q f y false g = fails-in D false g refl
+  pub balance-holds : list_all L R ≡ true → list_all L A ≡ true → (s : Bool) → s ≡ list_all L D → s ≡ test (same_effects (bag R) X)
+  balance-holds p q true g = sym (test-yes (same_effects (bag R) X) (all-level p q (sym g)))
+  balance-holds p q false g = balance-fails D false g refl

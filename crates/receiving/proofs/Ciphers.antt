@@ -1,8 +1,10 @@
 -- Which rows open: ciphers only, and a cipher by the partner of its key. Assumes nothing.
 use Prim.Native.Nat.{ℕ, ◌<◌}
-use mathlib.Core.Bool.{Bool, true, false}
+use mathlib.Core.Bool.{Bool, true}
 use mathlib.Core.List.{List}
 use mathlib.Core.Path.{◌≡◌, sym, ap, ◌∙◌}
+use lib.Dec.{eqb}
+use borrow.Author.Tests.{ne_eqb}
 use Rattle.terms.specs.Term.{partner}
 use Rattle.terms.specs.Table.{term}
 use Rattle.book.specs.Layout.{table, rows, kind, row_first}
@@ -14,8 +16,8 @@ use Rattle.holding.specs.View.{view}
 use Rattle.receiving.specs.Turn.Laws.{opens_not, opens-cipher, cipher-row}
 
 module _ (b e : List ℕ) (v : Valid b) (r k : ℕ) (h : r < rows b) (d : k ≡ kind b r) where
-  pub no-cipher : (k ≡ 2 → ⊥) → false ≡ can_open (view b e) (term (table b) r)
-  no-cipher n = sym (opens_not b v r h (view b e) (λ z. n (d ∙ z)))
+  pub no-cipher : (k ≡ 2 → ⊥) → eqb k 2 ≡ can_open (view b e) (term (table b) r)
+  no-cipher n = ne_eqb k 2 n ∙ sym (opens_not b v r h (view b e) (λ z. n (d ∙ z)))
 
   pub by_key : (x : ℕ) (y : Bool) → k ≡ 2 → x ≡ entry b (row_first b r) → y ≡ buildable (view b e) (partner (term (table b) x))
       → y ≡ can_open (view b e) (term (table b) r)

@@ -39,6 +39,6 @@ open-words b e v r p n h k =
 
 pub open-wrote : (b e : List ℕ) → Valid b → (r p n c q x : ℕ) → r < rows b → kind b r ≡ 2
     → c ≡ row_count b r → q ≡ c - 1 → x ≡ entry b (row_first b r)
-    → {o m l s : List ℕ} {a i j z : ℕ} → Wrote (5 ∷ p ∷ []) o a m i → Wrote (n ∷ q ∷ []) m i l j → Wrote (partner_words b e x) l j s z
-    → Wrote (program_words (row_of b) (unlocked (term (table b) r) p (view b e) n).events) o a s z
-open-wrote b e v r p n c q x h k d g y f u w = wrote_as (wrote_then f (wrote_then u w)) (open-words b e v r p n h k ∙ rw (g, d, y))
+    → {o m s : List ℕ} {a i j : ℕ} → Wrote (5 ∷ p ∷ n ∷ q ∷ []) o a m i → Wrote (partner_words b e x) m i s j
+    → Wrote (program_words (row_of b) (unlocked (term (table b) r) p (view b e) n).events) o a s j
+open-wrote b e v r p n c q x h k d g y f w = wrote_as (wrote_then f w) (open-words b e v r p n h k ∙ rw (g, d, y))

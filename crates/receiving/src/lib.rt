@@ -1,7 +1,7 @@
 // Figure 3's R, opening first: what a party does with the terms that arrive at its placeholders. `receive_messages` and `receive` write the
 // CHECKs and OPENs, put what is stored behind the last in the log, and give back the dictionary afterwards. All of it is the
 // meaning's own (translation/specs/Receive.antt), for a valid book and the table of its partners.
-#![tactic(auto)]
+#![tactic(auto, using(book::specs::Headed::Laws::headed_rules))]
 
 ghost use Rattle.std.specs.Prelude.{◌≡◌, ◌<◌};
 ghost use Rattle.words.specs.Overlay.{Wrote};
@@ -17,7 +17,7 @@ ghost use Rattle.receiving.specs.Receiving.{standing, row_did, list_did, rest_di
 
 use book::{ByRow, Code, Kind, entry, first_part, row_count, row_first, row_kind};
 use holding::{Entry, buildable, can_open, write_image, write_partner};
-use words::{narrow, put2, put3, wide};
+use words::{narrow, put_each, wide};
 
 // What a party holds, an entry for each row; the step that it is at; its next placeholder; the place in the log of what it stores next.
 #[derive(Drop)]
@@ -80,10 +80,7 @@ fn opens(book: &[u32], partners: &ByRow, entries: &ByRow, row: u32) -> bool
     requires { Valid book.now × Partners book.now partners.now × (row < rows book.now) }
     ensures { result ≡ can_open (view book.now entries.now) (term (table book.now) row) }
 {
-    if row_kind(book, row) != Kind::CIPHER {
-        return false;
-    }
-    can_open(book, partners, entries, first_part(book, row))
+    row_kind(book, row) == Kind::CIPHER && can_open(book, partners, entries, first_part(book, row))
 }
 
 // The event that compares the placeholder with the row's image.
@@ -98,7 +95,7 @@ fn put_check(
     requires { Valid book.now × (row < rows book.now) }
     ensures { Wrote (program_words (row_of book.now) (compared (term (table book.now) row) place (view book.now entries.now)).events) out.old at out.new result }
 {
-    let next = put2(out, at, Code::CHECK, place);
+    let next = put_each(out, at, [Code::CHECK, place]);
     write_image(book, entries, row, out, next)
 }
 
@@ -116,9 +113,9 @@ fn put_open(
     requires { Valid book.now × Partners book.now partners.now × (row < rows book.now) × (kind book.now row ≡ 2) }
     ensures { Wrote (program_words (row_of book.now) (unlocked (term (table book.now) row) place (view book.now entries.now) from).events) out.old at out.new result }
 {
-    let next = put2(out, at, Code::OPEN, place);
-    let last = put2(out, next, from, narrow(row_count(book, row) - 1));
-    write_partner(book, partners, entries, first_part(book, row), out, last)
+    let contents = narrow(row_count(book, row) - 1);
+    let next = put_each(out, at, [Code::OPEN, place, from, contents]);
+    write_partner(book, partners, entries, first_part(book, row), out, next)
 }
 
 // A row that can't be opened: it is compared if it is buildable, and else stored. In the entries, with nothing handed on.
@@ -142,7 +139,7 @@ fn settle(
         return Settled { kept, at: last };
     }
     entries[wide(row)] = Entry::stored(step, place);
-    let last = put3(log, kept, row, place, step);
+    let last = put_each(log, kept, [row, place, step]);
     Settled { kept: last, at }
 }
 

@@ -1,7 +1,6 @@
 -- `receiving::receive` and `receiving::receive_list` meet their contracts: a row is begun and what it leaves follows;
 -- in the loop, whatever ends the rest ends the whole. Assumes nothing.
 use Rattle.std.proofs.Common.{arith}
-use Rattle.book.specs.Headed.Laws.{small-pool}
 use Rattle.receiving.proofs.Going.{going-all, going-fits, going_on, going-ready, going-rest, going_end}
 use Rattle.receiving.proofs.+receive_receive_list.Goals as goal
 
@@ -41,9 +40,6 @@ receive_list-receive-here-requires t c =
         fits = going-fits c.loop-k.invariant _ c.loop-k-test.true c.entry.ensures.0;
       },
     )
-
-pub receive_list-overflow_add-i : goal.receive_list-overflow_add-i
-receive_list-overflow_add-i t c = omega (arith, small-pool)
 
 -- one row more is received at its placeholder
 pub receive_list-loop-k-preserved : goal.receive_list-loop-k-preserved

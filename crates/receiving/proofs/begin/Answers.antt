@@ -2,25 +2,14 @@
 -- settled leaves nothing. Assumes nothing.
 use mathlib.Core.Path.{sym, ◌∙◌}
 use native.Mathlib.Omega.{arith}
-use borrow.Author.Rules.{rules}
-use Rattle.book.specs.Headed.Laws.{valid-headed}
 use Rattle.receiving.proofs.Beginning.{begun-cipher, begun-key, begun-low, begun-ready, begun_opened, begun-settled}
 use Rattle.receiving.proofs.begin.Goals as goal
 use Rattle.receiving.proofs.begin.Goals.{After-opens}
-
-pub opens-requires : goal.opens-requires
-opens-requires c = (search rules, search rules, search rules)
 
 -- the row opens, so it is a cipher
 pub put_open-last-requires : goal.put_open-last-requires
 put_open-last-requires c = let ready = c.requires in
     (ready.valid, ready.partners, ready.row, begun-cipher ready c.opens.ensures c.if-opens.true)
-
-pub row_first-first-requires : goal.row_first-first-requires
-row_first-first-requires c = search (valid-headed, rules)
-
-pub row_count-left-requires : goal.row_count-left-requires
-row_count-left-requires c = search (valid-headed, rules)
 
 -- and has a key
 pub overflow_sub-left : goal.overflow_sub-left

@@ -3,16 +3,12 @@
 use mathlib.Core.Path.{sym, ◌∙◌}
 use native.Mathlib.Omega.{arith}
 use borrow.Author.Rules.{rules}
-use Rattle.book.specs.Headed.Laws.{small-pool}
 use Rattle.receiving.proofs.Going.{fresh-ready, fresh-brought, going_start, going-fits, going_on, going_end}
 use Rattle.receiving.proofs.receive_messages.Goals as goal
 
 -- the messages' placeholders are handed out, and none is received yet
 pub loop-k-init : goal.loop-k-init
 loop-k-init c = going_start c.requires c.narrow.ensures (search rules)
-
-pub opens-requires : goal.opens-requires
-opens-requires c = (search rules, search rules, omega arith)
 
 -- the message opens, and there is room for its placeholders
 pub receive-there-requires : goal.receive-there-requires
@@ -46,9 +42,6 @@ settle-settled-requires c = let ready = c.requires in
       timely = ready.timely;
       size = c.loop-k.invariant.size;
     }
-
-pub overflow_add-i : goal.overflow_add-i
-overflow_add-i c = omega (arith, small-pool)
 
 -- none is left
 pub returns : goal.returns

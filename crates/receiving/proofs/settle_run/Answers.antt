@@ -2,17 +2,12 @@
 -- still going. Assumes nothing.
 use mathlib.Core.Path.{sym, ◌∙◌}
 use native.Mathlib.Omega.{arith}
-use borrow.Author.Rules.{rules}
-use Rattle.book.specs.Headed.Laws.{small-pool}
 use Rattle.receiving.proofs.Going.{going-all, going_on}
 use Rattle.receiving.proofs.settle_run.Goals as goal
 
 -- no row is received yet
 pub loop-k-init : goal.loop-k-init
 loop-k-init c = going-all c.requires
-
-pub opens-requires : goal.opens-requires
-opens-requires c = (search rules, search rules, omega arith)
 
 -- the row doesn't open
 pub settle-settled-requires : goal.settle-settled-requires
@@ -28,9 +23,6 @@ settle-settled-requires c = let bounded = c.requires.bounded in
       shut = sym c.opens.ensures ∙ c.if-opens.false;
       size = c.loop-k.invariant.size;
     }
-
-pub overflow_add-i : goal.overflow_add-i
-overflow_add-i c = omega (arith, small-pool)
 
 -- one row more is settled
 pub loop-k-preserved : goal.loop-k-preserved

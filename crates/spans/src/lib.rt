@@ -36,19 +36,23 @@ pub trait Nested {
         ensures { (result ≡ parts c) × (result ≤ 2) };
 }
 
-// The sorts.
+// The sort of terms.
 #[derive(Drop)]
 pub struct Term {}
 
+// The sort of effects.
 #[derive(Drop)]
 pub struct Effect {}
 
+// The sort of types.
 #[derive(Drop)]
 pub struct Type {}
 
+// The sort of environments.
 #[derive(Drop)]
 pub struct Environment {}
 
+// The sort of processes.
 #[derive(Drop)]
 pub struct Process {}
 

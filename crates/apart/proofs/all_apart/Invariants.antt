@@ -1,6 +1,5 @@
 -- `apart::all_apart` meets its contract: all names that are bound before the place i are apart. Assumes nothing.
-use Prim.Native.Nat.{◌-◌}
-use lib.ListN.{length}
+use Rattle.std.proofs.Common.{length, ◌-◌}
 use Rattle.apart.specs.Bound.Asked.{Passing}
 use Rattle.apart.proofs.all_apart.Given as goal
 

@@ -1,50 +1,31 @@
 -- `apart::bound_twice` meets its contract: before the place i, x is bound n times. Assumes nothing.
-use borrow.Author.Rules.{rules}
-use native.Mathlib.Omega.{arith}
-use Rattle.apart.specs.Bound.Asked.{counting-begin, counting-inside, counting-own, counting-few, counting-names, counting-twice, counting-again, counting-done}
+use Rattle.std.proofs.Common.{arith}
+use Rattle.spans.specs.Behind.Laws.{ends_at}
+use Rattle.apart.specs.Bound.Asked.{counting-begin, counting-inside, counting-some, counting-names, counting-twice, counting-again, counting-done}
 use Rattle.apart.proofs.bound_twice.Goals as goal
 
 pub loop-due-init : goal.loop-due-init
 loop-due-init c = search counting-begin
 
-pub process_own-own-requires : goal.process_own-own-requires
-process_own-own-requires c = search counting-inside
+pub process_own-requires : goal.process_own-requires
+process_own-requires c = search counting-inside
+
+pub unwrap-own-requires : goal.unwrap-own-requires
+unwrap-own-requires c = search counting-some
 
 pub same_names-more-requires : goal.same_names-more-requires
-same_names-more-requires c = search counting-names
+same_names-more-requires c = let own = ends_at _ _ _ _ _ c.process_own.ensures c.unwrap-own.ensures in
+    search counting-names
 
 -- x is bound a second time
 pub returns-then-n-more-gt1 : goal.returns-then-n-more-gt1
-returns-then-n-more-gt1 c = counting-twice _ _ _ _ _ _ _ c.loop-due.invariant c.loop-due-test.true _
-    c.process_own-own.ensures _
-    c.same_names-more.ensures.0 c.if-n-more-gt1.true
-
-pub offset_bounds-w-i : goal.offset_bounds-w-i
-offset_bounds-w-i c = let l = counting-inside _ _ _ _ _ _ _ c.loop-due.invariant c.loop-due-test.true in
-    search rules
-
-pub bounds-w-i : goal.bounds-w-i
-bounds-w-i c = let l = counting-inside _ _ _ _ _ _ _ c.loop-due.invariant c.loop-due-test.true in
-    omega arith
-
-pub overflow_add-due : goal.overflow_add-due
-overflow_add-due c = let l = counting-inside _ _ _ _ _ _ _ c.loop-due.invariant c.loop-due-test.true in
-    let f = counting-few _ _ _ _ _ _ _ c.loop-due.invariant in
-    omega arith
-
-pub overflow_sub-due : goal.overflow_sub-due
-overflow_sub-due c = let l = counting-inside _ _ _ _ _ _ _ c.loop-due.invariant c.loop-due-test.true in
-    let f = counting-few _ _ _ _ _ _ _ c.loop-due.invariant in
-    omega arith
-
--- a process's own words are at least one
-pub loop-due-smaller : goal.loop-due-smaller
-loop-due-smaller c = let own = counting-own _ _ _ _ _ _ _ c.loop-due.invariant c.loop-due-test.true _
-    c.process_own-own.ensures in
-    omega (arith, own.after, own.inside)
+returns-then-n-more-gt1 c = let own = ends_at _ _ _ _ _ c.process_own.ensures c.unwrap-own.ensures in
+    counting-twice _ _ _ _ _ _ _ c.loop-due.invariant c.loop-due-test.true _ own _ c.same_names-more.ensures.0 (omega arith)
 
 pub loop-due-preserved : goal.loop-due-preserved
-loop-due-preserved c = search counting-again
+loop-due-preserved c = let own = ends_at _ _ _ _ _ c.process_own.ensures c.unwrap-own.ensures in
+    counting-again _ _ _ _ _ _ _ c.loop-due.invariant c.loop-due-test.true _ own _ c.same_names-more.ensures.0 c.if-n-more-gt1.false _
+    c.process_parts.ensures.0 c.process_parts.ensures.1
 
 pub returns : goal.returns
 returns c = search counting-done

@@ -1,6 +1,5 @@
 -- `apart::bound_twice` meets its contract: before the place i, x is bound n times. Assumes nothing.
-use Prim.Native.Nat.{◌-◌}
-use lib.ListN.{length}
+use Rattle.std.proofs.Common.{length, ◌-◌}
 use Rattle.apart.specs.Bound.Asked.{Counting}
 use Rattle.apart.proofs.bound_twice.Given as goal
 

@@ -1,33 +1,32 @@
 -- `apart::in_environment` meets its contract: no entry before the place i is for x. Assumes nothing.
-use native.Mathlib.Omega.{arith}
-use Rattle.apart.specs.Bound.Asked.{entries-begin, entries-end, entries-name, entries-type-at, entries-found, entries-again, entries-past}
+use Rattle.std.proofs.Common.{rules}
+use Rattle.spans.specs.Behind.Laws.{ends_at}
+use Rattle.apart.specs.Bound.Asked.{entries-begin, entries-inside, entries-end, entries-name, entries-some, entries-found, entries-again}
 use Rattle.apart.proofs.in_environment.Goals as goal
 
 pub loop-i-init : goal.loop-i-init
 loop-i-init c = search entries-begin
 
-pub returns-then-w-i-ne2 : goal.returns-then-w-i-ne2
-returns-then-w-i-ne2 c = search entries-end
+pub offset_bounds-w-i : goal.offset_bounds-w-i
+offset_bounds-w-i c = let inside = entries-inside _ _ _ _ c.loop-i.invariant in
+    search rules
+
+pub bounds-w-i : goal.bounds-w-i
+bounds-w-i c = search entries-inside
 
 -- an entry's name stands behind its first word
-pub overflow_add-i : goal.overflow_add-i
-overflow_add-i c = let l = entries-name _ _ _ _ c.loop-i.invariant c.if-w-i-ne2.false in
-    omega arith
-
 pub bounds-w-i-in-loop-i : goal.bounds-w-i-in-loop-i
-bounds-w-i-in-loop-i c = let l = entries-name _ _ _ _ c.loop-i.invariant c.if-w-i-ne2.false in
-    omega arith
+bounds-w-i-in-loop-i c = search entries-name
 
 pub returns-then-w-i : goal.returns-then-w-i
 returns-then-w-i c = search entries-found
 
--- an entry has at least two words
-pub loop-i-smaller : goal.loop-i-smaller
-loop-i-smaller c = let end = entries-type-at _ _ _ _ c.loop-i.invariant c.if-w-i-ne2.false _ c.type_end-next.ensures in
-    omega (arith, end.after, end.inside)
+pub unwrap-i-requires : goal.unwrap-i-requires
+unwrap-i-requires c = search entries-some
 
 pub loop-i-preserved : goal.loop-i-preserved
-loop-i-preserved c = search entries-again
+loop-i-preserved c = let next = ends_at _ _ _ _ _ c.type_end.ensures c.unwrap-i.ensures in
+    search entries-again
 
 pub returns : goal.returns
-returns c = search entries-past
+returns c = search entries-end

@@ -1,6 +1,5 @@
 -- `apart::in_environment` meets its contract: no entry before the place i is for x. Assumes nothing.
-use Prim.Native.Nat.{◌-◌}
-use lib.ListN.{length}
+use Rattle.std.proofs.Common.{length, ◌-◌}
 use Rattle.apart.specs.Bound.Asked.{Entries}
 use Rattle.apart.proofs.in_environment.Given as goal
 

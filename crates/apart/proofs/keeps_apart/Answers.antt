@@ -1,18 +1,17 @@
 -- `apart::keeps_apart` meets its contract: an environment, a process behind it, and nothing more. Assumes nothing.
-use Rattle.apart.specs.Bound.Asked.{asked-no-environment, asked-no-process, asked-more, placed, asked-apart}
+use Rattle.std.proofs.Common.{◌∙◌, ne_eqb}
+use Rattle.apart.specs.Bound.Asked.{asked-no-environment, asked-no-process, asked-more, asked-apart}
 use Rattle.apart.proofs.keeps_apart.Goals as goal
 
-pub returns-then-p-eq0 : goal.returns-then-p-eq0
-returns-then-p-eq0 c = search asked-no-environment
+pub returns-in_default : goal.returns-in_default
+returns-in_default c = asked-no-environment _ c.in_default.ensures
 
-pub returns-then-end-eq0 : goal.returns-then-end-eq0
-returns-then-end-eq0 c = search asked-no-process
+pub returns-in_default-process_end : goal.returns-in_default-process_end
+returns-in_default-process_end c = asked-no-process _ _ c.in-Some.ensures c.in_default-process_end.ensures
 
 pub returns-then-end-asked : goal.returns-then-end-asked
-returns-then-end-asked c = search asked-more
+returns-then-end-asked c = asked-apart _ _ c.in-Some.ensures _ c.in-Some-process_end.ensures c.if-end-asked.true _ c.all_apart.ensures
 
-pub all_apart-requires : goal.all_apart-requires
-all_apart-requires c = search placed
-
-pub returns : goal.returns
-returns c = search asked-apart
+pub returns-else-end-asked : goal.returns-else-end-asked
+returns-else-end-asked c =
+    ne_eqb _ _ c.if-end-asked.false ∙ asked-more _ _ c.in-Some.ensures _ c.in-Some-process_end.ensures c.if-end-asked.false

@@ -1,18 +1,14 @@
--- `apart::names_apart` meets its contract: a process binds no name, one, or two. Assumes nothing.
-use Rattle.std.proofs.Common.{ap, not}
-use Rattle.apart.specs.Bound.Asked.{names-apart-none, names-apart-first, names-apart-one, names-apart-two}
+-- `apart::names_apart` meets its contract: each of the names is asked for. Assumes nothing.
+use Rattle.std.proofs.Common.{rules, tests, ◌+◌, take, drop, get_or}
+use Rattle.std.proofs.lemmas.Iterator.{YieldsList-from_slice}
+use Rattle.std.proofs.lemmas.Iterator.Search.{all_from_yields_List}
+use Rattle.typing.specs.Reading.{environment_at}
+use Rattle.apart.specs.Bound.{process_names, names_in, binders_at, name_apart}
+use Rattle.apart.specs.Bound.Asked.{each_apart}
 use Rattle.apart.proofs.names_apart.Goals as goal
 
-pub returns-then-n-eq0 : goal.returns-then-n-eq0
-returns-then-n-eq0 c = search names-apart-none
-
-pub returns-then-n-eq1 : goal.returns-then-n-eq1
-returns-then-n-eq1 c = search names-apart-one
-
 pub returns : goal.returns
-returns c = search names-apart-two
-
-pub returns-then-not-name_apart : goal.returns-then-not-name_apart
-returns-then-not-name_apart c = names-apart-first c.args.w.now _ _ _ _ c.process_names-n.ensures.0 c.requires.1
-    c.if-n-eq0.false
-    c.process_names-n.ensures.1 _ c.name_apart.ensures (ap not c.if-not-name_apart.true)
+returns c =
+    each_apart _ _ _ _
+    (all_from_yields_List (λ x. name_apart (names_in (environment_at c.args.w.now)) (binders_at c.args.w.now c.args.p) x) _ _ _ c.all.ensures.ran
+    (YieldsList-from_slice (take (process_names (get_or c.args.w.now c.args.i 0)) (drop (c.args.i + 1) c.args.w.now)) (cc)) (λ x r q k. search (rules, tests)))

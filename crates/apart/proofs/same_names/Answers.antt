@@ -1,13 +1,11 @@
--- `apart::same_names` meets its contract: a process binds no name, one, or two. Assumes nothing.
-use native.Mathlib.Omega.{arith}
-use Rattle.apart.specs.Bound.Asked.{same_none, same-one, same-two}
+-- `apart::same_names` meets its contract: the names that are x are counted. Assumes nothing.
+use Rattle.std.proofs.Common.{rules, ◌≡◌, ◌==◌, ◌+◌, take, drop, get_or}
+use Rattle.std.specs.List.{count_by}
+use Rattle.apart.specs.Bound.{process_names}
+use Rattle.apart.specs.Bound.Asked.{count-few}
 use Rattle.apart.proofs.same_names.Goals as goal
 
-pub returns-then-n-eq0 : goal.returns-then-n-eq0
-returns-then-n-eq0 c = (search same_none, omega arith)
-
-pub returns-then-n-eq1 : goal.returns-then-n-eq1
-returns-then-n-eq1 c = (search same-one, omega arith)
-
 pub returns : goal.returns
-returns c = (search same-two, omega arith)
+returns c =
+    let m : c.count.result ≡ count_by (λ y. y == c.args.x) (take (process_names (get_or c.args.w.now c.args.i 0)) (drop (c.args.i + 1) c.args.w.now)) = search rules in
+    count-few c.args.w.now c.args.i _ _ m

@@ -1,13 +1,13 @@
 -- Along a process's words: what is still to come, and the names that it binds. Assumes nothing.
 use Prim.Native.Nat.{ℕ, zero, suc, ◌+◌, ◌-◌, ◌≤◌, ◌<◌}
 use mathlib.Core.List.{List, [], ◌∷◌, ◌++◌}
-use Rattle.std.proofs.Common.{inl, inr, ◌∙◌, length-drop, drop_of_length-le, drop-cons}
+use Rattle.std.proofs.Common.{◌∙◌, length-drop, drop_of_length-le, drop-cons}
 use Rattle.std.proofs.Math.Option.{none, some}
 use Rattle.std.proofs.Math.Path.{◌≡◌, refl, sym, ap}
 use native.Mathlib.Omega.{arith}
 use Rattle.std.proofs.Math.Decide.{dec_lt}
 use Rattle.std.proofs.Math.Numerals.{add-one}
-use Rattle.std.specs.Prelude.{length, drop, take, get_or}
+use Rattle.std.specs.Prelude.{length, drop, take, get_or, Option as Answer, None, Some, IsSome}
 use Rattle.words.specs.Choice.{pick, then}
 use Rattle.typing.specs.Reading.{processes, process_at}
 use Rattle.spans.specs.Behind.{rest_of, At, Ends, skip_name, times, skips, process_own, process_parts}
@@ -101,27 +101,25 @@ module _ (w : List ℕ) (end i due : ℕ) (bs : List ℕ) (t : Along w end i due
       rw (drop-cons w i 0 (along-inside h)) (sym (processes-own (t.fuel - 1) (due - 1) q (get_or w i 0) (drop (suc i) w) e))
       ∙ sym (ap rest_of (reading h)) ∙ t.reads
 
-  pub along-own : 0 < due → (r : ℕ) → Ends w (i + 1) (process_own (drop i w)) r → At w (i + 1) (process_own (drop i w)) r
+  pub along-some : 0 < due → (r : Answer ℕ) → Ends w (i + 1) (process_own (drop i w)) r → IsSome r
   unfolding then
-  along-own h r (inl n) =
-      let e : none ≡ some (drop end w) = rw (n.none, then) at (here h _ refl) in
+  along-some h None n =
+      let e : none ≡ some (drop end w) = rw (n, then) at (here h _ refl) in
       absurd (let y : ◌≡◌ {A = ℕ} 0 1 = cc in omega arith)
-  along-own h r (inr b) = b
+  along-some h (Some r) b = refl
 
   own-words : 0 < due → (r : ℕ) → At w (i + 1) (process_own (drop i w)) r → process_own (get_or w i 0 ∷ drop (suc i) w) ≡ some (drop r w)
   own-words h r b = rw (drop-cons w i 0 (along-inside h)) at b.rest
 
-  pub along-names : 0 < due → (r : ℕ) → Ends w (i + 1) (process_own (drop i w)) r → i + process_names (get_or w i 0) < length w
-  along-names h r q =
-      let b = along-own h r q in
+  pub along-names : 0 < due → (r : ℕ) → At w (i + 1) (process_own (drop i w)) r → i + process_names (get_or w i 0) < length w
+  along-names h r b =
       let n = names-there (get_or w i 0) (drop (suc i) w) (drop r w) (own-words h r b) in
       omega (arith, length-drop (suc i) w, along-inside h)
 
-  pub along-next : 0 < due → (r : ℕ) → Ends w (i + 1) (process_own (drop i w)) r → (n : ℕ) → n ≡ process_parts (get_or w i 0) → n ≤ 2
+  pub along-next : 0 < due → (r : ℕ) → At w (i + 1) (process_own (drop i w)) r → (n : ℕ) → n ≡ process_parts (get_or w i 0) → n ≤ 2
       → Next w end i due bs r n
   unfolding then
-  along-next h r q n e k =
-      let b = along-own h r q in
+  along-next h r b n e k =
       let s = sums due n _ h e in
       let reads : rest_of (processes (t.fuel - 1) (due + n - 1) (drop r w)) ≡ some (drop end w) = rw (b.rest, then) at (here h (due + n - 1) s) in
       let bound = processes-bound (t.fuel - 1) (due - 1) (due + n - 1) (get_or w i 0) (drop (suc i) w) (drop r w) (drop end w) s (own-words h r b) reads in

@@ -1,53 +1,50 @@
 -- The asked process's bound names, one turn at a time. Assumes nothing.
-use Rattle.std.specs.Prelude.{ℕ, suc, ◌+◌, ◌-◌, ◌≤◌, ◌<◌, Bool, true, false, not, ◌&&◌, ◌||◌, ◌≡◌, eqb, ltb, length, take, get_or}
-use Rattle.std.proofs.Math.Bool.{and_assoc, and-true}
+use Rattle.std.specs.Prelude.{ℕ, suc, ◌+◌, ◌-◌, ◌≤◌, ◌<◌, Bool, true, false, not, ◌&&◌, ◌||◌, ◌⊎◌, ◌≡◌, ◌==◌, cond, eqb, ltb, length, take, get_or, Option as Answer, None, Some, IsSome}
+use Rattle.std.proofs.Math.Bool.{and_assoc}
 use mathlib.Core.List.{List, [], ◌∷◌, ◌++◌}
-use Rattle.std.proofs.Common.{inl, inr, ◌∙◌, subst, arith}
+use Rattle.std.proofs.Common.{inl, inr, zero-add, ◌∙◌, subst, arith}
 use Rattle.std.proofs.Math.Option.{Option, none, some}
 use Rattle.std.proofs.Math.Path.{refl, sym, ap}
 use Rattle.std.proofs.Math.Decide.{dec_lt, ℕ_discrete as dec_eq}
 use Rattle.std.proofs.Math.ListN.{drop, drop_of_length-le}
 use Rattle.std.proofs.Math.Seq.{drop-cons}
+use Rattle.std.specs.List.{count_by, list_all}
+use Rattle.std.proofs.lemmas.List.Recursion.{is_count_by}
+use Rattle.std.proofs.lemmas.List.Sums.{count_by-le-length}
+use Rattle.std.proofs.Math.ListN.{length-take}
 use borrow.Author.Tests.{eq-eqb, ne_eqb, lt-ltb, le-ltb, not-true, not-false}
 use Rattle.words.specs.Choice.{pick, then}
-use Rattle.words.specs.Choice.Laws.{pick_true, pick-false, pick_ind, or_left}
+use Rattle.words.specs.Choice.Laws.{pick-false, pick_ind, or_left}
 use Rattle.typing.specs.Types.{Ty, Environment, ◌⦂◌}
 use Rattle.typing.specs.Process.{Process}
 use Rattle.typing.specs.Apart.{binders, names, among, keeps_apart}
 use Rattle.typing.specs.Derivation.{holds, whole}
 use Rattle.typing.specs.Reading.{Read, after, type_at, entries, environment_at, only, processes, process_at}
 use Rattle.spans.specs.Behind.{rest_of, At, Ends, process_own, process_parts}
-use Rattle.spans.specs.Behind.Laws.{Counted, ends-none, ends_at}
+use Rattle.spans.specs.Behind.Laws.{Counted}
 use Rattle.spans.specs.Behind.Environments.{entries-empty, entries-other, entries-cut, entries-no-type, entries-type}
 use Rattle.spans.specs.Behind.Processes.{processes-counted}
 use Rattle.apart.specs.Bound.{all_binders, bound_in, process_names, times_in, binders_at, names_in, name_apart, all_apart, Placed}
 use Rattle.apart.specs.Bound.Names.{times-nil, times-append, apart-clear}
-use Rattle.apart.specs.Bound.Along.{Along, along-begin, Next, along-inside, along-own, along-names, along-next, along-done}
+use Rattle.apart.specs.Bound.Along.{Along, along-begin, Next, along-inside, along-some, along-names, along-next, along-done}
 
 -- ---- process_names
-pub names-split : (c : ℕ) → c ≡ 6 → 2 ≡ process_names c
+pub names-two : (c : ℕ) → c ≡ 6 → 2 ≡ process_names c
 unfolding process_names pick
-names-split c e = sym (ap process_names e)
+names-two c e = sym (ap process_names e)
 
-pub names-new : (c : ℕ) → c ≡ 1 → 1 ≡ process_names c
+pub names-one : (c : ℕ) → (c ≡ 1) ⊎ ((c ≡ 3) ⊎ (c ≡ 11)) → 1 ≡ process_names c
 unfolding process_names pick
-names-new c e = sym (ap process_names e)
+names-one c (inl e) = sym (ap process_names e)
+names-one c (inr (inl e)) = sym (ap process_names e)
+names-one c (inr (inr e)) = sym (ap process_names e)
 
-pub names-inp : (c : ℕ) → c ≡ 3 → 1 ≡ process_names c
+pub names-one-too : (c : ℕ) → 7 ≤ c → c ≤ 8 → 1 ≡ process_names c
 unfolding process_names pick
-names-inp c e = sym (ap process_names e)
-
-pub names-match : (c : ℕ) → c ≡ 7 → 1 ≡ process_names c
-unfolding process_names pick
-names-match c e = sym (ap process_names e)
-
-pub names-decrypt : (c : ℕ) → c ≡ 8 → 1 ≡ process_names c
-unfolding process_names pick
-names-decrypt c e = sym (ap process_names e)
-
-pub names-cast : (c : ℕ) → c ≡ 11 → 1 ≡ process_names c
-unfolding process_names pick
-names-cast c e = sym (ap process_names e)
+names-one-too c d e = elim (dec_eq c 7) [
+  | yes f ↦ sym (ap process_names f)
+  | no f ↦ let g : c ≡ 8 = omega arith in sym (ap process_names g)
+]
 
 pub names-none : (c : ℕ) → (c ≡ 6 → ⊥) → (c ≡ 1 → ⊥) → (c ≡ 3 → ⊥) → (c ≡ 7 → ⊥) → (c ≡ 8 → ⊥) → (c ≡ 11 → ⊥)
     → 0 ≡ process_names c
@@ -57,40 +54,31 @@ names-none c a b d e f g =
     ∙ pick-false {A = ℕ} (eqb c 3) _ _ (ne_eqb c 3 d) ∙ pick-false {A = ℕ} (eqb c 7) _ _ (ne_eqb c 7 e)
     ∙ pick-false {A = ℕ} (eqb c 8) _ _ (ne_eqb c 8 f) ∙ pick-false {A = ℕ} (eqb c 11) _ _ (ne_eqb c 11 g))
 
-pub equal-yes : (a b : ℕ) → a ≡ b → ◌≡◌ {A = ℕ} 1 (pick (eqb a b) 1 0)
-equal-yes a b e = sym (pick_true {A = ℕ} (eqb a b) 1 0 (eq-eqb a b e))
+names-small : (c : ℕ) → process_names c ≤ 2
+unfolding process_names
+names-small c =
+    pick_ind P (eqb c 6) 2 _ (λ _. omega arith) (λ _. pick_ind P (eqb c 1) 1 _ (λ _. omega arith) (λ _. pick_ind P (eqb c 3) 1 _ (λ _. omega arith)
+    (λ _. pick_ind P (eqb c 7) 1 _ (λ _. omega arith) (λ _. pick_ind P (eqb c 8) 1 _ (λ _. omega arith)
+    (λ _. pick_ind P (eqb c 11) 1 0 (λ _. omega arith) (λ _. omega arith))))))
+  where
+    P : ℕ → Type 0
+    P n = n ≤ 2
 
-pub equal-no : (a b : ℕ) → (a ≡ b → ⊥) → ◌≡◌ {A = ℕ} 0 (pick (eqb a b) 1 0)
-equal-no a b e = sym (pick-false {A = ℕ} (eqb a b) 1 0 (ne_eqb a b e))
+-- ---- how often a name stands among a process's own
+picked : (b : Bool) (n : ℕ) → pick b 1 0 + n ≡ cond b (1 + n) n
+unfolding pick
+picked true n = refl
+picked false n = zero-add n
 
--- ---- a process's own names
-module _ (w : List ℕ) (i n : ℕ) (e : n ≡ process_names (get_or w i 0)) (l : i + process_names (get_or w i 0) < length w) where
-  own-none : n ≡ 0 → take (process_names (get_or w i 0)) (drop (i + 1) w) ≡ []
-  own-none z = ap (λ (k : ℕ). take k (drop (i + 1) w)) (sym e ∙ z)
+times-count : (x : ℕ) (l : List ℕ) → count_by (λ y. y == x) l ≡ times_in x l
+unfolding times_in
+times-count x l = sym (is_count_by (times_in x) (λ y. y == x) refl (λ y k. picked (eqb y x) (times_in x k)) l)
 
-  own-one : n ≡ 1 → take (process_names (get_or w i 0)) (drop (i + 1) w) ≡ get_or w (i + 1) 0 ∷ []
-  own-one z = ap (λ (k : ℕ). take k (drop (i + 1) w)) (sym e ∙ z) ∙ rw (drop-cons w (i + 1) 0 (omega arith)) refl
-
-  own-two : n ≤ 2 → (n ≡ 0 → ⊥) → (n ≡ 1 → ⊥)
-      → take (process_names (get_or w i 0)) (drop (i + 1) w) ≡ get_or w (i + 1) 0 ∷ get_or w (i + 2) 0 ∷ []
-  own-two h z y =
-      let two : n ≡ 2 = omega arith in
-      let at : suc (i + 1) ≡ i + 2 = omega arith in
-      ap (λ (k : ℕ). take k (drop (i + 1) w)) (sym e ∙ two) ∙ ap (take 2) (drop-cons w (i + 1) 0 (omega arith))
-      ∙ ap (λ (l : List ℕ). get_or w (i + 1) 0 ∷ take 1 l) (ap (λ (k : ℕ). drop k w) at ∙ drop-cons w (i + 2) 0 (omega arith))
-
-  pub same_none : n ≡ 0 → (x : ℕ) → 0 ≡ times_in x (take (process_names (get_or w i 0)) (drop (i + 1) w))
-  unfolding times_in
-  same_none z x = rw (own-none z) refl
-
-  pub same-one : n ≡ 1 → (x f : ℕ) → f ≡ pick (eqb (get_or w (i + 1) 0) x) 1 0 → f ≡ times_in x (take (process_names (get_or w i 0)) (drop (i + 1) w))
-  unfolding times_in
-  same-one z x f d = rw (own-one z) (omega arith)
-
-  pub same-two : n ≤ 2 → (n ≡ 0 → ⊥) → (n ≡ 1 → ⊥) → (x f g : ℕ) → f ≡ pick (eqb (get_or w (i + 1) 0) x) 1 0
-      → g ≡ pick (eqb (get_or w (i + 2) 0) x) 1 0 → f + g ≡ times_in x (take (process_names (get_or w i 0)) (drop (i + 1) w))
-  unfolding times_in
-  same-two h z y x f g d c = rw (own-two h z y) (omega arith)
+pub count-few : (w : List ℕ) (i x m : ℕ) → m ≡ count_by (λ y. y == x) (take (process_names (get_or w i 0)) (drop (i + 1) w))
+    → (m ≡ times_in x (take (process_names (get_or w i 0)) (drop (i + 1) w))) × (m ≤ 2)
+count-few w i x m e =
+    let l = take (process_names (get_or w i 0)) (drop (i + 1) w) in
+    (e ∙ times-count x l, omega (arith, count_by-le-length (λ y. y == x) l, length-take (process_names (get_or w i 0)) (drop (i + 1) w), names-small (get_or w i 0)))
 
 parts-small : (c : ℕ) → process_parts c ≤ 2
 unfolding process_parts
@@ -112,17 +100,17 @@ module _ (w : List ℕ) (p end x i due n : ℕ) (t : Counting w p end x i due n)
   pub counting-inside : 0 < due → i < length w
   counting-inside h = along-inside w end i due t.later t.along h
 
-  pub counting-own : 0 < due → (r : ℕ) → Ends w (i + 1) (process_own (drop i w)) r → At w (i + 1) (process_own (drop i w)) r
-  counting-own h r q = along-own w end i due t.later t.along h r q
+  pub counting-some : 0 < due → (r : Answer ℕ) → Ends w (i + 1) (process_own (drop i w)) r → IsSome r
+  counting-some h r q = along-some w end i due t.later t.along h r q
 
   pub counting-few : due ≤ i + 1
   counting-few = t.along.few
 
-  pub counting-names : 0 < due → (r : ℕ) → Ends w (i + 1) (process_own (drop i w)) r → i + process_names (get_or w i 0) < length w
+  pub counting-names : 0 < due → (r : ℕ) → At w (i + 1) (process_own (drop i w)) r → i + process_names (get_or w i 0) < length w
   counting-names h r q = along-names w end i due t.later t.along h r q
 
   -- the turn's own share
-  share : 0 < due → (r : ℕ) → Ends w (i + 1) (process_own (drop i w)) r → (m : ℕ) → m ≡ process_parts (get_or w i 0) → m ≤ 2 → (k : ℕ)
+  share : 0 < due → (r : ℕ) → At w (i + 1) (process_own (drop i w)) r → (m : ℕ) → m ≡ process_parts (get_or w i 0) → m ≤ 2 → (k : ℕ)
       → k ≡ times_in x (take (process_names (get_or w i 0)) (drop (i + 1) w)) → (nx : Next w end i due t.later r m)
       → times_in x (binders_at w p) ≡ (n + k) + times_in x nx.later
   share h r q m e l k s nx =
@@ -130,13 +118,13 @@ module _ (w : List ℕ) (p end x i due n : ℕ) (t : Counting w p end x i due n)
       let b = ap (times_in x) nx.bound in
       omega (arith, t.sum)
 
-  pub counting-twice : 0 < due → (r : ℕ) → Ends w (i + 1) (process_own (drop i w)) r → (k : ℕ)
+  pub counting-twice : 0 < due → (r : ℕ) → At w (i + 1) (process_own (drop i w)) r → (k : ℕ)
       → k ≡ times_in x (take (process_names (get_or w i 0)) (drop (i + 1) w)) → 1 < n + k → true ≡ ltb 1 (times_in x (binders_at w p))
   counting-twice h r q k s g =
       let nx = along-next w end i due t.later t.along h r q (process_parts (get_or w i 0)) refl (parts-small (get_or w i 0)) in
       sym (lt-ltb 1 (times_in x (binders_at w p)) (omega (arith, share h r q (process_parts (get_or w i 0)) refl (parts-small (get_or w i 0)) k s nx)))
 
-  pub counting-again : 0 < due → (r : ℕ) → Ends w (i + 1) (process_own (drop i w)) r → (k : ℕ)
+  pub counting-again : 0 < due → (r : ℕ) → At w (i + 1) (process_own (drop i w)) r → (k : ℕ)
       → k ≡ times_in x (take (process_names (get_or w i 0)) (drop (i + 1) w)) → n + k ≤ 1 → (m : ℕ) → m ≡ process_parts (get_or w i 0) → m ≤ 2
       → Counting w p end x r (due + m - 1) (n + k)
   counting-again h r q k s g m e l =
@@ -231,42 +219,37 @@ module _ (w : List ℕ) (p x i : ℕ) (t : Entries w p x i) where
       (ap (λ (k : ℕ). drop k w) one ∙ drop-cons w (i + 1) 0 (entries-name e)
       ∙ ap (λ (k : ℕ). get_or w (i + 1) 0 ∷ drop k w) two)
 
-  pub entries-type-at : get_or w i 0 ≡ 2 → (r : ℕ) → Ends w (i + 2) (rest_of (type_at (drop (i + 2) w))) r
-      → At w (i + 2) (rest_of (type_at (drop (i + 2) w))) r
-  entries-type-at e r (inl n) =
-      absurd (some-not _ t.reads (ap rest_of (entry e) ∙ entries-no-type (t.fuel - 1) _ _ (drop (i + 2) w) e n.none))
-  entries-type-at e r (inr b) = b
+  pub entries-some : get_or w i 0 ≡ 2 → (r : Answer ℕ) → Ends w (i + 2) (rest_of (type_at (drop (i + 2) w))) r → IsSome r
+  entries-some e None n =
+      absurd (some-not _ t.reads (ap rest_of (entry e) ∙ entries-no-type (t.fuel - 1) _ _ (drop (i + 2) w) e n))
+  entries-some e (Some r) b = refl
 
-  onward : (e : get_or w i 0 ≡ 2) (r : ℕ) (b : At w (i + 2) (rest_of (type_at (drop (i + 2) w))) r)
-      → rest_of (entries (t.fuel - 1) (drop r w)) ≡ some (drop p w)
-  onward e r b = sym (entries-type (t.fuel - 1) _ _ (drop (i + 2) w) (drop r w) e b.rest) ∙ sym (ap rest_of (entry e)) ∙ t.reads
+  onward : get_or w i 0 ≡ 2 → (v : List ℕ) → rest_of (type_at (drop (i + 2) w)) ≡ some v → rest_of (entries (t.fuel - 1) v) ≡ some (drop p w)
+  onward e v b = sym (entries-type (t.fuel - 1) _ _ (drop (i + 2) w) v e b) ∙ sym (ap rest_of (entry e)) ∙ t.reads
 
-  named : (e : get_or w i 0 ≡ 2) (r : ℕ) (b : At w (i + 2) (rest_of (type_at (drop (i + 2) w))) r)
-      → among x (names_in (environment_at w)) ≡ (eqb x (get_or w (i + 1) 0) || among x (names_in (entries (t.fuel - 1) (drop r w))))
+  named : get_or w i 0 ≡ 2 → (v : List ℕ) → rest_of (type_at (drop (i + 2) w)) ≡ some v
+      → among x (names_in (environment_at w)) ≡ (eqb x (get_or w (i + 1) 0) || among x (names_in (entries (t.fuel - 1) v)))
   unfolding among
-  named e r b =
+  named e v b =
       t.later ∙ ap (λ (o : Read Environment). among x (names_in o)) (entry e)
-      ∙ ap (among x) (names-entry (t.fuel - 1) _ _ (drop (i + 2) w) (drop r w) (drop p w) e b.rest (onward e r b))
+      ∙ ap (among x) (names-entry (t.fuel - 1) _ _ (drop (i + 2) w) v (drop p w) e b (onward e v b))
 
-  pub entries-found : get_or w i 0 ≡ 2 → (r : ℕ) → Ends w (i + 2) (rest_of (type_at (drop (i + 2) w))) r → get_or w (i + 1) 0 ≡ x
-      → true ≡ among x (names_in (environment_at w))
-  entries-found e r q y =
-      let b = entries-type-at e r q in
-      sym (named e r b ∙ or_left _ _ (eq-eqb x (get_or w (i + 1) 0) (sym y)))
+  pub entries-found : get_or w i 0 ≡ 2 → get_or w (i + 1) 0 ≡ x → true ≡ among x (names_in (environment_at w))
+  entries-found e y = go (rest_of (type_at (drop (i + 2) w))) refl
+    where
+      go : (o : Option (List ℕ)) → rest_of (type_at (drop (i + 2) w)) ≡ o → true ≡ among x (names_in (environment_at w))
+      go none n = absurd (some-not _ t.reads (ap rest_of (entry e) ∙ entries-no-type (t.fuel - 1) _ _ (drop (i + 2) w) e n))
+      go (some v) n = sym (named e v n ∙ or_left _ _ (eq-eqb x (get_or w (i + 1) 0) (sym y)))
 
-  pub entries-again : get_or w i 0 ≡ 2 → (r : ℕ) → Ends w (i + 2) (rest_of (type_at (drop (i + 2) w))) r → (get_or w (i + 1) 0 ≡ x → ⊥)
+  pub entries-again : get_or w i 0 ≡ 2 → (r : ℕ) → At w (i + 2) (rest_of (type_at (drop (i + 2) w))) r → (get_or w (i + 1) 0 ≡ x → ⊥)
       → Entries w p x r
-  entries-again e r q y =
-      let b = entries-type-at e r q in
+  entries-again e r b y =
       record {
         fuel = t.fuel - 1;
         enough = omega (arith, t.enough, b.after);
-        reads = onward e r b;
-        later = named e r b ∙ ap (λ (c : Bool). c || among x (names_in (entries (t.fuel - 1) (drop r w)))) (ne_eqb x (get_or w (i + 1) 0) (λ z. y (sym z)));
+        reads = onward e (drop r w) b.rest;
+        later = named e (drop r w) b.rest ∙ ap (λ (c : Bool). c || among x (names_in (entries (t.fuel - 1) (drop r w)))) (ne_eqb x (get_or w (i + 1) 0) (λ z. y (sym z)));
       }
-
-  pub entries-past : length w ≤ i → false ≡ among x (names_in (environment_at w))
-  entries-past l = absurd (omega (arith, entries-inside))
 
 -- ---- each name is apart
 all_append : (ns bs k l : List ℕ) → all_apart ns bs (k ++ l) ≡ (all_apart ns bs k && all_apart ns bs l)
@@ -285,33 +268,13 @@ unfolding name_apart
 name-twice ns bs x b e h c d =
     sym (ap (λ (y : Bool). not y && not (ltb 1 (times_in x bs))) (sym e ∙ h) ∙ ap not (sym d))
 
-module _ (w ns bs : List ℕ) (i n : ℕ) (e : n ≡ process_names (get_or w i 0)) (l : i + process_names (get_or w i 0) < length w) where
-  pub names-apart-none : n ≡ 0 → true ≡ all_apart ns bs (take (process_names (get_or w i 0)) (drop (i + 1) w))
-  unfolding all_apart
-  names-apart-none z = sym (ap (all_apart ns bs) (own-none w i n e l z))
-
-  pub names-apart-first : (n ≡ 0 → ⊥) → n ≤ 2 → (f : Bool) → f ≡ name_apart ns bs (get_or w (i + 1) 0) → not f ≡ true
-      → false ≡ all_apart ns bs (take (process_names (get_or w i 0)) (drop (i + 1) w))
-  unfolding all_apart
-  names-apart-first z h f d g = elim (dec_eq n 1) [
-    | yes o ↦ sym (ap (all_apart ns bs) (own-one w i n e l o) ∙ ap (λ (c : Bool). c && true) (sym d ∙ not-true _ g))
-    | no o ↦ sym (ap (all_apart ns bs) (own-two w i n e l h z o)
-        ∙ ap (λ (c : Bool). c && (name_apart ns bs (get_or w (i + 2) 0) && true)) (sym d ∙ not-true _ g))
-  ]
-
-  pub names-apart-one : (f : Bool) → f ≡ name_apart ns bs (get_or w (i + 1) 0) → not f ≡ false → n ≡ 1
-      → true ≡ all_apart ns bs (take (process_names (get_or w i 0)) (drop (i + 1) w))
-  unfolding all_apart
-  names-apart-one f d g o = sym (ap (all_apart ns bs) (own-one w i n e l o) ∙ ap (λ (c : Bool). c && true) (sym d ∙ not-false _ g))
-
-  pub names-apart-two : (n ≡ 0 → ⊥) → n ≤ 2 → (f : Bool) → f ≡ name_apart ns bs (get_or w (i + 1) 0) → not f ≡ false → (n ≡ 1 → ⊥)
-      → (g : Bool)
-      → g ≡ name_apart ns bs (get_or w (i + 2) 0) → g ≡ all_apart ns bs (take (process_names (get_or w i 0)) (drop (i + 1) w))
-  unfolding all_apart
-  names-apart-two z h f d y o g c =
-      sym (ap (all_apart ns bs) (own-two w i n e l h z o)
-      ∙ ap (λ (b : Bool). b && (name_apart ns bs (get_or w (i + 2) 0) && true)) (sym d ∙ not-false _ y) ∙ and-true (name_apart ns bs (get_or w (i + 2) 0))
-      ∙ sym c)
+pub each_apart : (ns bs l : List ℕ) (b : Bool) → b ≡ list_all (λ x. name_apart ns bs x) l → b ≡ all_apart ns bs l
+unfolding all_apart
+each_apart ns bs l b e = e ∙ go l
+  where
+    go : (l : List ℕ) → list_all (λ x. name_apart ns bs x) l ≡ all_apart ns bs l
+    go [] = refl
+    go (x ∷ l) = ap (λ (b : Bool). name_apart ns bs x && b) (go l)
 
 -- ---- all names are apart: those before the place i are
 abbrev pub environment_names : List ℕ → List ℕ
@@ -329,13 +292,13 @@ module _ (w : List ℕ) (p end i due : ℕ) (t : Passing w p end i due) where
   pub passing-inside : 0 < due → i < length w
   passing-inside h = along-inside w end i due t.later t.along h
 
-  pub passing-own : 0 < due → (r : ℕ) → Ends w (i + 1) (process_own (drop i w)) r → At w (i + 1) (process_own (drop i w)) r
-  passing-own h r q = along-own w end i due t.later t.along h r q
+  pub passing-some : 0 < due → (r : Answer ℕ) → Ends w (i + 1) (process_own (drop i w)) r → IsSome r
+  passing-some h r q = along-some w end i due t.later t.along h r q
 
   pub passing-few : due ≤ i + 1
   passing-few = t.along.few
 
-  pub passing-names : 0 < due → (r : ℕ) → Ends w (i + 1) (process_own (drop i w)) r → i + process_names (get_or w i 0) < length w
+  pub passing-names : 0 < due → (r : ℕ) → At w (i + 1) (process_own (drop i w)) r → i + process_names (get_or w i 0) < length w
   passing-names h r q = along-names w end i due t.later t.along h r q
 
   cut : (r m : ℕ) (nx : Next w end i due t.later r m) → all_apart (environment_names w) (binders_at w p) (binders_at w p)
@@ -343,14 +306,14 @@ module _ (w : List ℕ) (p end i due : ℕ) (t : Passing w p end i due) where
       && all_apart (environment_names w) (binders_at w p) nx.later)
   cut r m nx = t.same ∙ ap (all_apart (environment_names w) (binders_at w p)) nx.bound ∙ all_append _ _ _ nx.later
 
-  pub passing-fails : 0 < due → (r : ℕ) → Ends w (i + 1) (process_own (drop i w)) r → (b : Bool)
+  pub passing-fails : 0 < due → (r : ℕ) → At w (i + 1) (process_own (drop i w)) r → (b : Bool)
       → b ≡ all_apart (environment_names w) (binders_at w p) (take (process_names (get_or w i 0)) (drop (i + 1) w)) → not b ≡ true
       → false ≡ all_apart (environment_names w) (binders_at w p) (binders_at w p)
   passing-fails h r q b e f =
       let nx = along-next w end i due t.later t.along h r q (process_parts (get_or w i 0)) refl (parts-small (get_or w i 0)) in
       sym (cut r _ nx ∙ ap (λ (c : Bool). c && all_apart (environment_names w) (binders_at w p) nx.later) (sym e ∙ not-true _ f))
 
-  pub passing-again : 0 < due → (r : ℕ) → Ends w (i + 1) (process_own (drop i w)) r → (b : Bool)
+  pub passing-again : 0 < due → (r : ℕ) → At w (i + 1) (process_own (drop i w)) r → (b : Bool)
       → b ≡ all_apart (environment_names w) (binders_at w p) (take (process_names (get_or w i 0)) (drop (i + 1) w)) → not b ≡ false → (m : ℕ)
       → m ≡ process_parts (get_or w i 0) → m ≤ 2 → Passing w p end r (due + m - 1)
   passing-again h r q b e f m d l =
@@ -402,44 +365,37 @@ none_of none e = refl
 none_of (some q) e = absurd (let z : ◌≡◌ {A = ℕ} 0 1 = cc in omega arith)
 
 module _ (w : List ℕ) where
-  pub asked-no-environment : (p : ℕ) → Ends w 0 (rest_of (environment_at w)) p → p ≡ 0 → false ≡ keeps_apart w
+  pub asked-no-environment : rest_of (environment_at w) ≡ none → false ≡ keeps_apart w
   unfolding keeps_apart then holds
-  asked-no-environment p q z = rw (none_of (environment_at w) (ends-none w 0 _ p q z), then)
+  asked-no-environment e = rw (none_of (environment_at w) e, then)
 
-  pub asked-no-process : (p : ℕ) → Ends w 0 (rest_of (environment_at w)) p → (p ≡ 0 → ⊥) → (e : ℕ) → Ends w p (rest_of (process_at (drop p w))) e
-      → e ≡ 0
-      → false ≡ keeps_apart w
-  unfolding keeps_apart then holds whole
-  asked-no-process p q z e r y =
-      let (E, h) = read_of (environment_at w) (drop p w) (ends_at w 0 _ p q z).rest in
-      rw (h, then, none_of (process_at (drop p w)) (ends-none w p _ e r y), then)
+  module _ (p : ℕ) (a : At w 0 (rest_of (environment_at w)) p) where
+    pub asked-no-process : rest_of (process_at (drop p w)) ≡ none → false ≡ keeps_apart w
+    unfolding keeps_apart then holds whole
+    asked-no-process e =
+        let (E, h) = read_of (environment_at w) (drop p w) a.rest in
+        rw (h, then, none_of (process_at (drop p w)) e, then)
 
-  pub asked-more : (p : ℕ) → Ends w 0 (rest_of (environment_at w)) p → (p ≡ 0 → ⊥) → (e : ℕ) → Ends w p (rest_of (process_at (drop p w))) e
-      → (e ≡ 0 → ⊥)
-      → (e ≡ length w → ⊥) → false ≡ keeps_apart w
-  unfolding keeps_apart then holds whole
-  asked-more p q z e r y o =
-      let (E, h) = read_of (environment_at w) (drop p w) (ends_at w 0 _ p q z).rest in
-      let b = ends_at w p _ e r y in
-      let (P, g) = read_of (process_at (drop p w)) (drop e w) b.rest in
-      let c = drop-cons w e 0 (omega (arith, b.inside)) in
-      rw (h, then, g, then, c)
+    module _ (e : ℕ) (b : At w p (rest_of (process_at (drop p w))) e) where
+      pub asked-more : (e ≡ length w → ⊥) → false ≡ keeps_apart w
+      unfolding keeps_apart then holds whole
+      asked-more o =
+          let (E, h) = read_of (environment_at w) (drop p w) a.rest in
+          let (P, g) = read_of (process_at (drop p w)) (drop e w) b.rest in
+          let c = drop-cons w e 0 (omega (arith, b.inside)) in
+          rw (h, then, g, then, c)
 
-  pub placed : (p : ℕ) → Ends w 0 (rest_of (environment_at w)) p → (p ≡ 0 → ⊥) → (e : ℕ) → Ends w p (rest_of (process_at (drop p w))) e
-      → (e ≡ 0 → ⊥)
-      → Placed w p e
-  placed p q z e r y = record { environment = ends_at w 0 _ p q z; process = ends_at w p _ e r y }
+      pub placed : Placed w p e
+      placed = record { environment = a; process = b }
 
-  pub asked-apart : (p : ℕ) → Ends w 0 (rest_of (environment_at w)) p → (p ≡ 0 → ⊥) → (e : ℕ) → Ends w p (rest_of (process_at (drop p w))) e
-      → (e ≡ 0 → ⊥)
-      → e ≡ length w → (b : Bool) → b ≡ all_apart (environment_names w) (binders_at w p) (binders_at w p) → b ≡ keeps_apart w
-  unfolding keeps_apart then holds whole names_in
-  asked-apart p q z e r y o b c =
-      let (E, h) = read_of (environment_at w) (drop p w) (ends_at w 0 _ p q z).rest in
-      let (P, g) = read_of (process_at (drop p w)) (drop e w) (ends_at w p _ e r y).rest in
-      let d : drop e w ≡ [] = drop_of_length-le w {i = e} (omega arith) in
-      let n : environment_names w ≡ names E = names_of E (drop p w) h in
-      rw (h, then, g, then, d) (c ∙ apart-clear (environment_names w) (binders_at w p) ∙ rw (n, binders-at w p P (drop e w) g) refl)
-    where
-      names_of : (E : Environment) (v : List ℕ) → environment_at w ≡ some (E, v) → names_in (environment_at w) ≡ names E
-      names_of E v k = rw k refl
+      pub asked-apart : e ≡ length w → (b : Bool) → b ≡ all_apart (environment_names w) (binders_at w p) (binders_at w p) → b ≡ keeps_apart w
+      unfolding keeps_apart then holds whole names_in
+      asked-apart o c d =
+          let (E, h) = read_of (environment_at w) (drop p w) a.rest in
+          let (P, g) = read_of (process_at (drop p w)) (drop e w) b.rest in
+          let l : drop e w ≡ [] = drop_of_length-le w {i = e} (omega arith) in
+          let n : environment_names w ≡ names E = names_of E (drop p w) h in
+          rw (h, then, g, then, l) (d ∙ apart-clear (environment_names w) (binders_at w p) ∙ rw (n, binders-at w p P (drop e w) g) refl)
+        where
+          names_of : (E : Environment) (v : List ℕ) → environment_at w ≡ some (E, v) → names_in (environment_at w) ≡ names E
+          names_of E v k = rw k refl

@@ -1,5 +1,5 @@
 -- What is read at a place, as a value, and whether two are the same.
-use Rattle.std.specs.Prelude.{ℕ, zero, suc, Bool, true, false, ◌&&◌, ◌||◌, List, [], ◌∷◌, ◌++◌, eqb, drop}
+use Rattle.std.specs.Prelude.{ℕ, zero, suc, Bool, true, false, ◌≡◌, ◌&&◌, ◌||◌, List, [], ◌∷◌, ◌++◌, eqb, drop}
 use Rattle.std.proofs.Math.Option.{none, some}
 use Rattle.words.specs.Choice.{pick, choose}
 use Rattle.typing.specs.Term.{Term, Effect, term_words}
@@ -71,6 +71,10 @@ any_leaf p (Term.cipher M N) = any_leaf p M || any_leaf p N
 unfoldable pub any_leaves : (ℕ → ℕ → Bool) → List Term → Bool
 any_leaves p [] = false
 any_leaves p (M ∷ Ms) = any_leaf p M || any_leaves p Ms
+
+-- what was told of leaves, by their first word and their number, is whether they are of a kind
+abbrev pub TellsLeaf : (ℕ → ℕ → Bool → Type 0) → (ℕ → ℕ → Bool) → Type 0
+TellsLeaf told p = (c n : ℕ) (r : Bool) → told c n r → r ≡ p c n
 
 -- the name x; a variable
 unfoldable pub is_name : ℕ → ℕ → ℕ → Bool

@@ -3,21 +3,20 @@
 // `every_effect` ask a test of each of several effects.
 #![tactic(auto)]
 
-ghost use Rattle.std.specs.Prelude.{Bool, ◌≡◌, ◌+◌, ◌-◌, ◌≤◌, ◌<◌, length, drop, get_or};
+ghost use Rattle.std.specs.Prelude.{◌≡◌, ℕ, Bool, ◌+◌, ◌≤◌, ◌<◌, length, drop, get_or};
 ghost use Rattle.std.proofs.Math.Option.{some};
-ghost use Rattle.words.specs.Choice.{pick};
 ghost use Rattle.words.specs.Run.{run, same_words};
 ghost use Rattle.std.specs.List.{list_all, count_by};
-ghost use Rattle.typing.specs.Term.{Effect, same_term, same_effect, closed, occurs, mentions};
+ghost use Rattle.typing.specs.Term.{Effect, same_term, closed, occurs, mentions};
 ghost use Rattle.typing.specs.Bag.{bag, count};
 ghost use Rattle.typing.specs.Types.{same_type, same_effects, same_environment, same_entry, ◌⦂◌};
 ghost use Rattle.typing.specs.Check.{stands};
 ghost use Rattle.typing.specs.Reading.{term, effect_of, effects, type_at, environment_at};
 ghost use Rattle.spans.specs.Behind.{At, rest_of, type_own};
 ghost use Rattle.alike.specs.Same.Each.{AskedOfEach, Tells};
-ghost use Rattle.alike.specs.Same.{term_in, effect_in, effects_in, type_in, environment_in, test, own_effects, is_name};
+ghost use Rattle.alike.specs.Same.{term_in, effect_in, effects_in, type_in, environment_in, test, own_effects, any_leaf, TellsLeaf};
 
-use spans::{term_end, term_turn, type_end, type_own, type_parts};
+use spans::{term_end, type_end, type_own, type_parts};
 use words::wide;
 
 // The n words from a on and those from b on are the same.
@@ -25,14 +24,7 @@ pub fn same_run(u: &[u32], a: usize, v: &[u32], b: usize, n: usize) -> bool
     requires { (a + n ≤ length u.now) × (b + n ≤ length v.now) }
     ensures { result ≡ same_words (run u.now a n) (run v.now b n) }
 {
-    let mut k = 0;
-    while k < n {
-        if u[a + k] != v[b + k] {
-            return false;
-        }
-        k += 1;
-    }
-    true
+    u[a..a + n] == v[b..b + n]
 }
 
 // The terms from a to e and from b to f are the same.
@@ -40,31 +32,7 @@ pub fn same_term(u: &[u32], a: usize, e: usize, v: &[u32], b: usize, f: usize) -
     requires { At u.now a (rest_of (term (drop a u.now))) e × At v.now b (rest_of (term (drop b v.now))) f }
     ensures { result ≡ test (same_term (term_in u.now a) (term_in v.now b)) }
 {
-    if e - a != f - b {
-        return false;
-    }
-    same_run(u, a, v, b, e - a)
-}
-
-// The effects from a to e and from b to f are the same.
-fn same_effect(u: &[u32], a: usize, e: usize, v: &[u32], b: usize, f: usize) -> bool
-    requires { At u.now a (rest_of (effect_of (drop a u.now))) e × At v.now b (rest_of (effect_of (drop b v.now))) f }
-    ensures { result ≡ test (same_effect (effect_in u.now a) (effect_in v.now b)) }
-{
-    if e - a != f - b {
-        return false;
-    }
-    same_run(u, a, v, b, e - a)
-}
-
-// 1 where it is so, else 0.
-pub fn one(so: bool) -> usize
-    ensures { (result ≡ pick so 1 0) × (result ≤ 1) }
-{
-    if so {
-        return 1;
-    }
-    0
+    u[a..e] == v[b..f]
 }
 
 // How often the effect from b to f stands among the k effects from a to end.
@@ -80,16 +48,7 @@ pub fn count_effect(
     requires { (rest_of (effects k (drop a u.now)) ≡ some (drop end u.now)) × At v.now b (rest_of (effect_of (drop b v.now))) f }
     ensures { result ≡ count (effect_in v.now b) (effects_in u.now a k) }
 {
-    let mut i = a;
-    let mut j = 0;
-    let mut n = 0;
-    while j < k {
-        let e = term_end(u, i + 1);
-        n += one(same_effect(u, i, e, v, b, f));
-        i = e;
-        j += 1;
-    }
-    n
+    count_where(u, a, k, end, |i, e| u[i..e] == v[b..f])
 }
 
 // The k effects from a to end and the l effects from b to last are one multiset.
@@ -106,22 +65,12 @@ pub fn same_bag(
     requires { (rest_of (effects k (drop a u.now)) ≡ some (drop end u.now)) × (rest_of (effects l (drop b v.now)) ≡ some (drop last v.now)) }
     ensures { result ≡ test (same_effects (bag (effects_in u.now a k)) (bag (effects_in v.now b l))) }
 {
-    if k != l {
-        return false;
-    }
-    let mut i = b;
-    let mut j = 0;
-    while j < l {
-        let e = term_end(v, i + 1);
-        let first = count_effect(u, a, k, end, v, i, e);
-        let second = count_effect(v, b, l, last, v, i, e);
-        if first != second {
-            return false;
-        }
-        i = e;
-        j += 1;
-    }
-    true
+    k == l
+        && every_effect(v, b, l, last, |i, e| {
+            let first = count_effect(u, a, k, end, v, i, e);
+            let second = count_effect(v, b, l, last, v, i, e);
+            first == second
+        })
 }
 
 // The types that begin at i and at j, with the same word, have the same effects of their own.
@@ -129,19 +78,17 @@ fn same_own(u: &[u32], i: usize, own: usize, v: &[u32], j: usize, other: usize) 
     requires { (i < length u.now) × (j < length v.now) × At u.now (i + 1) (type_own (drop i u.now)) own × At v.now (j + 1) (type_own (drop j v.now)) other × (get_or u.now i 0 ≡ get_or v.now j 0) }
     ensures { result ≡ test (same_effects (own_effects (drop i u.now)) (own_effects (drop j v.now))) }
 {
-    if u[i] != 5 {
-        return true;
-    }
-    same_bag(
-        u,
-        i + 2,
-        wide(u[i + 1]),
-        own,
-        v,
-        j + 2,
-        wide(v[j + 1]),
-        other,
-    )
+    u[i] != 5
+        || same_bag(
+            u,
+            i + 2,
+            wide(u[i + 1]),
+            own,
+            v,
+            j + 2,
+            wide(v[j + 1]),
+            other,
+        )
 }
 
 // The types from a to e and from b to f are the same. `due` types are still to come.
@@ -153,12 +100,9 @@ pub fn same_type(u: &[u32], a: usize, e: usize, v: &[u32], b: usize, f: usize) -
     let mut j = b;
     let mut due = 1;
     while 0 < due {
-        let own = type_own(u, i);
-        let other = type_own(v, j);
-        if u[i] != v[j] {
-            return false;
-        }
-        if !same_own(u, i, own, v, j, other) {
+        let own = type_own(u, i).unwrap();
+        let other = type_own(v, j).unwrap();
+        if u[i] != v[j] || !same_own(u, i, own, v, j, other) {
             return false;
         }
         due = due + type_parts(u[i]) - 1;
@@ -175,36 +119,43 @@ pub fn same_environment(u: &[u32], a: usize, e: usize, v: &[u32], b: usize, f: u
 {
     let mut i = a;
     let mut j = b;
-    while i < u.len() {
-        if u[i] != v[j] {
-            return false;
-        }
-        if u[i] == 1 {
-            return true;
-        }
-        let own = type_end(u, i + 2);
-        let other = type_end(v, j + 2);
-        if u[i + 1] != v[j + 1] {
-            return false;
-        }
-        if !same_type(u, i + 2, own, v, j + 2, other) {
+    while u[i] == 2 && v[j] == 2 {
+        let own = type_end(u, i + 2).unwrap();
+        let other = type_end(v, j + 2).unwrap();
+        if u[i + 1] != v[j + 1] || !same_type(u, i + 2, own, v, j + 2, other) {
             return false;
         }
         i = own;
         j = other;
     }
-    false
+    u[i] == v[j]
 }
 
-// The name x stands at i.
-fn is_name(w: &[u32], i: usize, x: u32) -> bool
-    requires { (i < length w.now) × (get_or w.now i 0 ≡ 1 → i + 1 < length w.now) }
-    ensures { result ≡ is_name x (get_or w.now i 0) (get_or w.now (i + 1) 0) }
+// Some leaf of the term from a to end, by its first word, 1 for a name and 4 for a variable, and its number, is of the kind that a test
+// holds of. `due` terms are still to come.
+fn some_leaf<F: Fn(u32, u32) -> bool>(w: &[u32], a: usize, end: usize, holds: F) -> bool
+    requires reads { At w.now a (rest_of (term (drop a w.now))) end }
+    requires asked { (c n : ℕ) → F.pre holds c n }
+    ensures { (p : ℕ → ℕ → Bool) → TellsLeaf (F.post holds) p → result ≡ any_leaf p (term_in w.now a) }
 {
-    if w[i] != 1 {
-        return false;
+    let mut i = a;
+    let mut due: usize = 1;
+    while 0 < due {
+        match w[i] {
+            2 | 3 => {
+                due += 1;
+                i += 1;
+            }
+            c => {
+                if holds(c, w[i + 1]) {
+                    return true;
+                }
+                due -= 1;
+                i += 2;
+            }
+        }
     }
-    w[i + 1] == x
+    false
 }
 
 // The name x is one of those of the term from a to end.
@@ -212,17 +163,7 @@ pub fn term_mentions(w: &[u32], a: usize, end: usize, x: u32) -> bool
     requires { At w.now a (rest_of (term (drop a w.now))) end }
     ensures { result ≡ occurs x (term_in w.now a) }
 {
-    let mut i = a;
-    let mut due = 1;
-    while 0 < due {
-        if is_name(w, i, x) {
-            return true;
-        }
-        let turn = term_turn(w[i]);
-        due = due + 2 * turn - 3;
-        i = i + 3 - turn;
-    }
-    false
+    some_leaf(w, a, end, |c, n| c == 1 && n == x)
 }
 
 // No pair type's own variable stands in the term from a to end.
@@ -230,17 +171,7 @@ pub fn term_closed(w: &[u32], a: usize, end: usize) -> bool
     requires { At w.now a (rest_of (term (drop a w.now))) end }
     ensures { result ≡ closed (term_in w.now a) }
 {
-    let mut i = a;
-    let mut due = 1;
-    while 0 < due {
-        if w[i] == 4 {
-            return false;
-        }
-        let turn = term_turn(w[i]);
-        due = due + 2 * turn - 3;
-        i = i + 3 - turn;
-    }
-    true
+    !some_leaf(w, a, end, |c, _| c == 4)
 }
 
 // The name x is one of those of the k effects from a to end.
@@ -248,17 +179,7 @@ pub fn effects_mention(w: &[u32], a: usize, k: usize, end: usize, x: u32) -> boo
     requires { rest_of (effects k (drop a w.now)) ≡ some (drop end w.now) }
     ensures { result ≡ mentions x (effects_in w.now a k) }
 {
-    let mut i = a;
-    let mut j = 0;
-    while j < k {
-        let e = term_end(w, i + 1);
-        if term_mentions(w, i + 1, e, x) {
-            return true;
-        }
-        i = e;
-        j += 1;
-    }
-    false
+    !every_effect(w, a, k, end, |i, e| !term_mentions(w, i + 1, e, x))
 }
 
 // The entry at i, whose type ends at own, is x with the type from b to f.
@@ -266,10 +187,7 @@ fn is_entry(w: &[u32], i: usize, own: usize, x: u32, v: &[u32], b: usize, f: usi
     requires { (i + 1 < length w.now) × At w.now (i + 2) (rest_of (type_at (drop (i + 2) w.now))) own × At v.now b (rest_of (type_at (drop b v.now))) f }
     ensures { result ≡ test (same_entry (x ⦂ type_in v.now b) (get_or w.now (i + 1) 0 ⦂ type_in w.now (i + 2))) }
 {
-    if w[i + 1] != x {
-        return false;
-    }
-    same_type(w, i + 2, own, v, b, f)
+    w[i + 1] == x && same_type(w, i + 2, own, v, b, f)
 }
 
 // The entry x with the type from b to f stands in the environment from a to e.
@@ -278,11 +196,8 @@ pub fn entry_stands(w: &[u32], a: usize, e: usize, x: u32, v: &[u32], b: usize, 
     ensures { result ≡ stands (x ⦂ type_in v.now b) (environment_in w.now a) }
 {
     let mut i = a;
-    while i < w.len() {
-        if w[i] == 1 {
-            return false;
-        }
-        let own = type_end(w, i + 2);
+    while w[i] == 2 {
+        let own = type_end(w, i + 2).unwrap();
         if is_entry(w, i, own, x, v, b, f) {
             return true;
         }
@@ -307,7 +222,7 @@ pub fn count_where<F: Fn(usize, usize) -> bool>(
     let mut i = a;
     let mut n = 0;
     for _ in 0..k {
-        let e = term_end(w, i + 1);
+        let e = term_end(w, i + 1).unwrap();
         if holds(i, e) {
             n += 1;
         }
@@ -330,7 +245,7 @@ pub fn every_effect<F: Fn(usize, usize) -> bool>(
 {
     let mut i = a;
     for _ in 0..k {
-        let e = term_end(w, i + 1);
+        let e = term_end(w, i + 1).unwrap();
         if !holds(i, e) {
             return false;
         }

@@ -1,5 +1,5 @@
 -- A test that is asked of each of several effects in the words, one behind another. Assumes nothing.
-use Rattle.std.specs.Prelude.{ℕ, suc, ◌+◌, ◌-◌, ◌≤◌, ◌<◌, Bool, ◌&&◌, List, [], ◌∷◌, ◌≡◌, refl, length, drop}
+use Rattle.std.specs.Prelude.{ℕ, suc, ◌+◌, ◌-◌, ◌≤◌, ◌<◌, Bool, ◌&&◌, List, [], ◌∷◌, ◌≡◌, refl, length, drop, Option as Answer, IsSome}
 use Rattle.std.specs.List.{list_all, count_by}
 use Rattle.std.proofs.Math.Bool.{true, false, cond}
 use Rattle.std.proofs.Common.{sym, ◌∙◌, ap, arith}
@@ -8,11 +8,12 @@ use Rattle.std.proofs.lemmas.List.Sums.{sum_by-cons}
 use Rattle.typing.specs.Term.{Effect, same_effect}
 use Rattle.typing.specs.Bag.{count}
 use Rattle.typing.proofs.Bag.Laws.{count_none, count-here, count-other}
+use Rattle.typing.proofs.Check.Laws.{both}
 use Rattle.typing.specs.Reading.{term, effect_of, effects}
 use Rattle.spans.specs.Behind.{rest_of, At, Ends}
 use Rattle.alike.specs.Same.{effect_in, effects_in, test}
 use Rattle.alike.specs.Same.Laws.{test-yes, test-no}
-use Rattle.alike.specs.Same.Effects.{Along, along-inside, along-end, along-term, along-again, along-list, list-none}
+use Rattle.alike.specs.Same.Effects.{Along, along-inside, along-found, along-end, along-again, along-list, list-none}
 
 -- an effect begins at the place i, and it and its term end at e
 pub record EffectAt (w : List ℕ) (i e : ℕ) : Type 0 where
@@ -65,9 +66,12 @@ module _ (w : List ℕ) (told : ℕ → ℕ → Bool → Type 0) (a k end : ℕ)
       pub effect-inside : i < length w
       effect-inside = along-inside w end (k - j) i along due
 
-      module _ (e : ℕ) (q : Ends w (i + 1) (rest_of (term (drop (i + 1) w))) e) where
+      pub effect-found : (o : Answer ℕ) → Ends w (i + 1) (rest_of (term (drop (i + 1) w))) o → IsSome o
+      effect-found o q = along-found w end (k - j) i along due o q
+
+      module _ (e : ℕ) (q : At w (i + 1) (rest_of (term (drop (i + 1) w))) e) where
         pub effect-at : EffectAt w i e
-        effect-at = record { effect = along-end w end (k - j) i along due e q; own = along-term w end (k - j) i along due e q }
+        effect-at = record { effect = along-end w end (k - j) i along due e q; own = q }
 
         on : Along w end (k - (j + 1)) e
         on = rw less at (along-again w end (k - j) i along due e q)
@@ -75,7 +79,7 @@ module _ (w : List ℕ) (told : ℕ → ℕ → Bool → Type 0) (a k end : ℕ)
         turn : effects_in w i (k - j) ≡ effect_in w i ∷ effects_in w e (k - (j + 1))
         turn = along-list w end (k - j) i along due e q ∙ ap (λ (m : ℕ). effect_in w i ∷ effects_in w e m) less
 
-    module _ (e : ℕ) (q : Ends w (i + 1) (rest_of (term (drop (i + 1) w))) e) where
+    module _ (e : ℕ) (q : At w (i + 1) (rest_of (term (drop (i + 1) w))) e) where
       pub counting-yes : (n : ℕ) (t : Counting w told a k end i j n) → told i e true → Counting w told a k end e (j + 1) (n + 1)
       counting-yes n t r =
           record {
@@ -122,3 +126,18 @@ count-by x (y ∷ l) = elim (same_effect y x) [
   | yes p ↦ count-here x y l (sym p) ∙ ap suc (count-by x l) ∙ sym (counted-yes (λ z. test (same_effect z x)) y l (test-yes (same_effect y x) p))
   | no p ↦ count-other x y l (λ q. p (sym q)) ∙ count-by x l ∙ sym (counted-no (λ z. test (same_effect z x)) y l (test-no (same_effect y x) p))
 ]
+
+-- ---- a test that holds of all
+pub all-true : (p : Effect → Bool) (l : List Effect) → ((x : Effect) → p x ≡ true) → list_all p l ≡ true
+all-true p [] h = refl
+all-true p (x ∷ l) h = ap (λ (b : Bool). b && list_all p l) (h x) ∙ all-true p l h
+
+-- holds of each that stands among them
+pub all-counted : (p : Effect → Bool) (l : List Effect) → list_all p l ≡ true → (x : Effect) → 0 < count x l → p x ≡ true
+all-counted p [] h x c = absurd (omega (arith, count_none x))
+all-counted p (y ∷ l) h x c =
+    let (here, there) = both (p y) (list_all p l) h in
+    elim (same_effect x y) [
+      | yes e ↦ ap p e ∙ here
+      | no d ↦ all-counted p l there x (omega (arith, count-other x y l d))
+    ]

@@ -1,22 +1,20 @@
 -- Effects and multisets of effects, compared by their words. Assumes nothing.
-use Rattle.std.specs.Prelude.{ℕ, zero, suc, ◌+◌, ◌-◌, ◌≤◌, ◌<◌, Bool, true, false, ◌≡◌, length, drop, take, get_or}
+use Rattle.std.specs.Prelude.{ℕ, zero, suc, ◌+◌, ◌-◌, ◌≤◌, ◌<◌, Bool, ◌≡◌, eqb, length, drop, take, get_or, Option as Answer, IsSome}
+use Rattle.std.specs.Cmp.Lexicographic.{pointwise}
 use mathlib.Core.List.{List, [], ◌∷◌, ◌++◌}
-use Rattle.std.proofs.Common.{inl, inr, ◌∙◌, arith, add-one, length-drop, length-append, drop-cons, take_at}
+use Rattle.std.proofs.Common.{◌∙◌, arith, add-one, length-drop, length-append, drop-cons, take_at}
 use Rattle.std.proofs.Math.Option.{none, some}
 use Rattle.std.proofs.Math.Path.{refl, sym, ap}
 use Rattle.std.proofs.Math.Decide.{dec_lt}
 use Rattle.words.specs.Choice.{then}
-use Rattle.words.specs.First.Laws.{clash}
-use Rattle.words.specs.Run.{run, same_words}
-use Rattle.words.specs.Run.Laws.{run_length, run_take, same-exact}
 use Rattle.typing.specs.Term.{Term, Effect, same_effect, effect_words}
 use Rattle.typing.proofs.Bag.Laws.{words-effect}
 use Rattle.typing.specs.Reading.{Read, ahead, after, term, effect_of, effects}
 use Rattle.typing.proofs.Derivation.Laws.{then-came}
 use Rattle.spans.specs.Behind.{rest_of, At, Ends}
-use Rattle.spans.specs.Behind.Laws.{rest-after}
+use Rattle.spans.specs.Behind.Laws.{rest-after, ends_some}
 use Rattle.alike.specs.Same.{value_or, effect_in, effects_in, test}
-use Rattle.alike.specs.Same.Laws.{read-value, test-yes, test-no, term-spelled}
+use Rattle.alike.specs.Same.Laws.{read-value, spelled-same, term-spelled}
 
 -- ---- an effect is spelled by its words
 effect-spelled : (u : List ℕ) (e : Effect) (v : List ℕ) → effect_of u ≡ some (e, v) → u ≡ effect_words e ++ v
@@ -36,36 +34,22 @@ effect-spelled (suc (suc (suc c)) ∷ u) e v h = absurd (let z : ◌≡◌ {A = 
 lengths : (n a e x y k : ℕ) → x ≡ n - a → y ≡ n - e → x ≡ k + y → a ≤ e → e ≤ n → k ≡ e - a
 lengths n a e x y k p q r s t = omega arith
 
-run-effect : (w : List ℕ) (a e : ℕ) → At w a (rest_of (effect_of (drop a w))) e → run w a (e - a) ≡ effect_words (effect_in w a)
+-- the words from an effect's place to its end are its words
+effect-taken : (w : List ℕ) (a e : ℕ) → At w a (rest_of (effect_of (drop a w))) e → take (e - a) (drop a w) ≡ effect_words (effect_in w a)
 unfolding effect_in
-run-effect w a e b =
+effect-taken w a e b =
     let x = value_or (Effect.end (Term.bound 0)) (effect_of (drop a w)) in
     let r = read-value (Effect.end (Term.bound 0)) (effect_of (drop a w)) (drop e w) b.rest in
     let s = effect-spelled (drop a w) x (drop e w) r in
     let n : length (effect_words x) ≡ e - a =
     lengths (length w) a e (length (drop a w)) (length (drop e w)) (length (effect_words x)) (length-drop a w) (length-drop e w)
     (ap length s ∙ length-append (effect_words x) (drop e w)) b.after b.inside in
-    run_take w a (e - a) (omega (arith, b.after, b.inside)) ∙ ap (take (e - a)) s ∙ take_at (effect_words x) (drop e w) (e - a) n
+    ap (take (e - a)) s ∙ take_at (effect_words x) (drop e w) (e - a) n
 
-module _ (u v : List ℕ) (a e b f : ℕ) (s : At u a (rest_of (effect_of (drop a u))) e) (t : At v b (rest_of (effect_of (drop b v))) f) where
-  same_length : effect_in u a ≡ effect_in v b → e - a ≡ f - b
-  same_length h =
-      sym (run_length u a (e - a)) ∙ ap length (run-effect u a e s) ∙ ap (λ (x : Effect). length (effect_words x)) h
-      ∙ sym (ap length (run-effect v b f t)) ∙ run_length v b (f - b)
-
-  pub effect-lengths : (e - a ≡ f - b → ⊥) → false ≡ test (same_effect (effect_in u a) (effect_in v b))
-  effect-lengths h = sym (test-no (same_effect (effect_in u a) (effect_in v b)) (λ p. h (same_length p)))
-
-  pub effect_words_lem : e - a ≡ f - b → (r : Bool) → r ≡ same_words (run u a (e - a)) (run v b (e - a))
-      → r ≡ test (same_effect (effect_in u a) (effect_in v b))
-  effect_words_lem h true d =
-      let w = (same-exact (run u a (e - a)) (run v b (e - a))).0 (sym d) in
-      sym (test-yes (same_effect (effect_in u a) (effect_in v b))
-      (words-effect (effect_in u a) (effect_in v b) (sym (run-effect u a e s) ∙ w ∙ ap (run v b) h ∙ run-effect v b f t)))
-  effect_words_lem h false d =
-      sym (test-no (same_effect (effect_in u a) (effect_in v b)) (λ p.
-      let w : run u a (e - a) ≡ run v b (e - a) = run-effect u a e s ∙ ap effect_words p ∙ sym (run-effect v b f t) ∙ ap (run v b) (sym h) in
-      clash ((same-exact (run u a (e - a)) (run v b (e - a))).1 w) (sym d)))
+pub effects_compared : (u v : List ℕ) (a e b f : ℕ) → At u a (rest_of (effect_of (drop a u))) e → At v b (rest_of (effect_of (drop b v))) f
+    → (r : Bool) → r ≡ pointwise eqb (take (e - a) (drop a u)) (take (f - b) (drop b v)) → r ≡ test (same_effect (effect_in u a) (effect_in v b))
+effects_compared u v a e b f s t r d =
+    spelled-same same_effect effect_words words-effect (effect_in u a) (effect_in v b) _ _ (effect-taken u a e s) (effect-taken v b f t) r d
 
 -- ---- the first of several effects, and the others
 pub record First (m : ℕ) (u z : List ℕ) : Type 0 where
@@ -144,26 +128,19 @@ module _ (w : List ℕ) (end m i : ℕ) (t : Along w end m i) where
       let d : drop (suc i) w ≡ n.more = cc in
       ap (λ (u : List ℕ). rest_of (term u)) (ap (λ (k : ℕ). drop k w) (add-one i) ∙ d) ∙ n.term-behind
 
-  -- what `term_end` finds behind an effect's word is the effect's end
-  pub along-end : 0 < m → (r : ℕ) → Ends w (i + 1) (rest_of (term (drop (i + 1) w))) r → At w i (rest_of (effect_of (drop i w))) r
-  along-end h r (inl n) = absurd (let y : none ≡ some (head h).behind = sym n.none ∙ term-there h in let z : ◌≡◌ {A = ℕ} 0 1 = cc in omega arith)
-  along-end h r (inr b) =
-      record {
-        some_word = b.some_word;
-        after = omega (arith, b.after);
-        inside = b.inside;
-        rest = head-rest h ∙ sym (term-there h) ∙ b.rest;
-      }
+  -- its term is there, and `term_end` finds the end
+  pub along-found : 0 < m → (o : Answer ℕ) → Ends w (i + 1) (rest_of (term (drop (i + 1) w))) o → IsSome o
+  along-found h o q = ends_some w (i + 1) _ (head h).behind o q (term-there h)
 
-  -- its term is there
-  pub along-term : 0 < m → (r : ℕ) → Ends w (i + 1) (rest_of (term (drop (i + 1) w))) r → At w (i + 1) (rest_of (term (drop (i + 1) w))) r
-  along-term h r (inl n) = absurd (let y : none ≡ some (head h).behind = sym n.none ∙ term-there h in let z : ◌≡◌ {A = ℕ} 0 1 = cc in omega arith)
-  along-term h r (inr b) = b
+  -- which is the effect's end
+  pub along-end : 0 < m → (r : ℕ) → At w (i + 1) (rest_of (term (drop (i + 1) w))) r → At w i (rest_of (effect_of (drop i w))) r
+  along-end h r b =
+      record { some_word = b.some_word; after = omega (arith, b.after); inside = b.inside; rest = head-rest h ∙ sym (term-there h) ∙ b.rest }
 
   behind-is : (h : 0 < m) (r : ℕ) → At w i (rest_of (effect_of (drop i w))) r → (head h).behind ≡ drop r w
   behind-is h r b = let e : some (head h).behind ≡ some (drop r w) = sym (head-rest h) ∙ b.rest in cc
 
-  pub along-again : 0 < m → (r : ℕ) → Ends w (i + 1) (rest_of (term (drop (i + 1) w))) r → Along w end (m - 1) r
+  pub along-again : 0 < m → (r : ℕ) → At w (i + 1) (rest_of (term (drop (i + 1) w))) r → Along w end (m - 1) r
   along-again h r q =
       let b = along-end h r q in
       record { reads = ap (λ (u : List ℕ). rest_of (effects (m - 1) u)) (sym (behind-is h r b)) ∙ (head h).others }
@@ -173,7 +150,7 @@ module _ (w : List ℕ) (end m i : ℕ) (t : Along w end m i) where
   effect_is h = sym (ap (value_or (Effect.end (Term.bound 0))) (head h).reads)
 
   -- the list is its first effect and what comes behind
-  pub along-list : (h : 0 < m) (r : ℕ) → Ends w (i + 1) (rest_of (term (drop (i + 1) w))) r → effects_in w i m ≡ effect_in w i ∷ effects_in w r (m - 1)
+  pub along-list : (h : 0 < m) (r : ℕ) → At w (i + 1) (rest_of (term (drop (i + 1) w))) r → effects_in w i m ≡ effect_in w i ∷ effects_in w r (m - 1)
   unfolding effects_in
   along-list h r q =
       let b = along-end h r q in

@@ -1,14 +1,16 @@
 -- Laws of what is read at a place. Assumes nothing.
-use Rattle.std.specs.Prelude.{ℕ, zero, suc, ◌+◌, ◌-◌, ◌≤◌, ◌<◌, Bool, true, false, List, [], ◌∷◌, ◌++◌, ◌≡◌, refl, eqb, length, drop, take, get_or}
-use Rattle.std.proofs.Common.{true≢false, append_assoc, ◌∙◌, length-drop, length-append, take_at, eq-eqb, ne_eqb}
+use Rattle.std.specs.Prelude.{ℕ, zero, suc, ◌+◌, ◌-◌, ◌≤◌, Bool, true, false, List, [], ◌∷◌, ◌++◌, ◌≡◌, refl, eqb, length, drop, take}
+use Rattle.std.specs.Cmp.Lexicographic.{pointwise}
+use Rattle.std.proofs.Common.{true≢false, append_assoc, ◌∙◌, ap₂, length-drop, length-append, take_at}
+use Rattle.std.proofs.lemmas.Bool.Decides.{Decides-eqb, same_from_decides}
+use Rattle.std.proofs.lemmas.Slice.Eq.{slice_eq-Decides}
 use Rattle.std.proofs.Math.Option.{none, some}
 use Rattle.std.proofs.Math.Path.{sym, ap}
 use native.Mathlib.Omega.{arith}
-use Rattle.words.specs.Choice.{pick, choose, then}
-use Rattle.words.specs.Choice.Laws.{pick_true, pick-false, choose_yes, choose_no}
-use Rattle.words.specs.First.Laws.{clash}
+use Rattle.words.specs.Choice.{choose, then}
+use Rattle.words.specs.Choice.Laws.{choose_yes, choose_no}
 use Rattle.words.specs.Run.{run, same_words}
-use Rattle.words.specs.Run.Laws.{run_more, run_length, run_take, same-exact}
+use Rattle.words.specs.Run.Laws.{run_take, same-exact}
 use Rattle.typing.specs.Term.{Term, same_term, term_words}
 use Rattle.typing.proofs.Bag.Laws.{words-term}
 use Rattle.typing.specs.Reading.{Read, ahead, joined, after, terms, only, term}
@@ -138,76 +140,27 @@ term-run w a e b =
 pub run-term : (w : List ℕ) (a e : ℕ) → At w a (rest_of (term (drop a w))) e → run w a (e - a) ≡ term_words (term_in w a)
 run-term w a e b = run_take w a (e - a) (omega (arith, b.after, b.inside)) ∙ term-run w a e b
 
--- ---- runs, word by word: k of n words are passed
-pub record Runs (u v : List ℕ) (a b n k : ℕ) : Type 0 where
-  pub same : same_words (run u a n) (run v b n) ≡ same_words (run u (a + k) (n - k)) (run v (b + k) (n - k))
-  pub few : k ≤ n
-
-pub runs-begin : (u v : List ℕ) (a b n : ℕ) → Runs u v a b n 0
-runs-begin u v a b n = record { same = rw (plus_none a, plus_none b, minus-none n) refl; few = omega arith }
+-- ---- parts of the words compared
+pub runs_compared : (u v : List ℕ) (a b n : ℕ) → a + n ≤ length u → b + n ≤ length v → (r : Bool)
+    → r ≡ pointwise eqb (take (a + n - a) (drop a u)) (take (b + n - b) (drop b v)) → r ≡ same_words (run u a n) (run v b n)
+runs_compared u v a b n l k r e =
+    same_from_decides r _ (slice_eq-Decides Decides-eqb _ _ r (e ∙ sym (ap₂ (pointwise eqb) (taken u a l) (taken v b k)))) (same-exact (run u a n) (run v b n))
   where
-    plus_none : (x : ℕ) → x + 0 ≡ x
-    plus_none x = omega arith
+    taken : (w : List ℕ) (x : ℕ) → x + n ≤ length w → run w x n ≡ take (x + n - x) (drop x w)
+    taken w x h =
+        let d : n ≡ x + n - x = omega arith in
+        run_take w x n h ∙ ap (λ (m : ℕ). take m (drop x w)) d
 
-    minus-none : (x : ℕ) → x - 0 ≡ x
-    minus-none x = omega arith
+-- ---- things that are spelled by their words: the same words, the same thing
+pub spelled-same : {A : Type 0} (same : (x y : A) → Dec (x ≡ y)) (words : A → List ℕ) → ((x y : A) → words x ≡ words y → x ≡ y) → (x y : A)
+    → (xs ys : List ℕ) → xs ≡ words x → ys ≡ words y → (r : Bool) → r ≡ pointwise eqb xs ys → r ≡ test (same x y)
+spelled-same same words exact x y xs ys p q r e =
+    let d = slice_eq-Decides Decides-eqb xs ys r e in
+    same_from_decides r (test (same x y)) (λ h. exact x y (sym p ∙ d.0 h ∙ q), λ h. d.1 (p ∙ ap words h ∙ sym q))
+    (test-true (same x y), test-yes (same x y))
 
-module _ (u v : List ℕ) (a b n k : ℕ) (t : Runs u v a b n k) where
-  turn : k < n → same_words (run u a n) (run v b n)
-      ≡ same_words (get_or u (a + k) 0 ∷ run u (a + (k + 1)) (n - (k + 1))) (get_or v (b + k) 0 ∷ run v (b + (k + 1)) (n - (k + 1)))
-  turn h =
-      t.same ∙ ap (λ (l : List ℕ). same_words l (run v (b + k) (n - k))) (go u a)
-      ∙ ap (same_words (get_or u (a + k) 0 ∷ run u (a + (k + 1)) (n - (k + 1)))) (go v b)
-    where
-      go : (w : List ℕ) (x : ℕ) → run w (x + k) (n - k) ≡ get_or w (x + k) 0 ∷ run w (x + (k + 1)) (n - (k + 1))
-      go w x =
-          let p : x + k + 1 ≡ x + (k + 1) = omega arith in
-          let q : n - k - 1 ≡ n - (k + 1) = omega arith in
-          run_more w (x + k) (n - k) (omega arith) ∙ ap (λ (y : ℕ). get_or w (x + k) 0 ∷ run w y (n - k - 1)) p
-          ∙ ap (λ (y : ℕ). get_or w (x + k) 0 ∷ run w (x + (k + 1)) y) q
-
-  pub runs-differ : k < n → (get_or u (a + k) 0 ≡ get_or v (b + k) 0 → ⊥) → false ≡ same_words (run u a n) (run v b n)
-  unfolding same_words
-  runs-differ h d = sym (turn h ∙ pick-false (eqb (get_or u (a + k) 0) (get_or v (b + k) 0)) _ _ (ne_eqb _ _ d))
-
-  pub runs-again : k < n → get_or u (a + k) 0 ≡ get_or v (b + k) 0 → Runs u v a b n (k + 1)
-  unfolding same_words
-  runs-again h d =
-      record { same = turn h ∙ pick_true (eqb (get_or u (a + k) 0) (get_or v (b + k) 0)) _ _ (eq-eqb _ _ d); few = omega arith }
-
-  pub runs_done : n ≤ k → true ≡ same_words (run u a n) (run v b n)
-  unfolding same_words run
-  runs_done h =
-      let z : n - k ≡ 0 = omega arith in
-      sym (t.same ∙ ap (λ (m : ℕ). same_words (run u (a + k) m) (run v (b + k) m)) z)
-
--- ---- the same words, the same term
-module _ (u v : List ℕ) (a e b f : ℕ) (s : At u a (rest_of (term (drop a u))) e) (t : At v b (rest_of (term (drop b v))) f) where
-  same_length : term_in u a ≡ term_in v b → e - a ≡ f - b
-  same_length h =
-      let p = ap length (run-term u a e s) in
-      let q = ap length (run-term v b f t) in
-      let r = ap (λ (M : Term). length (term_words M)) h in
-      sym (run_length u a (e - a)) ∙ p ∙ r ∙ sym q ∙ run_length v b (f - b)
-
-  pub term-lengths : (e - a ≡ f - b → ⊥) → false ≡ test (same_term (term_in u a) (term_in v b))
-  term-lengths h = sym (test-no (same_term (term_in u a) (term_in v b)) (λ p. h (same_length p)))
-
-  words-equal : e - a ≡ f - b → run u a (e - a) ≡ run v b (e - a) → term_in u a ≡ term_in v b
-  words-equal h d =
-      let r : term_words (term_in u a) ≡ term_words (term_in v b) =
-      sym (run-term u a e s) ∙ d ∙ ap (run v b) h ∙ run-term v b f t in
-      (words-term (term_in u a) (term_in v b) [] [] (ap (λ (l : List ℕ). l ++ []) r)).0
-
-  pub term_words_lem : e - a ≡ f - b → (r : Bool) → r ≡ same_words (run u a (e - a)) (run v b (e - a)) → r ≡ test (same_term (term_in u a) (term_in v b))
-  term_words_lem h true d = sym (test-yes (same_term (term_in u a) (term_in v b)) (words-equal h ((same-exact _ _).0 (sym d))))
-  term_words_lem h false d =
-      sym (test-no (same_term (term_in u a) (term_in v b)) (λ p.
-      let w : run u a (e - a) ≡ run v b (e - a) = run-term u a e s ∙ ap term_words p ∙ sym (run-term v b f t) ∙ ap (run v b) (sym h) in
-      clash ((same-exact (run u a (e - a)) (run v b (e - a))).1 w) (sym d)))
-
-pub pick-one : (b : Bool) → b ≡ true → ◌≡◌ {A = ℕ} 1 (pick b 1 0)
-pick-one b e = sym (pick_true {A = ℕ} b 1 0 e)
-
-pub pick-none : (b : Bool) → b ≡ false → ◌≡◌ {A = ℕ} 0 (pick b 1 0)
-pick-none b e = sym (pick-false {A = ℕ} b 1 0 e)
+pub terms_compared : (u v : List ℕ) (a e b f : ℕ) → At u a (rest_of (term (drop a u))) e → At v b (rest_of (term (drop b v))) f
+    → (r : Bool) → r ≡ pointwise eqb (take (e - a) (drop a u)) (take (f - b) (drop b v)) → r ≡ test (same_term (term_in u a) (term_in v b))
+terms_compared u v a e b f s t r d =
+    spelled-same same_term term_words (λ M N h. (words-term M N [] [] (ap (λ (l : List ℕ). l ++ []) h)).0) (term_in u a) (term_in v b) _ _
+    (term-run u a e s) (term-run v b f t) r d

@@ -1,18 +1,19 @@
 -- The names of several effects, one turn at a time. Assumes nothing.
-use Rattle.std.specs.Prelude.{ℕ, zero, suc, ◌+◌, ◌-◌, ◌≤◌, ◌<◌, Bool, true, false, ◌||◌, List, [], ◌∷◌, ◌≡◌, refl, length, drop, get_or}
+use Rattle.std.specs.Prelude.{ℕ, zero, suc, ◌+◌, ◌<◌, Bool, true, false, not, ◌&&◌, ◌||◌, List, [], ◌∷◌, ◌≡◌, refl, length, drop, get_or}
+use Rattle.std.specs.List.{list_all}
 use Rattle.std.proofs.Math.Bool.{or_assoc, or-false}
 use Rattle.std.proofs.Math.Option.{none, some}
 use Rattle.std.proofs.Math.Path.{sym, ap}
 use Rattle.std.proofs.Common.{◌∙◌, add-one, drop-cons}
 use native.Mathlib.Omega.{arith}
 use Rattle.words.specs.Choice.{then}
-use Rattle.words.specs.Choice.Laws.{pick_ind, or_left}
+use Rattle.words.specs.Choice.Laws.{pick_ind}
 use Rattle.typing.specs.Term.{Term, Effect, about, occurs, mentions, effect_words}
 use Rattle.typing.specs.Bag.{up_to, insert, plus, bag}
-use Rattle.typing.specs.Reading.{Read, after, term, effect_of, effects}
-use Rattle.spans.specs.Behind.{rest_of, At, Ends}
-use Rattle.alike.specs.Same.{value_or, term_in, effect_in, effects_in}
-use Rattle.alike.specs.Same.Effects.{Along, along-inside, along-end, along-again, along-list, along-term, list-none}
+use Rattle.typing.specs.Reading.{Read, after, term, effect_of}
+use Rattle.spans.specs.Behind.{rest_of}
+use Rattle.alike.specs.Same.{value_or, term_in, effect_in}
+use Rattle.alike.specs.Same.Each.{EffectAt}
 
 -- an effect is about the term behind its word
 about-after : (f : Term → Effect) → ((M : Term) → about (f M) ≡ M) → (r : Read Term) (v : List ℕ) → rest_of r ≡ some v
@@ -40,59 +41,24 @@ about-term w i r l e h =
     ∙ about-word (get_or w i 0) (drop (suc i) w) (drop r w) (rw c at e) (ap (λ (u : List ℕ). rest_of (term u)) s ∙ h)
     ∙ ap (λ (u : List ℕ). value_or (Term.bound 0) (term u)) s
 
--- ---- no effect of the first j has the name
-pub record Walk (w : List ℕ) (a k end x i j : ℕ) : Type 0 where
-  pub along : Along w end (k - j) i
-  pub same : mentions x (effects_in w a k) ≡ mentions x (effects_in w i (k - j))
-  pub few : j ≤ k
+-- ---- no effect has the name
+unfoldable pub lacks : ℕ → Effect → Bool
+lacks x e = not (occurs x (about e))
 
-sub-zero : (k : ℕ) → k - 0 ≡ k
-sub-zero k = omega arith
+-- what is told of an effect's term is told of the effect
+pub effect-lacks : (w : List ℕ) (x i e : ℕ) → EffectAt w i e → (r : Bool) → r ≡ not (occurs x (term_in w (i + 1))) → r ≡ lacks x (effect_in w i)
+unfolding lacks
+effect-lacks w x i e t r d =
+    d ∙ ap (λ (M : Term). not (occurs x M)) (sym (about-term w i e (omega (arith, t.own.after, t.own.inside)) t.effect.rest t.own.rest))
 
-pub walk-begin : (w : List ℕ) (a k end x : ℕ) → rest_of (effects k (drop a w)) ≡ some (drop end w) → Walk w a k end x a 0
-walk-begin w a k end x h = record { along = record { reads = rw (sub-zero k) h }; same = rw (sub-zero k) refl; few = omega arith }
-
-module _ (w : List ℕ) (a k end x i j : ℕ) (t : Walk w a k end x i j) where
-  due : j < k → 0 < k - j
-  due h = omega arith
-
-  less : k - j - 1 ≡ k - (j + 1)
-  less = omega arith
-
-  pub walk_inside : j < k → i < length w
-  walk_inside h = along-inside w end (k - j) i t.along (due h)
-
-  pub walk-term : j < k → (r : ℕ) → Ends w (i + 1) (rest_of (term (drop (i + 1) w))) r → At w (i + 1) (rest_of (term (drop (i + 1) w))) r
-  walk-term h r q = along-term w end (k - j) i t.along (due h) r q
-
-  turn : j < k → (r : ℕ) → Ends w (i + 1) (rest_of (term (drop (i + 1) w))) r
-      → mentions x (effects_in w a k) ≡ (occurs x (term_in w (i + 1)) || mentions x (effects_in w r (k - (j + 1))))
-  unfolding mentions
-  turn h r q =
-      let e = along-end w end (k - j) i t.along (due h) r q in
-      t.same ∙ ap (mentions x) (along-list w end (k - j) i t.along (due h) r q)
-      ∙ ap (λ (M : Term). occurs x M || mentions x (effects_in w r (k - j - 1))) (about-term w i r (walk_inside h) e.rest (walk-term h r q).rest)
-      ∙ ap (λ (m : ℕ). occurs x (term_in w (i + 1)) || mentions x (effects_in w r m)) less
-
-  pub walk-found : j < k → (r : ℕ) → Ends w (i + 1) (rest_of (term (drop (i + 1) w))) r → (b : Bool) → b ≡ occurs x (term_in w (i + 1)) → b ≡ true
-      → true ≡ mentions x (effects_in w a k)
-  walk-found h r q b e d = sym (turn h r q ∙ or_left _ _ (sym e ∙ d))
-
-  pub walk-again : j < k → (r : ℕ) → Ends w (i + 1) (rest_of (term (drop (i + 1) w))) r → (b : Bool) → b ≡ occurs x (term_in w (i + 1))
-      → b ≡ false
-      → Walk w a k end x r (j + 1)
-  walk-again h r q b e d =
-      record {
-        along = rw less at (along-again w end (k - j) i t.along (due h) r q);
-        same = turn h r q ∙ ap (λ (c : Bool). c || mentions x (effects_in w r (k - (j + 1)))) (sym e ∙ d);
-        few = omega arith;
-      }
-
-  pub walk-done : k ≤ j → false ≡ mentions x (effects_in w a k)
-  unfolding mentions
-  walk-done h =
-      let z : k - j ≡ 0 = omega arith in
-      sym (t.same ∙ ap (λ (m : ℕ). mentions x (effects_in w i m)) z ∙ ap (mentions x) (list-none w i))
+pub all-lack : (x : ℕ) (es : List Effect) → not (list_all (lacks x) es) ≡ mentions x es
+unfolding lacks mentions
+all-lack x [] = refl
+all-lack x (e ∷ es) = de-morgan (occurs x (about e)) (list_all (lacks x) es) ∙ ap (λ (b : Bool). occurs x (about e) || b) (all-lack x es)
+  where
+    de-morgan : (a b : Bool) → not (not a && b) ≡ (a || not b)
+    de-morgan true b = refl
+    de-morgan false b = refl
 
 -- ---- a multiset has the names of its list
 or_swap : (a b c : Bool) → (a || (b || c)) ≡ (b || (a || c))

@@ -1,6 +1,6 @@
 -- An entry of an environment is looked for, one entry at a time. Assumes nothing.
-use Rattle.std.specs.Prelude.{ℕ, ◌+◌, ◌≤◌, ◌<◌, Bool, true, false, List, [], ◌∷◌, ◌≡◌, refl, length, drop, get_or}
-use Rattle.std.proofs.Common.{sym, ◌∙◌, ap, arith}
+use Rattle.std.specs.Prelude.{ℕ, ◌+◌, Bool, true, false, List, [], ◌∷◌, ◌≡◌, refl, drop, get_or, Option as Answer, IsSome}
+use Rattle.std.proofs.Common.{sym, ◌∙◌, ap}
 use Rattle.words.specs.Choice.Laws.{choose_yes, choose_no}
 use Rattle.words.specs.First.Laws.{clash}
 use Rattle.typing.specs.Types.{Ty, Entry, Environment, ◌⦂◌, same_type, same_entry}
@@ -9,7 +9,7 @@ use Rattle.typing.specs.Reading.{type_at, environment_at}
 use Rattle.spans.specs.Behind.{rest_of, At, Ends}
 use Rattle.alike.specs.Same.{type_in, environment_in, test}
 use Rattle.alike.specs.Same.Laws.{test-yes, test-no, test-true}
-use Rattle.alike.specs.Same.Environments.{Along, list_of, along-begin, begin-list, along-inside, along-word, along-last, along-name, along-type, along-next, along-list}
+use Rattle.alike.specs.Same.Environments.{Along, list_of, along-begin, begin-list, along-last, along-found, along-next, along-list}
 
 -- ---- stands
 stands-none : (p : Entry) → stands p [] ≡ false
@@ -33,38 +33,28 @@ pub walk-begin : (w : List ℕ) (a e : ℕ) (p : Entry) → At w a (rest_of (env
 walk-begin w a e p h = record { along = along-begin w a e h; same = ap (stands p) (sym (begin-list w a e h)) }
 
 module _ (w : List ℕ) (a e x : ℕ) (T : Ty) (i : ℕ) (t : Walk w a e (x ⦂ T) i) where
-  pub walk-last : get_or w i 0 ≡ 1 → false ≡ stands (x ⦂ T) (environment_in w a)
-  walk-last l = sym (t.same ∙ ap (stands (x ⦂ T)) (along-last w e i t.along l) ∙ stands-none (x ⦂ T))
+  pub walk-done : (get_or w i 0 ≡ 2 → ⊥) → false ≡ stands (x ⦂ T) (environment_in w a)
+  walk-done l = sym (t.same ∙ ap (stands (x ⦂ T)) (along-last w e i t.along l) ∙ stands-none (x ⦂ T))
 
-  module _ (d : get_or w i 0 ≡ 1 → ⊥) where
-    two : get_or w i 0 ≡ 2
-    two = along-word w e i t.along d
+  module _ (two : get_or w i 0 ≡ 2) where
+    pub walk-type : (o : Answer ℕ) → Ends w (i + 2) (rest_of (type_at (drop (i + 2) w))) o → IsSome o
+    walk-type o q = along-found w e i t.along two o q
 
-    pub walk-name : i + 1 < length w
-    walk-name = along-name w e i t.along two
+    module _ (r : ℕ) (q : At w (i + 2) (rest_of (type_at (drop (i + 2) w))) r) where
+      turn : stands (x ⦂ T) (environment_in w a)
+          ≡ stands (x ⦂ T) ((get_or w (i + 1) 0 ⦂ type_in w (i + 2)) ∷ list_of w e r (along-next w e i t.along two r q))
+      turn = t.same ∙ ap (stands (x ⦂ T)) (along-list w e i t.along two r q)
 
-    pub walk-type : (r : ℕ) → Ends w (i + 2) (rest_of (type_at (drop (i + 2) w))) r → At w (i + 2) (rest_of (type_at (drop (i + 2) w))) r
-    walk-type r q = along-type w e i t.along two r q
+      pub walk-found : true ≡ test (same_entry (x ⦂ T) (get_or w (i + 1) 0 ⦂ type_in w (i + 2))) → true ≡ stands (x ⦂ T) (environment_in w a)
+      walk-found f =
+          sym (turn ∙ stands_here (x ⦂ T) _ _ (test-true (same_entry (x ⦂ T) (get_or w (i + 1) 0 ⦂ type_in w (i + 2))) (sym f)))
 
-    turn : (r : ℕ) (q : Ends w (i + 2) (rest_of (type_at (drop (i + 2) w))) r) → stands (x ⦂ T) (environment_in w a)
-        ≡ stands (x ⦂ T) ((get_or w (i + 1) 0 ⦂ type_in w (i + 2)) ∷ list_of w e r (along-next w e i t.along two r (walk-type r q)))
-    turn r q = t.same ∙ ap (stands (x ⦂ T)) (along-list w e i t.along two r (walk-type r q))
-
-    pub walk-found : (r : ℕ) → Ends w (i + 2) (rest_of (type_at (drop (i + 2) w))) r → (b : Bool)
-        → b ≡ test (same_entry (x ⦂ T) (get_or w (i + 1) 0 ⦂ type_in w (i + 2))) → b ≡ true → true ≡ stands (x ⦂ T) (environment_in w a)
-    walk-found r q b f z =
-        sym (turn r q ∙ stands_here (x ⦂ T) _ _ (test-true (same_entry (x ⦂ T) (get_or w (i + 1) 0 ⦂ type_in w (i + 2))) (sym f ∙ z)))
-
-    pub walk-again : (r : ℕ) → Ends w (i + 2) (rest_of (type_at (drop (i + 2) w))) r → (b : Bool)
-        → b ≡ test (same_entry (x ⦂ T) (get_or w (i + 1) 0 ⦂ type_in w (i + 2))) → b ≡ false → Walk w a e (x ⦂ T) r
-    walk-again r q b f z =
-        record {
-          along = along-next w e i t.along two r (walk-type r q);
-          same = turn r q ∙ stands_on (x ⦂ T) _ _ (λ h. clash (f ∙ test-yes (same_entry (x ⦂ T) (get_or w (i + 1) 0 ⦂ type_in w (i + 2))) h) z);
-        }
-
-  pub walk-past : length w ≤ i → false ≡ stands (x ⦂ T) (environment_in w a)
-  walk-past l = absurd (omega (arith, along-inside w e i t.along))
+      pub walk-again : false ≡ test (same_entry (x ⦂ T) (get_or w (i + 1) 0 ⦂ type_in w (i + 2))) → Walk w a e (x ⦂ T) r
+      walk-again f =
+          record {
+            along = along-next w e i t.along two r q;
+            same = turn ∙ stands_on (x ⦂ T) _ _ (λ h. clash (test-yes (same_entry (x ⦂ T) (get_or w (i + 1) 0 ⦂ type_in w (i + 2))) h) (sym f));
+          }
 
 -- ---- one entry
 pub entry-name : (x y : ℕ) (T U : Ty) → (y ≡ x → ⊥) → false ≡ test (same_entry (x ⦂ T) (y ⦂ U))

@@ -1,15 +1,14 @@
 -- Types compared word by word, and nonces' effects as multisets. Assumes nothing.
 use Prim.Native.Nat.{ℕ, zero, suc, ◌+◌, ◌-◌, ◌≤◌, ◌<◌}
-use Rattle.std.specs.Prelude.{Bool, true, false, not, ◌≡◌, eqb, length, get_or}
+use Rattle.std.specs.Prelude.{Bool, true, false, ◌≡◌, eqb, length, get_or, Option as Answer, None, Some, IsSome}
 use mathlib.Core.List.{List, [], ◌∷◌}
-use Rattle.std.proofs.Common.{inl, inr, ◌∙◌, subst, length-drop, drop_of_length-le, eq-eqb, ne_eqb}
+use Rattle.std.proofs.Common.{◌∙◌, subst, length-drop, drop_of_length-le, eq-eqb, ne_eqb}
 use Rattle.std.proofs.Math.Option.{Option, none, some}
 use Rattle.std.proofs.Math.Path.{refl, sym, ap}
 use native.Mathlib.Omega.{arith}
 use Rattle.std.proofs.Math.Decide.{dec_lt, ℕ_discrete}
 use Rattle.std.proofs.Math.ListN.{drop}
 use Rattle.std.proofs.Math.Seq.{drop-cons}
-use Rattle.std.proofs.lemmas.Bool.{not-true, not-false}
 use Rattle.words.specs.Choice.{pick, then}
 use Rattle.words.specs.Choice.Laws.{pick_true, pick-false}
 use Rattle.typing.specs.Term.{Effect}
@@ -227,15 +226,14 @@ module _ (w : List ℕ) (end i due : ℕ) (t : Along w end i due) where
   reading : 0 < due → types t.fuel due (drop i w) ≡ types (suc (t.fuel - 1)) (suc (due - 1)) (drop i w)
   reading h = ap (λ (f : ℕ). types f due (drop i w)) (more-fuel h) ∙ ap (λ (m : ℕ). types (suc (t.fuel - 1)) m (drop i w)) (one_more h)
 
-  pub along-own : 0 < due → (r : ℕ) → Ends w (i + 1) (type_own (drop i w)) r → At w (i + 1) (type_own (drop i w)) r
-  along-own h r (inl n) = absurd (some-not _ t.reads (ap rest_of (reading h) ∙ types-stop (t.fuel - 1) (due - 1) (drop i w) n.none))
-  along-own h r (inr b) = b
+  pub along-found : 0 < due → (o : Answer ℕ) → Ends w (i + 1) (type_own (drop i w)) o → IsSome o
+  along-found h None n = absurd (some-not _ t.reads (ap rest_of (reading h) ∙ types-stop (t.fuel - 1) (due - 1) (drop i w) n))
+  along-found h (Some r) b = refl
 
-  pub along-turn : 0 < due → (r : ℕ) → Ends w (i + 1) (type_own (drop i w)) r → (n : ℕ) → n ≡ type_parts (get_or w i 0) → n ≤ 2
+  pub along-turn : 0 < due → (r : ℕ) → At w (i + 1) (type_own (drop i w)) r → (n : ℕ) → n ≡ type_parts (get_or w i 0) → n ≤ 2
       → Turn w end i due t r n
   unfolding list_of
-  along-turn h r q n e k =
-      let b = along-own h r q in
+  along-turn h r b n e k =
       let c = drop-cons w i 0 (along-inside h) in
       let own : type_own (get_or w i 0 ∷ drop (suc i) w) ≡ some (drop r w) = rw c at b.rest in
       let d = sums due n (type_parts (get_or w i 0)) h e in
@@ -285,6 +283,8 @@ pub record Pairing (u : List ℕ) (a e : ℕ) (v : List ℕ) (b f i j due : ℕ)
   pub right : Along v f j due
   pub to : type_in u a ≡ type_in v b → list_of u e i due left ≡ list_of v f j due right
   pub from : list_of u e i due left ≡ list_of v f j due right → type_in u a ≡ type_in v b
+  pub left-inside : 0 < due → i < length u
+  pub right-inside : 0 < due → j < length v
 
 pub pairing-begin : (u : List ℕ) (a e : ℕ) (v : List ℕ) (b f : ℕ) → At u a (rest_of (type_at (drop a u))) e → At v b (rest_of (type_at (drop b v))) f
     → Pairing u a e v b f a b 1
@@ -296,31 +296,24 @@ pairing-begin u a e v b f s t =
       right = along-begin v b f t;
       to = λ h. p ∙ ap (λ (T : Ty). T ∷ []) h ∙ sym q;
       from = λ h. heads (sym p ∙ h ∙ q);
+      left-inside = along-inside u e a 1 (along-begin u a e s);
+      right-inside = along-inside v f b 1 (along-begin v b f t);
     }
   where
     heads : type_in u a ∷ [] ≡ type_in v b ∷ [] → type_in u a ≡ type_in v b
     heads h = cc
 
 module _ (u : List ℕ) (a e : ℕ) (v : List ℕ) (b f i j due : ℕ) (t : Pairing u a e v b f i j due) where
-  pub pairing-left : 0 < due → i < length u
-  pairing-left h = along-inside u e i due t.left h
+  pub pairing-left : 0 < due → (o : Answer ℕ) → Ends u (i + 1) (type_own (drop i u)) o → IsSome o
+  pairing-left h o q = along-found u e i due t.left h o q
 
-  pub pairing-right : 0 < due → j < length v
-  pairing-right h = along-inside v f j due t.right h
-
-  pub pairing-own : 0 < due → (r : ℕ) → Ends u (i + 1) (type_own (drop i u)) r → At u (i + 1) (type_own (drop i u)) r
-  pairing-own h r q = along-own u e i due t.left h r q
-
-  pub pairing-other : 0 < due → (r : ℕ) → Ends v (j + 1) (type_own (drop j v)) r → At v (j + 1) (type_own (drop j v)) r
-  pairing-other h r q = along-own v f j due t.right h r q
-
-  pub pairing-few : due ≤ i + 1
-  pairing-few = t.left.few
+  pub pairing-right : 0 < due → (o : Answer ℕ) → Ends v (j + 1) (type_own (drop j v)) o → IsSome o
+  pairing-right h o q = along-found v f j due t.right h o q
 
   unequal : (list_of u e i due t.left ≡ list_of v f j due t.right → ⊥) → false ≡ test (same_type (type_in u a) (type_in v b))
   unequal d = sym (test-no (same_type (type_in u a) (type_in v b)) (λ h. d (t.to h)))
 
-  pub pairing-words : 0 < due → (r : ℕ) → Ends u (i + 1) (type_own (drop i u)) r → (s : ℕ) → Ends v (j + 1) (type_own (drop j v)) s
+  pub pairing-words : 0 < due → (r : ℕ) → At u (i + 1) (type_own (drop i u)) r → (s : ℕ) → At v (j + 1) (type_own (drop j v)) s
       → (get_or u i 0 ≡ get_or v j 0 → ⊥) → false ≡ test (same_type (type_in u a) (type_in v b))
   pairing-words h r q s p d =
       let x = along-turn u e i due t.left h r q (type_parts (get_or u i 0)) refl (parts-small (get_or u i 0)) in
@@ -328,10 +321,10 @@ module _ (u : List ℕ) (a e : ℕ) (v : List ℕ) (b f i j due : ℕ) (t : Pair
       unequal (λ g. d (sym (form-code (get_or u i 0) _ _ x.begins x.long) ∙ ap head_code (sym x.list ∙ g ∙ y.list)
       ∙ form-code (get_or v j 0) _ _ y.begins y.long))
 
-  pub pairing-effects : 0 < due → (r : ℕ) → Ends u (i + 1) (type_own (drop i u)) r → (s : ℕ) → Ends v (j + 1) (type_own (drop j v)) s
-      → get_or u i 0 ≡ get_or v j 0 → (c : Bool) → c ≡ test (same_effects (own_effects (drop i u)) (own_effects (drop j v))) → not c ≡ true
+  pub pairing-effects : 0 < due → (r : ℕ) → At u (i + 1) (type_own (drop i u)) r → (s : ℕ) → At v (j + 1) (type_own (drop j v)) s
+      → get_or u i 0 ≡ get_or v j 0 → false ≡ test (same_effects (own_effects (drop i u)) (own_effects (drop j v)))
       → false ≡ test (same_type (type_in u a) (type_in v b))
-  pairing-effects h r q s p same c d g =
+  pairing-effects h r q s p same d =
       let x = along-turn u e i due t.left h r q (type_parts (get_or u i 0)) refl (parts-small (get_or u i 0)) in
       let y = along-turn v f j due t.right h s p (type_parts (get_or v j 0)) refl (parts-small (get_or v j 0)) in
       unequal (λ k. effects-clash _ _ (sym x.list ∙ k ∙ y.list
@@ -340,7 +333,7 @@ module _ (u : List ℕ) (a e : ℕ) (v : List ℕ) (b f i j due : ℕ) (t : Pair
       effects-clash : (l m : List Ty) → form (get_or u i 0) (own_effects (drop i u)) l ≡ form (get_or u i 0) (own_effects (drop j v)) m → ⊥
       effects-clash l m k =
           let differ : own_effects (drop i u) ≡ own_effects (drop j v)
-          → ⊥ = λ z. clash (d ∙ test-yes (same_effects (own_effects (drop i u)) (own_effects (drop j v))) z) (not-true _ g) in
+          → ⊥ = λ z. clash (test-yes (same_effects (own_effects (drop i u)) (own_effects (drop j v))) z) (sym d) in
           elim (ℕ_discrete (get_or u i 0) 5) [
             | yes five ↦
                 differ (form-effects (own_effects (drop i u)) (own_effects (drop j v)) l m
@@ -348,13 +341,13 @@ module _ (u : List ℕ) (a e : ℕ) (v : List ℕ) (b f i j due : ℕ) (t : Pair
             | no other ↦ differ (own-not u i other ∙ sym (own-not v j (λ five. other (same ∙ five))))
           ]
 
-  pub pairing-again : 0 < due → (r : ℕ) → Ends u (i + 1) (type_own (drop i u)) r → (s : ℕ) → Ends v (j + 1) (type_own (drop j v)) s
-      → get_or u i 0 ≡ get_or v j 0 → (c : Bool) → c ≡ test (same_effects (own_effects (drop i u)) (own_effects (drop j v))) → not c ≡ false
+  pub pairing-again : 0 < due → (r : ℕ) → At u (i + 1) (type_own (drop i u)) r → (s : ℕ) → At v (j + 1) (type_own (drop j v)) s
+      → get_or u i 0 ≡ get_or v j 0 → true ≡ test (same_effects (own_effects (drop i u)) (own_effects (drop j v)))
       → (n : ℕ) → n ≡ type_parts (get_or u i 0) → n ≤ 2 → Pairing u a e v b f r s (due + n - 1)
-  pairing-again h r q s p same c d g n k l =
+  pairing-again h r q s p same d n k l =
       let x = along-turn u e i due t.left h r q n k l in
       let y = along-turn v f j due t.right h s p n (k ∙ ap type_parts same) l in
-      let es : own_effects (drop i u) ≡ own_effects (drop j v) = equal-effects (d, g) in
+      let es : own_effects (drop i u) ≡ own_effects (drop j v) = test-true (same_effects (own_effects (drop i u)) (own_effects (drop j v))) (sym d) in
       let to-form = ap (λ (m : ℕ). form m (own_effects (drop j v)) (list_of v f s (due + n - 1) y.next)) (sym same)
       ∙ ap (λ (fs : List Effect). form (get_or u i 0) fs (list_of v f s (due + n - 1) y.next)) (sym es) in
       record {
@@ -363,12 +356,10 @@ module _ (u : List ℕ) (a e : ℕ) (v : List ℕ) (b f i j due : ℕ) (t : Pair
         to = λ z. form-rest (get_or u i 0) _ _ _ _ x.begins x.long
             (subst (λ (m : ℕ). type_parts m ≤ length (list_of v f s (due + n - 1) y.next)) (sym same) y.long) (sym x.list ∙ t.to z ∙ y.list
             ∙ to-form);
+        left-inside = along-inside u e r (due + n - 1) x.next;
+        right-inside = along-inside v f s (due + n - 1) y.next;
         from = λ z. t.from (x.list ∙ ap (form (get_or u i 0) (own_effects (drop i u))) z ∙ sym to-form ∙ sym y.list);
       }
-    where
-      equal-effects : (c ≡ test (same_effects (own_effects (drop i u)) (own_effects (drop j v)))) × (not c ≡ false)
-          → own_effects (drop i u) ≡ own_effects (drop j v)
-      equal-effects z = test-true (same_effects (own_effects (drop i u)) (own_effects (drop j v))) (sym z.0 ∙ not-false _ z.1)
 
   pub pairing-done : due ≤ 0 → true ≡ test (same_type (type_in u a) (type_in v b))
   pairing-done h =

@@ -33,7 +33,7 @@ use Rattle.sending.specs.declared.Sent.{Sent}
 use Rattle.receiving.specs.declared.Received.{Received}
 use Rattle.receiving.specs.Turn.{in_turn}
 use Rattle.receiving.specs.Receiving.{standing, list_did, ListReady, Led, Brought}
-use Rattle.book.specs.Stop.{nowhere}
+use Rattle.std.specs.Prelude.{None}
 use Rattle.walking.specs.Stops.{stops_in}
 use Rattle.walking.specs.Walking.{act_did, ActReady, Acting}
 
@@ -163,7 +163,7 @@ module _ {b : List ℕ} {p s : ℕ} {x : Received} {f n z y : ℕ} where
       → c ≡ n → Wrote (3 ∷ s ∷ x.dictionary.next ∷ c ∷ []) out x.at middle a
       → Brought b (list_did b f n x) (record { dictionary = x.dictionary; at = a }) log log_after middle out_after r
       → m ≡ (r.dictionary.kept - x.dictionary.kept) / 3
-      → Acting b l p s x log log_after out out_after r 0 (1 + (r.dictionary.next - x.dictionary.next) - m) (nowhere s)
+      → Acting b l p s x log log_after out out_after r 0 (1 + (r.dictionary.next - x.dictionary.next) - m) None
   unfolding triple_words program_words event_words stops_in
   acts-receive {log = log} {out = out} {middle = middle} {a = a} ready df dn dz e dy h dc w t dm =
       let head : Led b (announced b s n x) x log log out middle (record { dictionary = x.dictionary; at = a }) =
@@ -186,7 +186,7 @@ module _ {b : List ℕ} {p s : ℕ} {x : Received} {f n z y : ℕ} where
 -- ---- it has no part in the step
 pub acts-idle : {b l : List ℕ} {p s : ℕ} {x : Received} {z y : ℕ} {log out : List ℕ} → length x.dictionary.entries ≡ 1024
     → z ≡ sender b s → (z ≡ p → ⊥) → y ≡ receiver b s → (y ≡ p → ⊥)
-    → Acting b l p s x log log out out x 0 0 (nowhere s)
+    → Acting b l p s x log log out out x 0 0 None
 unfolding stops_in
 acts-idle {b} {p = p} {s = s} {x = x} size dz e dy h =
     let no : sender b s ≡ p → ⊥ = λ q. e (dz ∙ q) in

@@ -8,7 +8,7 @@ use Rattle.words.specs.Choice.{pick}
 use Rattle.words.specs.Overlay.Laws.{wrote-length}
 use Rattle.book.specs.Layout.{steps, sender, receiver}
 use Rattle.book.specs.Headed.Laws.{few-steps}
-use Rattle.book.specs.Stop.{nowhere}
+use Rattle.std.specs.Prelude.{Option, None, Some}
 use Rattle.book.specs.declared.Stop.{Stop}
 use Rattle.translation.specs.Receive.{Did}
 use Rattle.translation.specs.Places.{places_of}
@@ -43,29 +43,35 @@ pub record Walked (b : List ℕ) (p i : ℕ) (log₀ log : List ℕ) (a : ℕ) (
   pub noted : StepsNoted b p i sends₀ sends receives₀ receives
   pub unrefused : Unrefused b p i
 
--- steps in which the party has no part add nothing
-walked_skip : {b : List ℕ} {p i j a e n k z : ℕ} {log₀ log out₀ out held sends₀ sends receives₀ receives : List ℕ}
-    → IdleUntil b p i j → Along b p i log₀ log a out₀ out held n k z → length held ≡ 1024 → e ≡ length (before b p i).events
-    → StepsNoted b p i sends₀ sends receives₀ receives → Unrefused b p i
-    → Walked b p j log₀ log a out₀ out (standing j held n k z) e sends₀ sends receives₀ receives
-walked_skip {b} {p} w g l d n u =
+-- a step in which the party has no part adds nothing
+pub walked_idle : {b : List ℕ} {p i a e n k z : ℕ} {log₀ log out₀ out held sends₀ sends receives₀ receives : List ℕ}
+    → IdleUntil b p i (i + 1) → Walked b p i log₀ log a out₀ out (standing i held n k z) e sends₀ sends receives₀ receives
+    → Walked b p (i + 1) log₀ log a out₀ out (standing (i + 1) held n k z) e sends₀ sends receives₀ receives
+walked_idle {b} {p} w g =
     let same = before-skip b p w in
     record {
       within = w.within;
-      along = doing-as g same;
+      along = doing-as g.along same;
       now = refl;
-      size = l;
-      events = d ∙ ap (λ (k : Did). length k.events) (sym same);
-      noted = noted-skip n w;
-      unrefused = unrefused-skip w u;
+      size = g.size;
+      events = g.events ∙ ap (λ (k : Did). length k.events) (sym same);
+      noted = noted-skip g.noted w;
+      unrefused = unrefused-skip w g.unrefused;
     }
 
 -- ---- at the start the party holds what it knows, and has had no event
-pub walked_start : {b : List ℕ} {p i a k : ℕ} {log out e sends receives : List ℕ} → Started b p e → IdleUntil b p 0 i → k ≡ 0
-    → Walked b p i log log a out out (standing i e 0 0 a) k sends sends receives receives
-walked_start {b} {p} {e = e} started idle none =
-    walked_skip idle (doing-as (rw (← started.holds) (doing-none {b = b} {x = e})) (before-none b p)) started.size
-    (none ∙ sym (ap (λ (k : Did). length k.events) (before-none b p))) noted-start (λ k l. absurd (omega arith))
+pub walked_start : {b : List ℕ} {p a k : ℕ} {log out e sends receives : List ℕ} → Started b p e → k ≡ 0
+    → Walked b p 0 log log a out out (standing 0 e 0 0 a) k sends sends receives receives
+walked_start {b} {p} {e = e} started none =
+    record {
+      within = omega arith;
+      along = doing-as (rw (← started.holds) (doing-none {b = b} {x = e})) (before-none b p);
+      now = refl;
+      size = started.size;
+      events = none ∙ sym (ap (λ (k : Did). length k.events) (before-none b p));
+      noted = noted-start;
+      unrefused = λ k l. absurd (omega arith);
+    }
 
 module _ {b l ps : List ℕ} {p upto i a e : ℕ} {log₀ log out₀ out sends₀ sends receives₀ receives : List ℕ} {x : Received}
     (ready : WalkReady b l ps p upto a) (h : i < upto) (g : Walked b p i log₀ log a out₀ out x e sends₀ sends receives₀ receives) where
@@ -93,7 +99,7 @@ module _ {b l ps : List ℕ} {p upto i a e : ℕ} {log₀ log out₀ out sends�
         room = omega arith;
       }
 
-  module _ {log_after out_after : List ℕ} {y : Received} {ahead more : ℕ} {t : Stop} (w : Acting b l p i x log log_after out out_after y ahead more t) where
+  module _ {log_after out_after : List ℕ} {y : Received} {ahead more : ℕ} {t : Option Stop} (w : Acting b l p i x log log_after out out_after y ahead more t) where
     further : Along b p (i + 1) log₀ log_after a out₀ out_after y.dictionary.entries y.dictionary.next y.dictionary.kept y.at
     further = along-on b p i g.along w.doing
 
@@ -127,7 +133,7 @@ module _ {b l ps : List ℕ} {p upto i a e : ℕ} {log₀ log out₀ out sends�
         omega arith
 
     -- where the step stops is where refusals 10 and 13 say
-    exact : t ≡ pick (refused_for b p i) (stop_of b i) (nowhere i)
+    exact : t ≡ pick (refused_for b p i) (Some (stop_of b i)) None
     exact = w.stops ∙ stops-exact b i in-book l p _ ready.claims ready.party g.along.holds
 
     module _ {sends_after receives_after : List ℕ} (n : NotedStep b p i (e + ahead) sends sends_after receives receives_after) where
@@ -135,7 +141,7 @@ module _ {b l ps : List ℕ} {p upto i a e : ℕ} {log₀ log out₀ out sends�
       noted = noted-on g.noted n send-there receive-there
 
       -- ---- a step at which it stops is the last
-      pub walked-stops : (t.number ≡ 0 → ⊥)
+      pub walked-stops : (t ≡ None → ⊥)
           → Walking b p upto y.dictionary.entries log₀ log_after a out₀ out_after sends₀ sends_after receives₀ receives_after
           (record { kept = y.dictionary.kept; at = y.at; events = e + more; stop = t })
       walked-stops z =
@@ -152,16 +158,26 @@ module _ {b l ps : List ℕ} {p upto i a e : ℕ} {log₀ log out₀ out sends�
             whole = λ q m. absurd (z q);
           }
 
-      -- ---- else the walk goes on to the party's next step
-      pub walked_on : {j : ℕ} → t.number ≡ 0 → IdleUntil b p (i + 1) j
-          → Walked b p j log₀ log_after a out₀ out_after
-          (standing j y.dictionary.entries y.dictionary.next y.dictionary.kept y.at)
+      -- ---- else the walk goes on
+      pub walked_on : t ≡ None
+          → Walked b p (i + 1) log₀ log_after a out₀ out_after
+          (standing (i + 1) y.dictionary.entries y.dictionary.next y.dictionary.kept y.at)
           (e + more) sends₀ sends_after receives₀ receives_after
-      walked_on z idle = walked_skip idle further w.size counted noted (unrefused-on b p i t exact g.unrefused z)
+      walked_on z =
+          let j = in-book in
+          record {
+            within = omega arith;
+            along = further;
+            now = refl;
+            size = w.size;
+            events = counted;
+            noted = noted;
+            unrefused = unrefused-on b p i t exact g.unrefused z;
+          }
 
 -- ---- what was lent keeps its length
 module _ {b l : List ℕ} {p i a e : ℕ} {log₀ log log_after out₀ out out_after sends₀ sends receives₀ receives : List ℕ}
-    {x y : Received} {ahead more : ℕ} {t : Stop} (g : Walked b p i log₀ log a out₀ out x e sends₀ sends receives₀ receives)
+    {x y : Received} {ahead more : ℕ} {t : Option Stop} (g : Walked b p i log₀ log a out₀ out x e sends₀ sends receives₀ receives)
     (w : Acting b l p i x log log_after out out_after y ahead more t) where
   pub acted-log : length log_after ≡ length log₀
   acted-log = wrote-length w.doing.keeps ∙ wrote-length g.along.keeps
@@ -183,7 +199,7 @@ module _ {b : List ℕ} {p i a e : ℕ} {log₀ log out₀ out sends₀ sends se
 pub walked-ends : {b : List ℕ} {p upto i a e : ℕ} {log₀ log out₀ out sends₀ sends receives₀ receives : List ℕ} {x : Received}
     → Walked b p i log₀ log a out₀ out x e sends₀ sends receives₀ receives
     → upto ≤ i → Walking b p upto x.dictionary.entries log₀ log a out₀ out sends₀ sends receives₀ receives
-    (record { kept = x.dictionary.kept; at = x.at; events = e; stop = nowhere upto })
+    (record { kept = x.dictionary.kept; at = x.at; events = e; stop = None })
 walked-ends {i = i} {x = x} g h =
     record {
       far = i;

@@ -4,6 +4,7 @@ use native.Mathlib.Omega.{arith}
 use mathlib.Core.List.{List, [], ◌∷◌}
 use mathlib.Core.Path.{◌≡◌, sym, ap, ◌∙◌}
 use lib.ListN.{length, take}
+use Rattle.std.specs.Prelude.{None}
 use Rattle.words.specs.Overlay.{Wrote}
 use Rattle.words.specs.Overlay.Laws.{wrote_then, wrote_as, wrote-take}
 use Rattle.book.specs.Layout.{parties, steps}
@@ -24,7 +25,7 @@ module _ {b : List ℕ} (v : Valid b) {p : ℕ} (h : p < parties b) where
   -- ---- measured: the words of the events, two of END, and three for each triple
   measured-words : {upto : ℕ} {held log log_after out out_after x x_after y y_after : List ℕ} {r : Passed}
       → Walking b p upto held log log_after 0 out out_after x x_after y y_after r
-      → r.stop.number ≡ 0 → upto ≡ steps b → r.at + 2 + r.kept ≡ length (part_words b p)
+      → r.stop ≡ None → upto ≡ steps b → r.at + 2 + r.kept ≡ length (part_words b p)
   measured-words {held = held} {log = log} {log_after = log_after} {out = out} {out_after = out_after} {r = r} g z e =
       let w : Along b p (steps b) log log_after 0 out out_after held g.next r.kept r.at = rw (g.whole z e) at g.along in
       let a = ends_at v p (omega arith) (omega arith) w in

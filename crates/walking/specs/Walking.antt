@@ -1,5 +1,5 @@
 -- What a party's walk asks for, and what it leaves behind, as its code has it.
-use Rattle.std.specs.Prelude.{ℕ, ◌+◌, ◌*◌, ◌≤◌, ◌<◌, List, map, ◌≡◌, length}
+use Rattle.std.specs.Prelude.{ℕ, ◌+◌, ◌*◌, ◌≤◌, ◌<◌, List, map, ◌≡◌, length, Option, None}
 use Rattle.words.specs.Overlay.{cap}
 use Rattle.terms.specs.Table.{term}
 use Rattle.book.specs.Layout.{table, parties, steps, known, sender, receiver}
@@ -40,7 +40,7 @@ pub record ActReady (b ps : List ℕ) (p s : ℕ) (x : Received) : Type 0 where
 
 -- party p's part in step s led from x to y by e events, h of them ahead of the step's SEND or RECEIVE, and stopped at t. The SEND is the
 -- last event of its step, the RECEIVE the first.
-pub record Acting (b l : List ℕ) (p s : ℕ) (x : Received) (log log_after out out_after : List ℕ) (y : Received) (h e : ℕ) (t : Stop) : Type 0 where
+pub record Acting (b l : List ℕ) (p s : ℕ) (x : Received) (log log_after out out_after : List ℕ) (y : Received) (h e : ℕ) (t : Option Stop) : Type 0 where
   pub doing : Led b (act_did b p s x) x log log_after out out_after y
   pub events : e ≡ length (act_did b p s x).events
   pub ahead : h ≤ e
@@ -81,13 +81,13 @@ pub record Walking (b : List ℕ) (p upto : ℕ) (entries log log_after : List �
   pub events : r.events ≡ length (before b p far).events
   pub noted : StepsNoted b p far x x_after y y_after
   pub stops : StopsBefore b p upto r.stop
-  pub whole : r.stop.number ≡ 0 → upto ≡ steps b → far ≡ steps b
+  pub whole : r.stop ≡ None → upto ≡ steps b → far ≡ steps b
 
 -- and what is measured so: of a walk that looked at all steps and did not stop, the program's words and the places of its events
 pub record Measures (b : List ℕ) (p upto : ℕ) (x x_after y y_after : List ℕ) (r : Measured) : Type 0 where
-  pub words : r.stop.number ≡ 0 → upto ≡ steps b → r.words ≡ length (part_words b p)
+  pub words : r.stop ≡ None → upto ≡ steps b → r.words ≡ length (part_words b p)
   pub few : r.words ≤ most_part
-  pub noted : r.stop.number ≡ 0 → upto ≡ steps b → PartyNoted b p x x_after y y_after r.events
+  pub noted : r.stop ≡ None → upto ≡ steps b → PartyNoted b p x x_after y y_after r.events
   pub sends-size : length x_after ≡ length x
   pub receives-size : length y_after ≡ length y
   pub stops : StopsBefore b p upto r.stop

@@ -1,8 +1,8 @@
 // A party's way through its own steps of a valid book, by the tables of claims and of partners. There is one walk, and it leaves all that
 // can be asked of a party: its events' words, what it stores, where its SENDs and RECEIVEs stand, and what it holds and how. Who wants less
 // lends less: `measure` counts the words and notes the places, `write_program` writes the words, `hold` leaves what is held in the end.
-// `act` and `next_own` are the walk's parts: one step, and the way to the next.
-#![tactic(auto)]
+// `act` and `is_own` are the walk's parts: one step, and whether the party has a part in it.
+#![tactic(auto, using(book::specs::Headed::Laws::headed_rules))]
 
 ghost use Rattle.std.specs.Prelude.{◌≡◌, ◌+◌, ◌≤◌, ◌<◌};
 ghost use Rattle.words.specs.Overlay.{Wrote};
@@ -10,7 +10,7 @@ ghost use Rattle.book.specs.Layout.{steps as steps_of};
 ghost use Rattle.book.specs.Valid.{Valid};
 ghost use Rattle.translation.specs.Listing.{part_words};
 ghost use Rattle.receiving.specs.Receiving.{standing};
-ghost use Rattle.walking.specs.Walk.{Unrefused, IdleUntil};
+ghost use Rattle.walking.specs.Walk.{Unrefused, own_step};
 ghost use Rattle.walking.specs.Noted.{noted_by, NotedStep};
 ghost use Rattle.walking.specs.Walking.{ActReady, Acting, WalkReady, Started, Walking, Measures, Holding};
 
@@ -21,10 +21,10 @@ use book::{
 use holding::start;
 use receiving::receive_messages;
 use sending::send;
-use words::{narrow, put, put_all, put2, put4, wide};
+use words::{narrow, put, put_all, put_each, wide};
 
 // What a step left: the next placeholder, the places of what is stored next and of the next word, the events ahead of its SEND or
-// RECEIVE and all its events, and where it stops.
+// RECEIVE and all its events, and where it stops, if it does.
 #[derive(Drop)]
 pub struct Acted {
     pub next: u32,
@@ -32,16 +32,16 @@ pub struct Acted {
     pub at: usize,
     pub ahead: u32,
     pub events: u32,
-    pub stop: Stop,
+    pub stop: Option<Stop>,
 }
 
-// What the steps left: the places of what is stored next and of the next word, the number of events, and where the walk stopped.
+// What the steps left: the places of what is stored next and of the next word, the number of events, and where the walk stopped, if it did.
 #[derive(Drop)]
 pub struct Passed {
     pub kept: usize,
     pub at: usize,
     pub events: u32,
-    pub stop: Stop,
+    pub stop: Option<Stop>,
 }
 
 // A party's part in one step, in its entries.
@@ -66,23 +66,17 @@ pub fn act(
     if step_sender(book, step) == party {
         let mark = party_mark(book, party);
         let sent = send(book, since, entries, mark, step, first, n, out, at);
-        let stop = sent.stop;
         return Acted {
             next,
             kept,
             at: sent.at,
             ahead: sent.made,
             events: sent.made + 1,
-            stop,
+            stop: sent.stop,
         };
     }
-    let nowhere = Stop {
-        number: 0,
-        step,
-        row: 0,
-    };
     if step_receiver(book, step) == party {
-        let last = put4(out, at, Code::RECEIVE, step, next, narrow(n));
+        let last = put_each(out, at, [Code::RECEIVE, step, next, narrow(n)]);
         let there = receive_messages(
             book,
             partners,
@@ -104,7 +98,7 @@ pub fn act(
             at: there.at,
             ahead: 0,
             events: 1 + (there.next - next) - stored,
-            stop: nowhere,
+            stop: None,
         };
     }
     Acted {
@@ -113,7 +107,7 @@ pub fn act(
         at,
         ahead: 0,
         events: 0,
-        stop: nowhere,
+        stop: None,
     }
 }
 
@@ -121,10 +115,9 @@ pub fn act(
 fn note_own(places: &mut [u32], who: u32, party: u32, step: u32, place: u32)
     ensures { places.new ≡ noted_by who party step place places.old }
 {
-    if who != party {
-        return;
+    if who == party {
+        put(places, wide(step), place);
     }
-    put(places, wide(step), place);
 }
 
 // A step's place, as its sender's or its receiver's.
@@ -138,24 +131,12 @@ fn note(book: &[u32], party: u32, step: u32, place: u32, sends: &mut [u32], rece
     note_own(receives, receiver, party, step, place);
 }
 
-// The first step from `from` on that the party sends or receives, or the number of steps: a party's dictionary is not handed on
-// where nothing is to do.
-pub fn next_own(book: &[u32], party: u32, from: u32) -> u32
-    requires { Valid book.now × (from ≤ steps_of book.now) }
-    ensures { IdleUntil book.now party from result }
+// The party sends or receives the step. A party's dictionary is not handed on where nothing is to do.
+pub fn is_own(book: &[u32], party: u32, step: u32) -> bool
+    requires { Valid book.now × (step < steps_of book.now) }
+    ensures { result ≡ own_step book.now party step }
 {
-    let n = steps(book);
-    let mut i = from;
-    while i < n {
-        if step_sender(book, i) == party {
-            return i;
-        }
-        if step_receiver(book, i) == party {
-            return i;
-        }
-        i += 1;
-    }
-    i
+    step_sender(book, step) == party || step_receiver(book, step) == party
 }
 
 // The steps before `upto`, for one party: what it holds is in `entries`, at first what it knows; its events' words go to `out`, what it
@@ -181,8 +162,10 @@ pub fn walk(
     let mut kept = 0;
     let mut last = at;
     let mut events = 0;
-    let mut i = next_own(book, party, 0);
-    while i < upto {
+    for i in 0..upto {
+        if !is_own(book, party, i) {
+            continue;
+        }
         let acted = act(
             book, since, partners, entries, next, kept, party, i, log, out, last,
         );
@@ -191,22 +174,16 @@ pub fn walk(
         kept = acted.kept;
         last = acted.at;
         events += acted.events;
-        let stop = acted.stop;
-        if stop.number != 0 {
+        if acted.stop.is_some() {
             return Passed {
                 kept,
                 at: last,
                 events,
-                stop,
+                stop: acted.stop,
             };
         }
-        i = next_own(book, party, i + 1);
     }
-    let nowhere = Stop {
-        number: 0,
-        step: upto,
-        row: 0,
-    };
+    let nowhere = None;
     Passed {
         kept,
         at: last,
@@ -215,12 +192,12 @@ pub fn walk(
     }
 }
 
-// A party's program, measured: how many words it has, how many events before its END, and where its walk stopped.
+// A party's program, measured: how many words it has, how many events before its END, and where its walk stopped, if it did.
 #[derive(Drop)]
 pub struct Measured {
     pub words: usize,
     pub events: u32,
-    pub stop: Stop,
+    pub stop: Option<Stop>,
 }
 
 // The walk with nothing lent for words. Steps from `upto` on are not looked at: all are before it, or a smaller one is refused
@@ -253,11 +230,10 @@ pub fn measure(
         sends,
         receives,
     );
-    let stop = passed.stop;
     Measured {
         words: passed.at + 2 + passed.kept,
         events: passed.events,
-        stop,
+        stop: passed.stop,
     }
 }
 
@@ -292,8 +268,8 @@ pub fn write_program(
         &mut receives[0..0],
     );
     let stored = events.kept;
-    let triples = put2(out, events.at, Code::END, narrow(stored / Triple::WORDS));
-    put_all(out, triples, &log, stored)
+    let triples = put_each(out, events.at, [Code::END, narrow(stored / Triple::WORDS)]);
+    put_all(out, triples, &log[..stored])
 }
 
 // What a party whose walk stops nowhere holds in the end, and how.

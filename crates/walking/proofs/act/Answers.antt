@@ -2,11 +2,9 @@
 -- nothing.
 use Prim.Native.Nat.{◌≤◌}
 use native.Mathlib.Omega.{arith}
-use borrow.Author.Rules.{rules}
-use Rattle.book.specs.Headed.Laws.{valid-headed}
 use Rattle.translation.specs.Long.{step_size}
 use Rattle.receiving.specs.Receiving.{standing}
-use Rattle.walking.proofs.Acting.{sender-party, send-ready, few-made, step-ready, Took, took, acts-send, acts-receive, acts-idle}
+use Rattle.walking.proofs.Acting.{send-ready, few-made, step-ready, Took, took, acts-send, acts-receive, acts-idle}
 use Rattle.walking.proofs.act.Goals as goal
 use Rattle.walking.proofs.act.Goals.{After-receive_messages-there, After-send-sent}
 
@@ -26,22 +24,7 @@ module _ (c : After-receive_messages-there) where
       c.step_sender.ensures c.if-step_sender-party.false c.step_receiver.ensures
       c.if-step_receiver-party.true c.receive_messages-there.ensures
 
-pub step_first-first-requires : goal.step_first-first-requires
-step_first-first-requires c = search (valid-headed, rules)
-
-pub step_count-n-requires : goal.step_count-n-requires
-step_count-n-requires c = search (valid-headed, rules)
-
-pub step_sender-requires : goal.step_sender-requires
-step_sender-requires c = search (valid-headed, rules)
-
 -- the party sends the step, so that it is one of the book's
-pub party_mark-mark-requires : goal.party_mark-mark-requires
-party_mark-mark-requires c = (
-  valid-headed _ c.requires.valid,
-  sender-party c.requires c.step_sender.ensures c.if-step_sender-party.true,
-)
-
 -- a step makes few atoms
 pub send-sent-requires : goal.send-sent-requires
 send-sent-requires c = send-ready c.requires c.step_first-first.ensures.0 c.step_count-n.ensures.0
@@ -54,26 +37,14 @@ returns-then-step_sender-party c = acts-send c.requires c.step_first-first.ensur
     c.step_sender.ensures c.if-step_sender-party.true c.party_mark-mark.ensures
     c.send-sent.ensures
 
-pub step_receiver-requires : goal.step_receiver-requires
-step_receiver-requires c = search (valid-headed, rules)
-
-pub rows-requires : goal.rows-requires
-rows-requires c = search valid-headed
-
 -- the party receives the step: its messages hand out what the step does, and that fits
 pub receive_messages-there-requires : goal.receive_messages-there-requires
 receive_messages-there-requires c = step-ready c.requires c.rows.ensures c.step_first-first.ensures.0
     c.step_count-n.ensures.0 c.step_sender.ensures c.if-step_sender-party.false
     c.step_receiver.ensures c.if-step_receiver-party.true
 
-pub overflow_sub-there : goal.overflow_sub-there
-overflow_sub-there c = omega (arith, taken (goal.at.overflow_sub-there c).After-receive_messages-there)
-
 pub narrow-stored-requires : goal.narrow-stored-requires
 narrow-stored-requires c = omega (arith, taken (goal.at.narrow-stored-requires c).After-receive_messages-there)
-
-pub overflow_sub-result : goal.overflow_sub-result
-overflow_sub-result c = omega (arith, taken (goal.at.overflow_sub-result c).After-receive_messages-there)
 
 pub overflow_add-result-then-step_receiver-party : goal.overflow_add-result-then-step_receiver-party
 overflow_add-result-then-step_receiver-party c = omega (arith, taken (goal.at.overflow_add-result-then-step_receiver-party c).After-receive_messages-there)
@@ -85,7 +56,7 @@ overflow_sub-result-then-step_receiver-party c = omega (arith, taken (goal.at.ov
 pub returns-then-step_receiver-party : goal.returns-then-step_receiver-party
 returns-then-step_receiver-party c = acts-receive c.requires c.step_first-first.ensures.0 c.step_count-n.ensures.0
     c.step_sender.ensures c.if-step_sender-party.false c.step_receiver.ensures
-    c.if-step_receiver-party.true c.narrow.ensures c.put4-last.ensures
+    c.if-step_receiver-party.true c.narrow.ensures c.put_each-last.ensures
     c.receive_messages-there.ensures c.narrow-stored.ensures
 
 pub returns : goal.returns

@@ -1,12 +1,8 @@
 -- `walking::hold` meets its contract: what a walk through all steps that finds nothing leaves is what is held in the
 -- end. Assumes nothing.
 use borrow.Author.Rules.{rules}
-use Rattle.book.specs.Headed.Laws.{valid-headed}
 use Rattle.walking.proofs.Whole.{held_whole}
 use Rattle.walking.proofs.hold.Goals as goal
-
-pub steps-requires : goal.steps-requires
-steps-requires c = search valid-headed
 
 -- the steps are the book's
 pub walk-requires : goal.walk-requires

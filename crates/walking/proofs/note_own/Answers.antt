@@ -3,10 +3,10 @@
 use Rattle.walking.specs.Noted.Laws.{noted_other, noted-there}
 use Rattle.walking.proofs.note_own.Goals as goal
 
--- the step is another's
-pub returns-then-who-party : goal.returns-then-who-party
-returns-then-who-party c = noted_other _ _ c.if-who-party.true
-
 -- the step is the party's
-pub returns : goal.returns
-returns c = noted-there c.if-who-party.false c.wide.ensures.0 c.put.ensures
+pub returns-then-who-party : goal.returns-then-who-party
+returns-then-who-party c = noted-there c.if-who-party.true c.wide.ensures.0 c.put.ensures
+
+-- the step is another's
+pub returns-else-who-party : goal.returns-else-who-party
+returns-else-who-party c = noted_other _ _ c.if-who-party.false

@@ -1,6 +1,5 @@
--- `walking::walk` meets its contract: the party came through the steps before its next one and has not stopped; a
--- step at which it stops is the last. Assumes nothing.
-use Prim.Native.Nat.{◌-◌}
+-- `walking::walk` meets its contract: the party came through the steps so far and has not stopped; a step at which it stops
+-- is the last. Assumes nothing.
 use Rattle.receiving.specs.Receiving.{standing}
 use Rattle.walking.specs.Walking.{WalkReady}
 use Rattle.walking.proofs.Walked.{Walked}
@@ -10,6 +9,3 @@ abbrev pub invariant-loop-i : goal.invariant-loop-i
 invariant-loop-i l = WalkReady l.book l.since l.partners l.party l.upto l.at
     × Walked l.book l.party l.i l.initial.log l.log l.at l.initial.out l.out (standing l.i l.entries l.next l.kept l.last)
     l.events l.initial.sends l.sends l.initial.receives l.receives
-
-abbrev pub decreases-loop-i : goal.decreases-loop-i
-decreases-loop-i l = l.upto - l.i

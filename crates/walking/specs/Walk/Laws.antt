@@ -1,12 +1,12 @@
 -- Laws of a party's walk. Assumes nothing.
-use Rattle.std.specs.Prelude.{ℕ, zero, suc, ◌+◌, ◌-◌, ◌≤◌, ◌<◌, List, false, ◌≡◌, length}
-use Rattle.std.proofs.Common.{add-zero, add-suc, arith, sym, ap, ◌∙◌, ne_eqb}
-use Rattle.words.specs.Choice.Laws.{pick-false}
-use Rattle.book.specs.Layout.{sender, receiver}
+use Rattle.std.specs.Prelude.{ℕ, zero, suc, ◌+◌, ◌-◌, ◌≤◌, ◌<◌, Bool, List, false, ◌≡◌, length, eqb}
+use Rattle.std.proofs.Common.{true≢false, add-zero, add-suc, arith, sym, ap, ◌∙◌, eq-eqb, ne_eqb}
+use Rattle.words.specs.Choice.Laws.{pick-false, or_left, or_right}
+use Rattle.book.specs.Layout.{steps, sender, receiver}
 use Rattle.translation.specs.Receive.{followed}
 use Rattle.translation.specs.Steps.{before}
 use Rattle.translation.proofs.Steps.Laws.{followed-nothing, step-idle, before_more}
-use Rattle.walking.specs.Walk.{refused_for, IdleUntil}
+use Rattle.walking.specs.Walk.{refused_for, own_step, IdleUntil}
 
 -- ---- steps in which the party has no part
 module _ (b : List ℕ) (p : ℕ) where
@@ -29,3 +29,16 @@ module _ (b : List ℕ) (p : ℕ) where
   pub refused-idle : (k : ℕ) → (sender b k ≡ p → ⊥) → refused_for b p k ≡ false
   unfolding refused_for
   refused-idle k n = pick-false _ _ _ (ne_eqb (sender b k) p n)
+
+-- step s is not the party's, as code asked
+pub idle-step : {b : List ℕ} {p s : ℕ} {x : Bool} → s < steps b → x ≡ own_step b p s → x ≡ false → IdleUntil b p s (s + 1)
+idle-step {b} {p} {s} h d e =
+    let n : own_step b p s ≡ false = sym d ∙ e in
+    record {
+      from = omega arith;
+      within = omega arith;
+      idle = λ k x m. let z : k ≡ s = omega arith in rw z (
+        (λ q. true≢false (sym (or_left (eqb (sender b s) p) _ (eq-eqb (sender b s) p q)) ∙ n)),
+        (λ q. true≢false (sym (or_right (eqb (sender b s) p) _ (eq-eqb (receiver b s) p q)) ∙ n)),
+      );
+    }

@@ -103,9 +103,6 @@ module _ (w : List ℕ) (p end x i due n : ℕ) (t : Counting w p end x i due n)
   pub counting-some : 0 < due → (r : Answer ℕ) → Ends w (i + 1) (process_own (drop i w)) r → IsSome r
   counting-some h r q = along-some w end i due t.later t.along h r q
 
-  pub counting-few : due ≤ i + 1
-  counting-few = t.along.few
-
   pub counting-names : 0 < due → (r : ℕ) → At w (i + 1) (process_own (drop i w)) r → i + process_names (get_or w i 0) < length w
   counting-names h r q = along-names w end i due t.later t.along h r q
 
@@ -294,9 +291,6 @@ module _ (w : List ℕ) (p end i due : ℕ) (t : Passing w p end i due) where
 
   pub passing-some : 0 < due → (r : Answer ℕ) → Ends w (i + 1) (process_own (drop i w)) r → IsSome r
   passing-some h r q = along-some w end i due t.later t.along h r q
-
-  pub passing-few : due ≤ i + 1
-  passing-few = t.along.few
 
   pub passing-names : 0 < due → (r : ℕ) → At w (i + 1) (process_own (drop i w)) r → i + process_names (get_or w i 0) < length w
   passing-names h r q = along-names w end i due t.later t.along h r q

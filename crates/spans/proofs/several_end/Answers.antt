@@ -1,10 +1,7 @@
 -- `spans::several_end` meets its contract: of k things from the place a, as many as the turns are behind the place i. Assumes nothing.
 use Rattle.spans.specs.Behind.Laws.{ends-nothing}
-use Rattle.spans.specs.Behind.Times.{walk-begin, walk_none, walk-again, walk-done}
+use Rattle.spans.specs.Behind.Times.{walk_none, walk-again, walk-done}
 use Rattle.spans.proofs.several_end.Goals as goal
-
-pub loop-init : goal.loop-init
-loop-init g c = search walk-begin
 
 pub returns-in_err-i : goal.returns-in_err-i
 returns-in_err-i g c = search (ends-nothing, walk_none, c.in_err-i.ensures)

@@ -1,5 +1,5 @@
 -- What a change makes of words.
-use Rattle.std.specs.Prelude.{ℕ, ◌≤◌, ◌<◌, List, [], ◌∷◌, ◌++◌, map, ◌⊎◌, ◌≡◌, eqb, length, drop}
+use Rattle.std.specs.Prelude.{ℕ, ◌≤◌, ◌<◌, List, [], ◌∷◌, ◌++◌, map, ◌≡◌, eqb, length, drop, Option, None, Some}
 use Rattle.words.specs.Choice.{pick}
 use Rattle.typing.specs.Term.{Term, Effect, Change, change_term, change_effect, term_words}
 use Rattle.typing.specs.Bag.{bag}
@@ -22,18 +22,15 @@ abbrev pub There : List ℕ → By → Type 0
 There w (Bind x) = Unit {0}
 There w (Put m end) = At w m (rest_of (term (drop m w))) end
 
--- the words ws stand from the place i on: r is the place behind them, or 0 where they don't
-pub record Missing (w : List ℕ) (i : ℕ) (ws : List ℕ) (r : ℕ) : Type 0 where
-  pub zero : r ≡ 0
-  pub other : (v : List ℕ) → drop i w ≡ ws ++ v → ⊥
-
+-- the words ws stand from the place i on, and r is the place behind them
 pub record Found (w : List ℕ) (i : ℕ) (ws : List ℕ) (r : ℕ) : Type 0 where
-  pub some_word : 0 < r
   pub inside : r ≤ length w
   pub words : drop i w ≡ ws ++ drop r w
 
-abbrev pub Stood : List ℕ → ℕ → List ℕ → ℕ → Type 0
-Stood w i ws r = Missing w i ws r ⊎ Found w i ws r
+-- the answer is the place behind the words ws from the place i on, and none where they don't stand there
+abbrev pub Stood : List ℕ → ℕ → List ℕ → Option ℕ → Type 0
+Stood w i ws None = (v : List ℕ) → drop i w ≡ ws ++ v → ⊥
+Stood w i ws (Some r) = Found w i ws r
 
 -- a name or a variable by its word and its number
 unfoldable pub leaf_term : ℕ → ℕ → Term

@@ -1,28 +1,14 @@
--- `changed::count_changed` meets its contract: it stands n times among the first j, changed. Assumes nothing.
-use native.Mathlib.Omega.{arith}
-use Rattle.changed.specs.Put.Effects.{tally-begin, tally-inside, tally-end, tally-term, tally-again, tally-done}
+-- `changed::count_changed` meets its contract: whether each is the effect, changed, is counted. Assumes nothing.
+use Rattle.std.proofs.Common.{rules, sym, ◌∙◌}
+use Rattle.typing.specs.Term.{same_effect, change_effect}
+use Rattle.alike.specs.Same.{effect_in, effects_in, test}
+use Rattle.changed.specs.Put.{change_by}
+use Rattle.changed.specs.Put.Effects.{count-changed}
 use Rattle.changed.proofs.count_changed.Goals as goal
 
-pub loop-j-init : goal.loop-j-init
-loop-j-init c = tally-begin _ _ _ _ _ _ c.requires.0
-
-pub overflow_add-i : goal.overflow_add-i
-overflow_add-i c = let l = tally-inside _ _ _ _ _ _ _ _ _ c.loop-j.invariant c.loop-j-test.true in
-    omega arith
-
-pub is_changed-requires : goal.is_changed-requires
-is_changed-requires c = let (reads, own, own-term, there) = c.requires in (
-  own,
-  own-term,
-  tally-end _ _ _ _ _ _ _ _ _ c.loop-j.invariant c.loop-j-test.true _
-      c.term_end-e.ensures,
-  tally-term _ _ _ _ _ _ _ _ _ c.loop-j.invariant c.loop-j-test.true _
-      c.term_end-e.ensures,
-  there,
-)
-
-pub loop-j-preserved : goal.loop-j-preserved
-loop-j-preserved c = search tally-again
-
 pub returns : goal.returns
-returns c = search tally-done
+returns c =
+    let ch = change_by c.args.w.now c.args.by in
+    let x = effect_in c.args.w.now c.args.b in
+    c.count_where.ensures.counts (λ y. test (same_effect (change_effect ch y) x)) (λ i e r t k. search rules)
+    ∙ sym (count-changed ch x (effects_in c.args.w.now c.args.a c.args.k))

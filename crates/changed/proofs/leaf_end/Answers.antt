@@ -1,30 +1,32 @@
 -- `changed::leaf_end` meets its contract: by the change and the leaf. Assumes nothing.
-use Rattle.changed.specs.Put.Laws.{bind-bound, bind-here, bind-name, put-name, put-here, put-bound, put-there}
+use native.Mathlib.Omega.{arith}
+use Rattle.changed.specs.Put.Laws.{bind-bound, bind-here, bind-name, put-name, put-here, put-bound, put-words, no-word}
 use Rattle.changed.proofs.leaf_end.Goals as goal
 
-pub returns-then-c-ne1 : goal.returns-then-c-ne1
-returns-then-c-ne1 c = bind-bound _ _ _ _ c.in-Bind.is _ _ _ c.if-c-ne1.true _ c.wide.ensures.0
-    c.pair_end.ensures
+pub returns-in_err-checked_add-in_default : goal.returns-in_err-checked_add-in_default
+returns-in_err-checked_add-in_default c =
+    rw (c.from_residual.ensures, bind-bound c.args.w.now _ _ c.in-Bind.is _ _ c.in_default.is-0.1)
+    (no-word c.args.w.now _ _ _ (λ k. omega (arith, c.type_inv.w k)) c.in_err-checked_add-in_default.ensures)
 
-pub returns-then-n-x : goal.returns-then-n-x
-returns-then-n-x c = bind-here _ _ _ _ c.in-Bind.is _ _ _ c.if-c-ne1.false c.if-n-x.true c.pair_end-then-n-x.ensures
+pub returns-in-1-true : goal.returns-in-1-true
+returns-in-1-true c = rw (bind-here c.args.w.now _ _ c.in-Bind.is _ _ c.in-1-true.is-0 c.in-1-true.is-1) c.words_end.ensures
 
-pub returns-then-c-eq1 : goal.returns-then-c-eq1
-returns-then-c-eq1 c = put-name _ _ _ _ _ c.in-Put.is _ _ _ c.if-c-eq1.true _ c.wide-then-c-eq1.ensures.0
-    c.pair_end-then-c-eq1.ensures
+pub returns-in-1-false : goal.returns-in-1-false
+returns-in-1-false c = rw (bind-name c.args.w.now _ _ c.in-Bind.is _ _ c.in-1-false.is-0 c.in-1-false.is-1) c.words_end-in-1-false.ensures
 
-pub copy_end-requires : goal.copy_end-requires
-copy_end-requires c = let (inside, behind, there) = c.requires in
-    (inside, put-there _ _ _ _ c.in-Put.is there)
+pub returns-in_ok-checked_add-in_default : goal.returns-in_ok-checked_add-in_default
+returns-in_ok-checked_add-in_default c =
+    rw (bind-bound c.args.w.now _ _ c.in-Bind.is _ _ c.in_default.is-0.1, ← c.in_ok-checked_add-in_default.ensures.1)
+    c.words_end-in_default.ensures
 
-pub returns-then-n-eq0 : goal.returns-then-n-eq0
-returns-then-n-eq0 c = put-here _ _ _ _ _ c.in-Put.is _ _ _ c.if-c-eq1.false c.if-n-eq0.true c.copy_end.ensures
+pub returns-in-1-default : goal.returns-in-1-default
+returns-in-1-default c = rw (put-name c.args.w.now _ _ _ c.in-Put.is _ _ c.in-1-default.is-0) c.words_end-in-1-default.ensures
 
-pub returns-else-n-x : goal.returns-else-n-x
-returns-else-n-x c = bind-name _ _ _ _ c.in-Bind.is _ _ _ c.if-c-ne1.false c.if-n-x.false _
-    c.wide-in-Bind.ensures.0
-    c.pair_end-in-Bind.ensures
+pub returns-in_default-eq0 : goal.returns-in_default-eq0
+returns-in_default-eq0 c =
+    rw (put-words c.args.w.now _ _ _ c.in-Put.is _ _ c.requires.2
+    (put-here c.args.w.now _ _ _ c.in-Put.is _ _ c.in_default-eq0.is-0.1 c.in_default-eq0.is-1))
+    c.words_end-in_default-eq0.ensures
 
-pub returns-else-n-eq0 : goal.returns-else-n-eq0
-returns-else-n-eq0 c = put-bound _ _ _ _ _ c.in-Put.is _ _ _ c.if-c-eq1.false c.if-n-eq0.false _
-    c.wide-in-Put.ensures.0 c.pair_end-in-Put.ensures
+pub returns-in_default-2 : goal.returns-in_default-2
+returns-in_default-2 c = rw (put-bound c.args.w.now _ _ _ c.in-Put.is _ _ c.in_default-2.is-0.1 c.in_default-2.is-1.1) c.words_end-in_default-2.ensures

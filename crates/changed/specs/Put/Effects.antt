@@ -1,30 +1,34 @@
 -- Changed effects, by counting. Assumes nothing.
-use Prim.Native.Nat.{ℕ, zero, suc, ◌+◌, ◌-◌, ◌≤◌, ◌<◌}
-use Rattle.std.specs.Prelude.{Bool, ◌⊎◌, ◌≡◌, drop, get_or}
-use Rattle.std.proofs.Math.Bool.{true, false}
-use Rattle.std.proofs.Common.{true≢false, inl, inr, sym, ◌∙◌, add-one, drop-cons}
+use Prim.Native.Nat.{ℕ, zero, suc, ◌+◌, ◌≤◌, ◌<◌}
+use Rattle.std.specs.Prelude.{Bool, ◌≡◌, drop, get_or}
+use Rattle.std.specs.List.{list_all, count_by}
+use Rattle.std.proofs.Math.Bool.{false, cond}
+use Rattle.std.proofs.Common.{sym, ◌∙◌, add-one, drop-cons, eq-eqb, eqb-true}
+use Rattle.std.proofs.lemmas.List.{length-map}
+use Rattle.std.proofs.lemmas.Bool.Decides.{same_from_decides}
+use Rattle.std.proofs.lemmas.List.Sums.{sum_by-cons}
 use mathlib.Core.List.{List, [], ◌∷◌, map}
 use Rattle.std.proofs.Math.Option.{none, some}
 use Rattle.std.proofs.Math.Path.{refl, ap}
 use native.Mathlib.Omega.{arith}
 use Rattle.std.proofs.Math.ListN.{length}
-use Rattle.words.specs.Choice.{pick, then}
+use Rattle.words.specs.Choice.{then}
 use Rattle.words.specs.Choice.Laws.{pick_ind}
-use Rattle.words.specs.First.Laws.{clash}
 use Rattle.typing.specs.Term.{Term, Effect, Change, same_term, same_effect, change_term, change_effect, effect_words}
 use Rattle.typing.specs.Bag.{up_to, insert, plus, bag, count}
-use Rattle.typing.proofs.Bag.Laws.{count_none, count-here, count-other, bag-same}
+use Rattle.typing.proofs.Bag.Laws.{count-here, count-other, bag-same}
 use Rattle.typing.specs.Types.{same_effects}
 use Rattle.typing.specs.Reading.{Read, after, term, effect_of, effects}
-use Rattle.spans.specs.Behind.{rest_of, At, Ends}
+use Rattle.spans.specs.Behind.{rest_of}
 use Rattle.alike.specs.Same.{value_or, term_in, effect_in, effects_in, test}
 use Rattle.alike.specs.Same.Laws.{test-yes, test-no, test-true}
-use Rattle.alike.specs.Same.Effects.{Along, along-inside, along-end, along-term, along-again, along-list, list-none, list_length}
-use Rattle.alike.specs.Same.Bags.{counts_all, length-same}
+use Rattle.alike.specs.Same.Effects.{list_length}
+use Rattle.alike.specs.Same.Each.{EffectAt, count-by, all-true, all-counted}
+use Rattle.alike.specs.Same.Bags.{counts_all, length-same, level}
 use Rattle.changed.specs.Put.{changed_effects}
 
 -- ---- an effect by its word
-by_word : ℕ → Term → Effect
+pub by_word : ℕ → Term → Effect
 by_word zero M = Effect.end M
 by_word (suc zero) M = Effect.end M
 by_word (suc (suc c)) M = Effect.check M
@@ -60,198 +64,91 @@ change-by ch (suc zero) M = refl
 change-by ch (suc (suc c)) M = refl
 
 -- ---- the effect at a place
-module _ (w : List ℕ) (i e : ℕ) (b : At w i (rest_of (effect_of (drop i w))) e) (t : At w (i + 1) (rest_of (term (drop (i + 1) w))) e) where
-  inside : i < length w
-  inside = omega (arith, t.after, t.inside)
+pub record Spelled (w : List ℕ) (i : ℕ) : Type 0 where
+  pub inside : i < length w
+  pub some_word : 0 < get_or w i 0
+  pub small : get_or w i 0 ≤ 2
+  pub effect_is : effect_in w i ≡ by_word (get_or w i 0) (term_in w (i + 1))
 
-  whole : drop i w ≡ get_or w i 0 ∷ drop (i + 1) w
-  whole = rw add-one (drop-cons w i 0 inside)
-
-  parts : (0 < get_or w i 0) × (get_or w i 0 ≤ 2)
-      × (value_or (Effect.end (Term.bound 0)) (effect_of (get_or w i 0 ∷ drop (i + 1) w))
-      ≡ by_word (get_or w i 0) (value_or (Term.bound 0) (term (drop (i + 1) w))))
-  parts = read_by (get_or w i 0) (drop (i + 1) w) (drop e w) (sym (ap (λ (u : List ℕ). rest_of (effect_of u)) whole) ∙ b.rest)
-
-  effect_is : effect_in w i ≡ by_word (get_or w i 0) (term_in w (i + 1))
-  unfolding effect_in term_in
-  effect_is = ap (λ (u : List ℕ). value_or (Effect.end (Term.bound 0)) (effect_of u)) whole ∙ parts.2
+pub spelled : {w : List ℕ} {i e : ℕ} → EffectAt w i e → Spelled w i
+unfolding effect_in term_in
+spelled {w} {i} {e} t =
+    let inside : i < length w = omega (arith, t.own.after, t.own.inside) in
+    let whole : drop i w ≡ get_or w i 0 ∷ drop (i + 1) w = rw add-one (drop-cons w i 0 inside) in
+    let parts = read_by (get_or w i 0) (drop (i + 1) w) (drop e w) (sym (ap (λ (u : List ℕ). rest_of (effect_of u)) whole) ∙ t.effect.rest) in
+    record {
+      inside = inside;
+      some_word = parts.0;
+      small = parts.1;
+      effect_is = ap (λ (u : List ℕ). value_or (Effect.end (Term.bound 0)) (effect_of u)) whole ∙ parts.2;
+    }
 
 -- ---- the effect at i is the one at j, changed
-module _ (w : List ℕ) (ch : Change) (i e j f : ℕ) (b : At w i (rest_of (effect_of (drop i w))) e) (t : At w (i + 1) (rest_of (term (drop (i + 1) w))) e)
-    (d : At w j (rest_of (effect_of (drop j w))) f) (s : At w (j + 1) (rest_of (term (drop (j + 1) w))) f) where
+module _ (w : List ℕ) (ch : Change) (i e j f : ℕ) (b : EffectAt w i e) (d : EffectAt w j f) where
   changed-is : change_effect ch (effect_in w j) ≡ by_word (get_or w j 0) (change_term ch (term_in w (j + 1)))
-  changed-is = ap (change_effect ch) (effect_is w j f d s) ∙ change-by ch (get_or w j 0) (term_in w (j + 1))
+  changed-is = ap (change_effect ch) (spelled d).effect_is ∙ change-by ch (get_or w j 0) (term_in w (j + 1))
+
+  parts-same : change_effect ch (effect_in w j) ≡ effect_in w i
+      → (get_or w j 0 ≡ get_or w i 0) × (change_term ch (term_in w (j + 1)) ≡ term_in w (i + 1))
+  parts-same z =
+      same_by (get_or w j 0) (get_or w i 0) (change_term ch (term_in w (j + 1))) (term_in w (i + 1)) (spelled d).some_word (spelled d).small
+      (spelled b).some_word (spelled b).small (sym changed-is ∙ z ∙ (spelled b).effect_is)
 
   pub is-other : (get_or w i 0 ≡ get_or w j 0 → ⊥) → false ≡ test (same_effect (change_effect ch (effect_in w j)) (effect_in w i))
-  is-other n =
-      let (k, l, x) = parts w i e b t in
-      let (m, o, y) = parts w j f d s in
-      sym (test-no (same_effect (change_effect ch (effect_in w j)) (effect_in w i)) (λ z.
-      n (sym (same_by (get_or w j 0) (get_or w i 0) (change_term ch (term_in w (j + 1))) (term_in w (i + 1)) m o k l
-      (sym changed-is ∙ z ∙ effect_is w i e b t)).0)))
+  is-other n = sym (test-no (same_effect (change_effect ch (effect_in w j)) (effect_in w i)) (λ z. n (sym (parts-same z).0)))
 
   pub is_one : get_or w i 0 ≡ get_or w j 0 → (r : Bool) → r ≡ test (same_term (term_in w (i + 1)) (change_term ch (term_in w (j + 1))))
       → r ≡ test (same_effect (change_effect ch (effect_in w j)) (effect_in w i))
-  is_one n true h =
-      let same : term_in w (i + 1) ≡ change_term ch (term_in w (j + 1)) = test-true (same_term (term_in w (i + 1)) (change_term ch (term_in w (j + 1)))) (sym h) in
-      sym (test-yes (same_effect (change_effect ch (effect_in w j)) (effect_in w i))
-      (changed-is ∙ ap (λ (c : ℕ). by_word c (change_term ch (term_in w (j + 1)))) (sym n) ∙ ap (by_word (get_or w i 0)) (sym same)
-      ∙ sym (effect_is w i e b t)))
-  is_one n false h =
-      let (k, l, x) = parts w i e b t in
-      let (m, o, y) = parts w j f d s in
-      sym (test-no (same_effect (change_effect ch (effect_in w j)) (effect_in w i)) (λ z.
-      clash (test-yes (same_term (term_in w (i + 1)) (change_term ch (term_in w (j + 1))))
-      (sym (same_by (get_or w j 0) (get_or w i 0) (change_term ch (term_in w (j + 1))) (term_in w (i + 1)) m o k l
-      (sym changed-is ∙ z ∙ effect_is w i e b t)).1)) (sym h)))
+  is_one n r h =
+      let own = same_term (term_in w (i + 1)) (change_term ch (term_in w (j + 1))) in
+      let whole = same_effect (change_effect ch (effect_in w j)) (effect_in w i) in
+      same_from_decides r (test whole) (
+        λ t. changed-is ∙ ap (λ (c : ℕ). by_word c (change_term ch (term_in w (j + 1)))) (sym n)
+            ∙ ap (by_word (get_or w i 0)) (sym (test-true own (sym h ∙ t))) ∙ sym (spelled b).effect_is,
+        λ z. h ∙ test-yes own (sym (parts-same z).1),
+      )
+      (test-true whole, test-yes whole)
 
--- ---- how often an effect stands among changed ones: n times among the first j
-pub record Tally (w : List ℕ) (ch : Change) (a k end : ℕ) (x : Effect) (i j n : ℕ) : Type 0 where
-  pub along : Along w end (k - j) i
-  pub sum : count x (changed_effects ch (effects_in w a k)) ≡ n + count x (changed_effects ch (effects_in w i (k - j)))
-  pub few : j ≤ k
-  pub small : n ≤ j
+-- ---- how often an effect stands among changed ones: how many it is, changed
+count-map : (ch : Change) (x : Effect) (es : List Effect) → count_by (λ y. test (same_effect y x)) (map (change_effect ch) es)
+    ≡ count_by (λ y. test (same_effect (change_effect ch y) x)) es
+count-map ch x [] = refl
+count-map ch x (y ∷ es) =
+    sum_by-cons (λ z. cond (test (same_effect z x)) 1 0) (change_effect ch y) (map (change_effect ch) es)
+    ∙ ap (λ (n : ℕ). cond (test (same_effect (change_effect ch y) x)) 1 0 + n) (count-map ch x es)
+    ∙ sym (sum_by-cons (λ z. cond (test (same_effect (change_effect ch z) x)) 1 0) y es)
 
-sub-zero : (k : ℕ) → k - 0 ≡ k
-sub-zero k = omega arith
+pub count-changed : (ch : Change) (x : Effect) (es : List Effect)
+    → count x (changed_effects ch es) ≡ count_by (λ y. test (same_effect (change_effect ch y) x)) es
+unfolding changed_effects
+count-changed ch x es = count-by x (map (change_effect ch) es) ∙ count-map ch x es
 
-pub tally-begin : (w : List ℕ) (ch : Change) (a k end : ℕ) (x : Effect) → rest_of (effects k (drop a w)) ≡ some (drop end w)
-    → Tally w ch a k end x a 0 0
-tally-begin w ch a k end x h =
-    record { along = record { reads = rw (sub-zero k) h }; sum = rw (sub-zero k) (omega arith); few = omega arith; small = omega arith }
-
-module _ (w : List ℕ) (ch : Change) (a k end : ℕ) (x : Effect) (i j n : ℕ) (t : Tally w ch a k end x i j n) where
-  due : j < k → 0 < k - j
-  due h = omega arith
-
-  less : k - j - 1 ≡ k - (j + 1)
-  less = omega arith
-
-  pub tally-inside : j < k → i < length w
-  tally-inside h = along-inside w end (k - j) i t.along (due h)
-
-  pub tally-end : j < k → (r : ℕ) → Ends w (i + 1) (rest_of (term (drop (i + 1) w))) r → At w i (rest_of (effect_of (drop i w))) r
-  tally-end h r q = along-end w end (k - j) i t.along (due h) r q
-
-  pub tally-term : j < k → (r : ℕ) → Ends w (i + 1) (rest_of (term (drop (i + 1) w))) r → At w (i + 1) (rest_of (term (drop (i + 1) w))) r
-  tally-term h r q = along-term w end (k - j) i t.along (due h) r q
-
-  turn : j < k → (r : ℕ) → Ends w (i + 1) (rest_of (term (drop (i + 1) w))) r
-      → changed_effects ch (effects_in w i (k - j)) ≡ change_effect ch (effect_in w i) ∷ changed_effects ch (effects_in w r (k - (j + 1)))
-  unfolding changed_effects
-  turn h r q =
-      ap (map (change_effect ch)) (along-list w end (k - j) i t.along (due h) r q ∙ ap (λ (m : ℕ). effect_in w i ∷ effects_in w r m) less)
-
-  pub tally-again : j < k → (r : ℕ) → Ends w (i + 1) (rest_of (term (drop (i + 1) w))) r → (b : Bool)
-      → b ≡ test (same_effect (change_effect ch (effect_in w i)) x) → (p : ℕ) → p ≡ pick b 1 0 → p ≤ 1 → Tally w ch a k end x r (j + 1) (n + p)
-  unfolding pick
-  tally-again h r q b e p d l =
-      let s = ap (count x) (turn h r q) in
-      record {
-        along = rw less at (along-again w end (k - j) i t.along (due h) r q);
-        sum = go b e d s;
-        few = omega arith;
-        small = omega (arith, t.small);
-      }
-    where
-      go : (c : Bool) → c ≡ test (same_effect (change_effect ch (effect_in w i)) x) → p ≡ pick c 1 0
-          → count x (changed_effects ch (effects_in w i (k - j)))
-          ≡ count x (change_effect ch (effect_in w i) ∷ changed_effects ch (effects_in w r (k - (j + 1))))
-          → count x (changed_effects ch (effects_in w a k)) ≡ (n + p) + count x (changed_effects ch (effects_in w r (k - (j + 1))))
-      go true f g s = elim (same_effect (change_effect ch (effect_in w i)) x) [
-        | yes y ↦ omega (arith, t.sum, count-here x (change_effect ch (effect_in w i)) (changed_effects ch (effects_in w r (k - (j + 1)))) (sym y))
-        | no y ↦ absurd (true≢false (f ∙ test-no (same_effect (change_effect ch (effect_in w i)) x) y))
-      ]
-      go false f g s = elim (same_effect (change_effect ch (effect_in w i)) x) [
-        | yes y ↦ absurd (true≢false (sym (f ∙ test-yes (same_effect (change_effect ch (effect_in w i)) x) y)))
-        | no y ↦ omega (arith, t.sum, count-other x (change_effect ch (effect_in w i)) (changed_effects ch (effects_in w r (k - (j + 1)))) (λ z. y (sym z)))
-      ]
-
-  pub tally-done : k ≤ j → n ≡ count x (changed_effects ch (effects_in w a k))
-  unfolding changed_effects
-  tally-done h =
-      let z : k - j ≡ 0 = omega arith in
-      let e = ap (λ (m : ℕ). count x (changed_effects ch (effects_in w i m))) z in
-      let d = ap (λ (l : List Effect). count x (map (change_effect ch) l)) (list-none w i) in
-      omega (arith, t.sum, count_none x)
-
--- ---- each effect of the first list is counted, or still to come
-pub record Weighing (w : List ℕ) (a k fin : ℕ) (l : List Effect) (i j : ℕ) : Type 0 where
-  pub along : Along w fin (k - j) i
-  pub few : j ≤ k
-  pub passed : (x : Effect) → 0 < count x (effects_in w a k) → (count x l ≡ count x (effects_in w a k)) ⊎ (0 < count x (effects_in w i (k - j)))
-
-pub weighing-begin : (w : List ℕ) (a k fin : ℕ) (l : List Effect) → rest_of (effects k (drop a w)) ≡ some (drop fin w) → Weighing w a k fin l a 0
-weighing-begin w a k fin l h =
-    record { along = record { reads = rw (sub-zero k) h }; few = omega arith; passed = λ x c. inr (rw (sub-zero k) c) }
-
+-- ---- a list, and one that is changed
 module _ (w : List ℕ) (ch : Change) (a k fin b m last : ℕ) (s : rest_of (effects k (drop a w)) ≡ some (drop fin w))
     (v : rest_of (effects m (drop b w)) ≡ some (drop last w)) where
-  abbrev L : List Effect
-  L = changed_effects ch (effects_in w b m)
-
-  changed-length : length L ≡ m
+  changed-length : length (changed_effects ch (effects_in w b m)) ≡ m
   unfolding changed_effects
-  changed-length = go (effects_in w b m) ∙ list_length w b m last v
-    where
-      go : (l : List Effect) → length (map (change_effect ch) l) ≡ length l
-      go [] = refl
-      go (x ∷ l) = ap suc (go l)
+  changed-length = length-map (effects_in w b m) (change_effect ch) ∙ list_length w b m last v
 
-  pub bags-lengths : (k ≡ m → ⊥) → false ≡ test (same_effects (bag (effects_in w a k)) (bag L))
-  bags-lengths d =
-      sym (test-no (same_effects (bag (effects_in w a k)) (bag L)) (λ h.
-      d (sym (list_length w a k fin s) ∙ length-same (effects_in w a k) L ((bag-same (effects_in w a k) L).0 h) ∙ changed-length)))
+  pub lengths-differ : (k ≡ m → ⊥) → false ≡ test (same_effects (bag (effects_in w a k)) (bag (changed_effects ch (effects_in w b m))))
+  lengths-differ d =
+      let es = effects_in w a k in
+      let fs = changed_effects ch (effects_in w b m) in
+      sym (test-no (same_effects (bag es) (bag fs)) (λ h.
+      d (sym (list_length w a k fin s) ∙ length-same es fs ((bag-same es fs).0 h) ∙ changed-length)))
 
-  pub bags-differ : (x : Effect) (p q : ℕ) → p ≡ count x (effects_in w a k) → q ≡ count x L → (p ≡ q → ⊥)
-      → false ≡ test (same_effects (bag (effects_in w a k)) (bag L))
-  bags-differ x p q e f d =
-      sym (test-no (same_effects (bag (effects_in w a k)) (bag L)) (λ h. d (e ∙ (bag-same (effects_in w a k) L).0 h x ∙ sym f)))
-
-  module _ (i j : ℕ) (t : Weighing w a k fin L i j) where
-    still : j < k → 0 < k - j
-    still h = omega arith
-
-    fewer : k - j - 1 ≡ k - (j + 1)
-    fewer = omega arith
-
-    pub weighing-inside : j < k → i < length w
-    weighing-inside h = along-inside w fin (k - j) i t.along (still h)
-
-    pub weighing-end : j < k → (r : ℕ) → Ends w (i + 1) (rest_of (term (drop (i + 1) w))) r → At w i (rest_of (effect_of (drop i w))) r
-    weighing-end h r q = along-end w fin (k - j) i t.along (still h) r q
-
-    pub weighing-term : j < k → (r : ℕ) → Ends w (i + 1) (rest_of (term (drop (i + 1) w))) r → At w (i + 1) (rest_of (term (drop (i + 1) w))) r
-    weighing-term h r q = along-term w fin (k - j) i t.along (still h) r q
-
-    pub weighing-again : j < k → (r : ℕ) → Ends w (i + 1) (rest_of (term (drop (i + 1) w))) r → (p q : ℕ)
-        → p ≡ count (effect_in w i) (effects_in w a k)
-        → q ≡ count (effect_in w i) L → p ≡ q → Weighing w a k fin L r (j + 1)
-    weighing-again h r z p q e f d =
-        let turn = along-list w fin (k - j) i t.along (still h) r z ∙ ap (λ (y : ℕ). effect_in w i ∷ effects_in w r y) fewer in
-        record { along = rw fewer at (along-again w fin (k - j) i t.along (still h) r z); few = omega arith; passed = λ x c. go x turn (t.passed x c) }
-      where
-        go : (x : Effect) → effects_in w i (k - j) ≡ effect_in w i ∷ effects_in w r (k - (j + 1))
-            → (count x L ≡ count x (effects_in w a k)) ⊎ (0 < count x (effects_in w i (k - j)))
-            → (count x L ≡ count x (effects_in w a k)) ⊎ (0 < count x (effects_in w r (k - (j + 1))))
-        go x turn (inl y) = inl y
-        go x turn (inr y) = elim (same_effect x (effect_in w i)) [
-          | yes o ↦ inl (ap (λ (z : Effect). count z L) o ∙ sym f ∙ sym d ∙ e ∙ ap (λ (z : Effect). count z (effects_in w a k)) (sym o))
-          | no o ↦ inr (omega (arith, ap (count x) turn, count-other x (effect_in w i) (effects_in w r (k - (j + 1))) o))
-        ]
-
-    pub weighing-done : k ≡ m → k ≤ j → true ≡ test (same_effects (bag (effects_in w a k)) (bag L))
-    weighing-done same h =
-        let z : k - j ≡ 0 = omega arith in
-        sym (test-yes (same_effects (bag (effects_in w a k)) (bag L))
-        ((bag-same (effects_in w a k) L).1 (λ x. sym
-        (counts_all (effects_in w a k) L (changed-length ∙ sym same ∙ sym (list_length w a k fin s)) (λ y c. go y z (t.passed y c)) x))))
-      where
-        go : (x : Effect) → k - j ≡ 0 → (count x L ≡ count x (effects_in w a k)) ⊎ (0 < count x (effects_in w i (k - j)))
-            → count x L ≡ count x (effects_in w a k)
-        go x z (inl p) = p
-        go x z (inr p) =
-            absurd (omega (arith, ap (λ (y : ℕ). count x (effects_in w i y)) z, ap (count x) (list-none w i), count_none x))
+  pub lists_compared : k ≡ m → (r : Bool) → r ≡ list_all (level (effects_in w a k) (changed_effects ch (effects_in w b m))) (effects_in w a k)
+      → r ≡ test (same_effects (bag (effects_in w a k)) (bag (changed_effects ch (effects_in w b m))))
+  unfolding level
+  lists_compared e r d =
+      let es = effects_in w a k in
+      let fs = changed_effects ch (effects_in w b m) in
+      same_from_decides r (test (same_effects (bag es) (bag fs))) (
+        λ h. (bag-same es fs).1 (λ x. sym (counts_all es fs (changed-length ∙ sym e ∙ sym (list_length w a k fin s))
+            (λ y c. sym (eqb-true _ _ (all-counted (level es fs) es (sym d ∙ h) y c))) x)),
+        λ h. d ∙ all-true (level es fs) es (λ x. eq-eqb _ _ ((bag-same es fs).0 h x)),
+      )
+      (test-true (same_effects (bag es) (bag fs)), test-yes (same_effects (bag es) (bag fs)))
 
 -- ---- a multiset, changed, is the multiset of its list, changed
 count-first : (x y : Effect) (k l : List Effect) → count x k ≡ count x l → count x (y ∷ k) ≡ count x (y ∷ l)

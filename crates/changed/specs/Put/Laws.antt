@@ -1,127 +1,51 @@
 -- Laws of changed words. Assumes nothing.
 use Prim.Native.Nat.{ℕ, zero, suc, ◌+◌, ◌*◌, ◌-◌, ◌≤◌, ◌<◌}
-use Rattle.std.specs.Prelude.{Bool, true, false, not, eqb, take}
-use Rattle.std.proofs.Common.{true≢false, inl, inr, ◌∙◌, subst, add-one, length-drop, length-append, drop_of_length-le, take-append-drop, drop-cons, drop-drop, take_at, eq-eqb, ne_eqb}
+use Rattle.std.specs.Prelude.{Bool, true, false, eqb, take, Option as Answer, None, IsSome}
+use Rattle.std.proofs.Common.{true≢false, ◌∙◌, subst, length-drop, length-append, get_or-drop, drop_of_length-le, drop-cons, drop-drop, eq-eqb, ne_eqb}
 use mathlib.Core.List.{List, [], ◌∷◌, ◌++◌, append_assoc}
 use Rattle.std.proofs.Math.Option.{Option, none, some}
 use Rattle.std.proofs.Math.Path.{◌≡◌, refl, sym, ap}
 use native.Mathlib.Omega.{arith}
 use Rattle.std.proofs.Math.Decide.{dec_lt, ℕ_discrete as dec_eq}
 use Rattle.std.proofs.Math.ListN.{length, drop, get_or}
-use Rattle.std.proofs.lemmas.Bool.{not-true, not-false}
+use Rattle.std.specs.List.{starts_with}
+use Rattle.std.proofs.Math.Seq.{take-length}
+use Rattle.std.proofs.lemmas.Bool.Decides.{Decides-eqb}
+use Rattle.std.proofs.lemmas.Slice.Eq.{starts_is}
 use Rattle.words.specs.Choice.{pick, then}
 use Rattle.words.specs.Choice.Laws.{pick_true, pick-false}
 use Rattle.words.specs.First.Laws.{clash}
-use Rattle.words.specs.Run.{run, same_words}
-use Rattle.words.specs.Run.Laws.{same-exact, run_take, run_length}
+use Rattle.words.specs.Run.Laws.{run_take}
 use Rattle.typing.specs.Term.{Term, Change, same_term, at_name, at_bound, change_term, term_words}
 use Rattle.typing.proofs.Bag.Laws.{words-term}
 use Rattle.typing.specs.Reading.{Read, ahead, joined, after, terms, only, term}
-use Rattle.spans.specs.Behind.{rest_of, At, term_turn}
-use Rattle.spans.specs.Behind.Laws.{Counted, terms-counted, rest-term, terms-nothing, terms-two, terms-one, terms-cut, terms-empty, turn_small, due-more, due-less, few-more, few-less}
+use Rattle.spans.specs.Behind.{rest_of, At, Ends, term_turn, term_own, term_parts}
+use Rattle.spans.specs.Behind.Terms.{own_at, own-turn, parts-turn}
+use Rattle.spans.specs.Behind.Laws.{Counted, ends_some, terms-counted, rest-term, terms-nothing, terms-two, terms-one, terms-cut, terms-empty, turn_small, due-more, due-less, few-more, few-less}
 use Rattle.alike.specs.Same.{value_or, term_in, test, all_term_words}
 use Rattle.alike.specs.Same.Laws.{read-value, test-yes, test-no, term-spelled, run-term}
-use Rattle.changed.specs.Put.{change_by, There, Missing, Found, Stood, leaf_term, step_words, changed_words}
+use Rattle.changed.specs.Put.{change_by, There, Found, Stood, leaf_term, step_words, changed_words}
 use Rattle.changed.specs.declared.By.{By}
 use Rattle.changed.specs.declared.By.TheVariants.{Bind, Put}
 
--- ---- words that stand at a place
-pub word-past : (w : List ℕ) (i c : ℕ) → length w ≤ i → Stood w i (c ∷ []) 0
-word-past w i c l = inl (record { zero = refl; other = λ v e. past (sym (drop_of_length-le w l) ∙ e) })
-  where
-    past : {v : List ℕ} → [] ≡ c ∷ v → ⊥
-    past e = let z : ◌≡◌ {A = ℕ} 0 1 = cc in omega arith
+-- ---- words that stand at a place: what is left there begins with them
+module _ (w : List ℕ) (i : ℕ) (ws : List ℕ) (r : Bool) (l : i ≤ length w) (e : r ≡ starts_with eqb (take (length w - i) (drop i w)) ws) where
+  begins : (r ≡ true → drop i w ≡ ws ++ drop (length ws) (drop i w)) × ((v : List ℕ) → drop i w ≡ ws ++ v → r ≡ true)
+  begins =
+      let whole : take (length w - i) (drop i w) ≡ drop i w =
+      ap (λ (n : ℕ). take n (drop i w)) (sym (length-drop i w)) ∙ take-length (drop i w) in
+      starts_is Decides-eqb (drop i w) ws r (rw whole at e)
 
-module _ (w : List ℕ) (i c : ℕ) (l : i < length w) where
-  whole : drop i w ≡ get_or w i 0 ∷ drop (i + 1) w
-  whole = rw add-one (drop-cons w i 0 l)
+  pub words-here : r ≡ true → Found w i ws (i + length ws)
+  words-here h =
+      let s = begins.0 h in
+      record {
+        inside = omega (arith, ap length s, length-append ws (drop (length ws) (drop i w)), length-drop i w);
+        words = s ∙ ap (λ (u : List ℕ). ws ++ u) (drop-drop (length ws) i w);
+      }
 
-  first_of : (ws v : List ℕ) → drop i w ≡ c ∷ (ws ++ v) → get_or w i 0 ≡ c
-  first_of ws v e = let d : get_or w i 0 ∷ drop (i + 1) w ≡ c ∷ (ws ++ v) = sym whole ∙ e in cc
-
-  pub word-other : (get_or w i 0 ≡ c → ⊥) → Stood w i (c ∷ []) 0
-  word-other d = inl (record { zero = refl; other = λ v e. d (first_of [] v e) })
-
-  pub word-here : get_or w i 0 ≡ c → Stood w i (c ∷ []) (i + 1)
-  word-here d = inr (record { some_word = omega arith; inside = omega arith; words = whole ∙ ap (λ (x : ℕ). x ∷ drop (i + 1) w) d })
-
-pub pair-cut : (w : List ℕ) (i c n : ℕ) → i ≤ length w → length w - i < 2 → Stood w i (c ∷ n ∷ []) 0
-pair-cut w i c n l h =
-    inl (record { zero = refl; other = λ v e. let k = ap length e in omega (arith, length-drop i w) })
-
-module _ (w : List ℕ) (i c n : ℕ) (l : i ≤ length w) (h : 2 ≤ length w - i) where
-  two : drop i w ≡ get_or w i 0 ∷ get_or w (i + 1) 0 ∷ drop (i + 2) w
-  two =
-      let next : i + 1 + 1 ≡ i + 2 = omega arith in
-      whole w i c (omega arith) ∙ ap (λ (u : List ℕ). get_or w i 0 ∷ u) (whole w (i + 1) n (omega arith))
-      ∙ ap (λ (k : ℕ). get_or w i 0 ∷ get_or w (i + 1) 0 ∷ drop k w) next
-
-  pub pair-word : (get_or w i 0 ≡ c → ⊥) → Stood w i (c ∷ n ∷ []) 0
-  pair-word d = inl (record { zero = refl; other = λ v e. d (first_of w i c (omega arith) (n ∷ []) v e) })
-
-  pub pair-number : (m : ℕ) → m ≡ get_or w (i + 1) 0 → (m ≡ n → ⊥) → Stood w i (c ∷ n ∷ []) 0
-  pair-number m k d =
-      inl (record { zero = refl; other = λ v e. d (k ∙ seconds v (sym two ∙ e)) })
-    where
-      seconds : (v : List ℕ) → get_or w i 0 ∷ get_or w (i + 1) 0 ∷ drop (i + 2) w ≡ c ∷ n ∷ v → get_or w (i + 1) 0 ≡ n
-      seconds v e = cc
-
-  pub pair-here : get_or w i 0 ≡ c → (m : ℕ) → m ≡ get_or w (i + 1) 0 → m ≡ n → Stood w i (c ∷ n ∷ []) (i + 2)
-  pair-here d m k e =
-      inr (record { some_word = omega arith; inside = omega arith; words = two ∙ joined-up d (sym k ∙ e) })
-    where
-      joined-up : get_or w i 0 ≡ c → get_or w (i + 1) 0 ≡ n → get_or w i 0 ∷ get_or w (i + 1) 0 ∷ drop (i + 2) w ≡ c ∷ n ∷ drop (i + 2) w
-      joined-up p q = cc
-
--- the words of a term at another place
-words-some : (M : Term) → 0 < length (term_words M)
-unfolding term_words
-words-some (Term.name n) = omega arith
-words-some (Term.bound k) = omega arith
-words-some (Term.pair M N) = omega arith
-words-some (Term.cipher M N) = omega arith
-
-module _ (w : List ℕ) (i m end : ℕ) (l : i ≤ length w) (t : At w m (rest_of (term (drop m w))) end) where
-  run_is : run w m (end - m) ≡ term_words (term_in w m)
-  run_is = run-term w m end t
-
-  long : length (term_words (term_in w m)) ≡ end - m
-  long = sym (ap length run_is) ∙ run_length w m (end - m)
-
-  pub copy-cut : length w - i < end - m → Stood w i (term_words (term_in w m)) 0
-  copy-cut h =
-      inl (record {
-        zero = refl;
-        other = λ v e. let k = ap length e ∙ length-append (term_words (term_in w m)) v in omega (arith, length-drop i w, long);
-      })
-
-  module _ (h : end - m ≤ length w - i) where
-    taken : run w i (end - m) ≡ take (end - m) (drop i w)
-    taken = run_take w i (end - m) (omega arith)
-
-    pub copy-other : (b : Bool) → b ≡ same_words (run w i (end - m)) (run w m (end - m)) → not b ≡ true → Stood w i (term_words (term_in w m)) 0
-    copy-other b e z =
-        inl (record {
-          zero = refl;
-          other = λ v d.
-              clash (e ∙ (same-exact (run w i (end - m)) (run w m (end - m))).1
-              (taken ∙ ap (take (end - m)) d ∙ take_at (term_words (term_in w m)) v (end - m) long ∙ sym run_is)) (not-true b z);
-        })
-
-    pub copy-here : (b : Bool) → b ≡ same_words (run w i (end - m)) (run w m (end - m)) → not b ≡ false
-        → Stood w i (term_words (term_in w m)) (i + (end - m))
-    copy-here b e z =
-        let same = (same-exact (run w i (end - m)) (run w m (end - m))).0 (sym e ∙ not-false b z) in
-        inr (record {
-          some_word = omega (arith, t.after, t.some_word, length-positive);
-          inside = omega (arith, t.inside);
-          words = sym (take-append-drop (end - m) (drop i w))
-              ∙ ap (λ (u : List ℕ). u ++ drop (end - m) (drop i w)) (sym taken ∙ same ∙ run_is)
-              ∙ ap (λ (u : List ℕ). term_words (term_in w m) ++ u) (drop-drop (end - m) i w);
-        })
-      where
-        length-positive : 0 < end - m
-        length-positive = omega (arith, long, words-some (term_in w m))
+  pub words-not : r ≡ false → (v : List ℕ) → drop i w ≡ ws ++ v → ⊥
+  words-not h v d = clash (begins.1 v d) h
 
 -- ---- what a name or a variable becomes
 leaf-name : (c n : ℕ) → c ≡ 1 → leaf_term c n ≡ Term.name n
@@ -151,62 +75,60 @@ name-other n x e = go (eqb n x) (ne_eqb n x e)
 abbrev becomes : List ℕ → By → ℕ → ℕ → List ℕ
 becomes w by c n = term_words (change_term (change_by w by) (leaf_term c n))
 
-stood-as : (w : List ℕ) (i r : ℕ) (us vs : List ℕ) → vs ≡ us → Stood w i us r → Stood w i vs r
-stood-as w i r us vs e s = rw e s
-
-module _ (w : List ℕ) (i : ℕ) (by : By) (x : ℕ) (q : by ≡ Bind x) (c n r : ℕ) where
-  pub bind-bound : (c ≡ 1 → ⊥) → (k : ℕ) → k ≡ n → Stood w i (4 ∷ (k + 1) ∷ []) r → Stood w i (becomes w by c n) r
+module _ (w : List ℕ) (by : By) (x : ℕ) (q : by ≡ Bind x) (c n : ℕ) where
+  pub bind-bound : (c ≡ 1 → ⊥) → becomes w by c n ≡ 4 ∷ (n + 1) ∷ []
   unfolding change_term at_bound term_words change_by
-  bind-bound d k e s =
-      let one : k + 1 ≡ suc n = omega arith in
-      stood-as w i r _ _ (rw (q, leaf-bound c n d, one)) s
+  bind-bound d = let one : n + 1 ≡ suc n = omega arith in rw (q, leaf-bound c n d, one)
 
-  pub bind-here : c ≡ 1 → n ≡ x → Stood w i (4 ∷ 0 ∷ []) r → Stood w i (becomes w by c n) r
+  pub bind-here : c ≡ 1 → n ≡ x → becomes w by c n ≡ 4 ∷ 0 ∷ []
   unfolding change_term at_name term_words change_by
-  bind-here d e s = stood-as w i r _ _ (rw (q, leaf-name c n d) (ap term_words (name-here n x e))) s
+  bind-here d e = rw (q, leaf-name c n d) (ap term_words (name-here n x e))
 
-  pub bind-name : c ≡ 1 → (n ≡ x → ⊥) → (k : ℕ) → k ≡ n → Stood w i (1 ∷ k ∷ []) r → Stood w i (becomes w by c n) r
+  pub bind-name : c ≡ 1 → (n ≡ x → ⊥) → becomes w by c n ≡ 1 ∷ n ∷ []
   unfolding change_term at_name term_words change_by
-  bind-name d e k f s = stood-as w i r _ _ (rw (q, leaf-name c n d, f) (ap term_words (name-other n x e))) s
+  bind-name d e = rw (q, leaf-name c n d) (ap term_words (name-other n x e))
 
 pub put-there : (w : List ℕ) (by : By) (m end : ℕ) → by ≡ Put m end → There w by → At w m (rest_of (term (drop m w))) end
 put-there w by m end q h = subst (There w) q h
 
-pred : (n : ℕ) → (n ≡ 0 → ⊥) → n ≡ suc (n - 1)
-pred n d = omega arith
-
-module _ (w : List ℕ) (i : ℕ) (by : By) (m end : ℕ) (q : by ≡ Put m end) (c n r : ℕ) where
-  pub put-name : c ≡ 1 → (k : ℕ) → k ≡ n → Stood w i (1 ∷ k ∷ []) r → Stood w i (becomes w by c n) r
+module _ (w : List ℕ) (by : By) (m end : ℕ) (q : by ≡ Put m end) (c n : ℕ) where
+  pub put-name : c ≡ 1 → becomes w by c n ≡ 1 ∷ n ∷ []
   unfolding change_term at_name term_words change_by
-  put-name d k f s = stood-as w i r _ _ (rw (q, leaf-name c n d, f)) s
+  put-name d = rw (q, leaf-name c n d)
 
-  pub put-here : (c ≡ 1 → ⊥) → n ≡ 0 → Stood w i (term_words (term_in w m)) r → Stood w i (becomes w by c n) r
+  pub put-here : (c ≡ 1 → ⊥) → n ≡ 0 → becomes w by c n ≡ term_words (term_in w m)
   unfolding change_term at_bound change_by
-  put-here d e s = stood-as w i r _ _ (rw (q, leaf-bound c n d, e)) s
+  put-here d e = rw (q, leaf-bound c n d, e)
 
-  pub put-bound : (c ≡ 1 → ⊥) → (n ≡ 0 → ⊥) → (k : ℕ) → k ≡ n → Stood w i (4 ∷ (k - 1) ∷ []) r → Stood w i (becomes w by c n) r
+  pub put-bound : (c ≡ 1 → ⊥) → (n ≡ 0 → ⊥) → becomes w by c n ≡ 4 ∷ (n - 1) ∷ []
   unfolding change_term at_bound term_words change_by
-  put-bound d e k f s =
-      let less : k - 1 ≡ n - 1 = omega arith in
-      stood-as w i r _ _ (rw (q, leaf-bound c n d, less) (ap (λ (z : ℕ). term_words (at_bound (Change.put (term_in w m)) z)) (pred n e))) s
+  put-bound d e =
+      let more : n ≡ suc (n - 1) = omega arith in
+      rw (q, leaf-bound c n d) (ap (λ (z : ℕ). term_words (at_bound (Change.put (term_in w m)) z)) more)
+
+  -- the words of the term that is put
+  pub put-words : There w by → becomes w by c n ≡ term_words (term_in w m) → becomes w by c n ≡ take (end - m) (drop m w)
+  put-words h e =
+      let t = put-there w by m end q h in
+      e ∙ sym (run-term w m end t) ∙ run_take w m (end - m) (omega (arith, t.after, t.inside))
+
+-- a number that is no word stands nowhere
+pub no-word : (w : List ℕ) (i c n : ℕ) → ((k : ℕ) → get_or w k 0 < 4294967296) → (n < 4294967296 → ⊥) → (v : List ℕ)
+    → drop i w ≡ c ∷ n ∷ v → ⊥
+no-word w i c n f d v e = d (subst (λ (k : ℕ). k < 4294967296) (sym (get_or-drop i w 1 0) ∙ ap (λ (u : List ℕ). get_or u 1 0) e) (f (i + 1)))
 
 -- ---- one step
-pub step-two : (w : List ℕ) (i r : ℕ) (ch : Change) (c n t : ℕ) → t ≡ term_turn c → t ≡ 2 → Stood w i (c ∷ []) r
-    → Stood w i (step_words ch c n) r
-unfolding step_words
-step-two w i r ch c n t e d s = stood-as w i r _ _ (pick_true (eqb (term_turn c) 2) _ _ (eq-eqb (term_turn c) 2 (sym e ∙ d))) s
+module _ (ch : Change) (c n m : ℕ) (h : 0 < term_turn c) (e : m ≡ term_parts c) where
+  pub step-two : m ≡ 2 → step_words ch c n ≡ c ∷ []
+  unfolding step_words
+  step-two d = pick_true (eqb (term_turn c) 2) _ _ (eq-eqb (term_turn c) 2 (omega (arith, parts-turn c h)))
 
-pub step-leaf : (w : List ℕ) (i r : ℕ) (ch : Change) (c n t : ℕ) → t ≡ term_turn c → (t ≡ 2 → ⊥)
-    → Stood w i (term_words (change_term ch (leaf_term c n))) r
-    → Stood w i (step_words ch c n) r
-unfolding step_words
-step-leaf w i r ch c n t e d s = stood-as w i r _ _ (pick-false (eqb (term_turn c) 2) _ _ (ne_eqb (term_turn c) 2 (λ z. d (e ∙ z)))) s
+  pub step-leaf : (m ≡ 2 → ⊥) → step_words ch c n ≡ term_words (change_term ch (leaf_term c n))
+  unfolding step_words
+  step-leaf d = pick-false (eqb (term_turn c) 2) _ _ (ne_eqb (term_turn c) 2 (λ z. d (omega (arith, parts-turn c h))))
 
-pub leaf-inside : (w : List ℕ) (j t : ℕ) → (term_turn (get_or w j 0) ≡ 1 → j + 1 < length w) → 0 < term_turn (get_or w j 0)
-    → t ≡ term_turn (get_or w j 0)
-    → t ≤ 2
-    → (t ≡ 2 → ⊥) → j + 1 < length w
-leaf-inside w j t f l e k d = f (omega arith)
+  pub leaf-inside : (m ≡ 2 → ⊥) → term_turn c ≡ 1
+  leaf-inside d = omega (arith, parts-turn c h, turn_small c)
 
 -- ---- several terms changed, by the first word
 module _ (ch : Change) where
@@ -268,8 +190,27 @@ pub record Along (w : List ℕ) (ch : Change) (a b f i j due : ℕ) : Type 0 whe
   pub reads : rest_of (terms (drop j w) due) ≡ some (drop f w)
   pub few : due ≤ j + 1
   pub inside : i ≤ length w
+  pub next : 0 < due → j < length w
   pub to : term_in w a ≡ change_term ch (term_in w b) → Begins (drop i w) (changed_words ch (value_or [] (terms (drop j w) due)))
   pub from : Begins (drop i w) (changed_words ch (value_or [] (terms (drop j w) due))) → term_in w a ≡ change_term ch (term_in w b)
+
+-- where terms are still to come, a word is there
+none-read : (v : List ℕ) (o : Option (List ℕ)) → o ≡ some v → o ≡ none → ⊥
+none-read v o d e =
+    let c : none ≡ some v = sym e ∙ d in
+    let z : ◌≡◌ {A = ℕ} 0 1 = cc in
+    omega arith
+
+reads-inside : (w : List ℕ) (f j due : ℕ) → rest_of (terms (drop j w) due) ≡ some (drop f w) → 0 < due → j < length w
+reads-inside w f j due r h =
+    let one_more : due ≡ suc (due - 1) = omega arith in
+    elim (dec_lt j (length w)) [
+      | yes l ↦ l
+      | no l ↦
+          absurd (none-read _ _ r
+          (ap (λ (m : ℕ). rest_of (terms (drop j w) m)) one_more
+          ∙ ap (λ (u : List ℕ). rest_of (terms u (suc (due - 1)))) (drop_of_length-le w {i = j} (omega arith)) ∙ terms-empty (due - 1)))
+    ]
 
 one_list : (r : Read (List Term)) → Counted 1 r → (z : List ℕ) → rest_of r ≡ some z → value_or [] r ≡ value_or (Term.bound 0) (only r) ∷ []
 unfolding rest_of value_or only then
@@ -298,6 +239,7 @@ along-begin w ch a e b f s t =
       reads = r;
       few = omega arith;
       inside = omega (arith, s.after, s.inside);
+      next = reads-inside w f b 1 r;
       to = λ z. (drop e w, spelled ∙ ap (λ (M : Term). term_words M ++ drop e w) z ∙ ap (λ (u : List ℕ). u ++ drop e w) (sym one));
       from = λ z.
           (words-term (term_in w a) (change_term ch (term_in w b)) (drop e w) z.0 (sym spelled ∙ z.1 ∙ ap (λ (u : List ℕ). u ++ z.0) one)).0;
@@ -317,49 +259,28 @@ begins-past w i r us vs s (v, e) = (v, cancel us (sym s.words ∙ e ∙ append_a
 begins-before : (w : List ℕ) (i r : ℕ) (us vs : List ℕ) → Found w i us r → Begins (drop r w) vs → Begins (drop i w) (us ++ vs)
 begins-before w i r us vs s (v, e) = (v, s.words ∙ ap (λ (u : List ℕ). us ++ u) e ∙ sym (append_assoc us vs v))
 
-begins-not : (w : List ℕ) (i r : ℕ) (us vs : List ℕ) → Missing w i us r → Begins (drop i w) (us ++ vs) → ⊥
-begins-not w i r us vs s (v, e) = s.other (vs ++ v) (e ∙ append_assoc us vs v)
+begins-not : (w : List ℕ) (i : ℕ) (us vs : List ℕ) → Stood w i us None → Begins (drop i w) (us ++ vs) → ⊥
+begins-not w i us vs s (v, e) = s (vs ++ v) (e ∙ append_assoc us vs v)
 
 module _ (w : List ℕ) (ch : Change) (a b f i j due : ℕ) (t : Along w ch a b f i j due) where
-  pub along-first : i ≤ length w
-  along-first = t.inside
-
-  pub along-few : due ≤ j + 1
-  along-few = t.few
-
   module _ (h : 0 < due) where
     one_more : due ≡ suc (due - 1)
     one_more = omega arith
 
-    some-not : (o : Option (List ℕ)) → o ≡ some (drop f w) → o ≡ none → ⊥
-    some-not o d e =
-        let c : none ≡ some (drop f w) = sym e ∙ d in
-        let z : ◌≡◌ {A = ℕ} 0 1 = cc in
-        omega arith
-
-    pub along-inside : j < length w
-    along-inside = elim (dec_lt j (length w)) [
-      | yes l ↦ l
-      | no l ↦
-          absurd (some-not _ t.reads
-          (ap (λ (m : ℕ). rest_of (terms (drop j w) m)) one_more
-          ∙ ap (λ (u : List ℕ). rest_of (terms u (suc (due - 1)))) (drop_of_length-le w {i = j} (omega arith)) ∙ terms-empty (due - 1)))
-    ]
-
     reading : terms (drop j w) due ≡ terms (get_or w j 0 ∷ drop (suc j) w) (suc (due - 1))
-    reading = ap (terms (drop j w)) one_more ∙ ap (λ (u : List ℕ). terms u (suc (due - 1))) (drop-cons w j 0 along-inside)
+    reading = ap (terms (drop j w)) one_more ∙ ap (λ (u : List ℕ). terms u (suc (due - 1))) (drop-cons w j 0 (t.next h))
 
     pub along-word : 0 < term_turn (get_or w j 0)
     along-word = elim (dec_lt 0 (term_turn (get_or w j 0))) [
       | yes l ↦ l
-      | no l ↦ absurd (some-not _ t.reads (ap rest_of reading ∙ terms-nothing (get_or w j 0) (due - 1) (drop (suc j) w) (omega arith)))
+      | no l ↦ absurd (none-read _ _ t.reads (ap rest_of reading ∙ terms-nothing (get_or w j 0) (due - 1) (drop (suc j) w) (omega arith)))
     ]
 
     pub along-leaf : term_turn (get_or w j 0) ≡ 1 → j + 1 < length w
     along-leaf one = elim (dec_lt (j + 1) (length w)) [
       | yes l ↦ l
       | no l ↦
-          absurd (some-not _ t.reads
+          absurd (none-read _ _ t.reads
           (ap rest_of reading ∙ ap (λ (u : List ℕ). rest_of (terms (get_or w j 0 ∷ u) (suc (due - 1)))) (drop_of_length-le w {i = suc j} (omega arith))
           ∙ terms-cut (get_or w j 0) (due - 1) one))
     ]
@@ -417,30 +338,33 @@ module _ (w : List ℕ) (ch : Change) (a b f i j due : ℕ) (t : Along w ch a b 
           (rw (at, more) (behind-two (sym e ∙ two)), rw (at, more) (few-more due j t.few h))
     ]
 
-    module _ (r : ℕ) (s : Stood w i (step_words ch (get_or w j 0) (get_or w (j + 1) 0)) r) where
-      pub along-fails : r ≡ 0 → false ≡ test (same_term (term_in w a) (change_term ch (term_in w b)))
-      along-fails z = sym (test-no (same_term (term_in w a) (change_term ch (term_in w b))) (λ g. go s (t.to g)))
-        where
-          go : Stood w i (step_words ch (get_or w j 0) (get_or w (j + 1) 0)) r → Begins (drop i w) (changed_words ch (value_or [] (terms (drop j w) due))) → ⊥
-          go (inl m) g =
-              let (q, l) = behind (term_turn (get_or w j 0)) refl (turn_small (get_or w j 0)) in
-              begins-not w i r _ _ m (rw q.1 at g)
-          go (inr m) g = omega (arith, m.some_word)
+    pub along-fails : Stood w i (step_words ch (get_or w j 0) (get_or w (j + 1) 0)) None
+        → false ≡ test (same_term (term_in w a) (change_term ch (term_in w b)))
+    along-fails s =
+        sym (test-no (same_term (term_in w a) (change_term ch (term_in w b))) (λ g.
+        let (q, l) = behind (term_turn (get_or w j 0)) refl (turn_small (get_or w j 0)) in
+        begins-not w i _ _ s (rw q.1 at (t.to g))))
 
-      pub along-again : (r ≡ 0 → ⊥) → (n : ℕ) → n ≡ term_turn (get_or w j 0) → n ≤ 2 → Along w ch a b f r (j + 3 - n) (due + 2 * n - 3)
-      along-again z n e k = go s
-        where
-          go : Stood w i (step_words ch (get_or w j 0) (get_or w (j + 1) 0)) r → Along w ch a b f r (j + 3 - n) (due + 2 * n - 3)
-          go (inl m) = absurd (z m.zero)
-          go (inr m) =
-              let (q, l) = behind n e k in
-              record {
-                reads = q.0;
-                few = l;
-                inside = m.inside;
-                to = λ g. begins-past w i r _ _ m (rw q.1 at (t.to g));
-                from = λ g. t.from (rw q.1 (begins-before w i r _ _ m g));
-              }
+    -- the own words of the term at j end
+    pub along-found : (o : Answer ℕ) → Ends w (j + 1) (term_own (drop j w)) o → IsSome o
+    along-found o q = ends_some _ _ _ _ o q (own_at w j (t.next h) along-word along-leaf).rest
+
+    pub along-again : (r : ℕ) → Found w i (step_words ch (get_or w j 0) (get_or w (j + 1) 0)) r → (s : ℕ)
+        → At w (j + 1) (term_own (drop j w)) s → (n : ℕ) → n ≡ term_parts (get_or w j 0) → Along w ch a b f r s (due + n - 1)
+    along-again r m s b n e =
+        let t1 = own-turn w j (t.next h) s b n e in
+        let c = term_turn (get_or w j 0) in
+        let at : j + 3 - c ≡ s = omega (arith, t1.place) in
+        let many : due + 2 * c - 3 ≡ due + n - 1 = omega (arith, t1.more) in
+        let (q, l) = rw (at, many) at (behind c refl (turn_small (get_or w j 0))) in
+        record {
+          reads = q.0;
+          few = l;
+          inside = m.inside;
+          next = reads-inside w f s (due + n - 1) q.0;
+          to = λ g. begins-past w i r _ _ m (rw q.1 at (t.to g));
+          from = λ g. t.from (rw q.1 (begins-before w i r _ _ m g));
+        }
 
   pub along-done : due ≤ 0 → true ≡ test (same_term (term_in w a) (change_term ch (term_in w b)))
   unfolding terms value_or

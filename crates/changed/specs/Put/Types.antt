@@ -1,11 +1,10 @@
 -- Changed types, word by word. Assumes nothing.
 use Prim.Native.Nat.{ℕ, zero, suc, ◌+◌, ◌-◌, ◌≤◌, ◌<◌}
-use Rattle.std.specs.Prelude.{Bool, true, false, not, ◌≡◌, length, drop, get_or}
+use Rattle.std.specs.Prelude.{Bool, true, false, ◌≡◌, length, drop, get_or, Option as Answer, IsSome}
 use mathlib.Core.List.{List, [], ◌∷◌, map}
 use Rattle.std.proofs.Math.Path.{refl}
 use Rattle.std.proofs.Common.{sym, ◌∙◌, ap, subst, arith}
 use Rattle.std.proofs.Math.Decide.{ℕ_discrete as dec_eq}
-use Rattle.std.proofs.lemmas.Bool.{not-true, not-false}
 use Rattle.words.specs.First.Laws.{clash}
 use Rattle.typing.specs.Term.{Effect, Change}
 use Rattle.typing.specs.Bag.{bag, plus}
@@ -14,7 +13,7 @@ use Rattle.typing.specs.Reading.{joined, altered, type_at}
 use Rattle.spans.specs.Behind.{rest_of, At, Ends, type_own, type_parts}
 use Rattle.alike.specs.Same.{effects_in, type_in, test, own_effects, form}
 use Rattle.alike.specs.Same.Laws.{test-yes, test-no, test-true}
-use Rattle.alike.specs.Same.Types.{head_code, form-code, form-rest, form-effects, Along, list_of, along-begin, begin-list, parts-small, Turn, along-inside, along-own, along-turn, along-none, own-not, nonce-effects}
+use Rattle.alike.specs.Same.Types.{head_code, form-code, form-rest, form-effects, Along, list_of, along-begin, begin-list, parts-small, Turn, along-inside, along-found, along-turn, along-none, own-not, nonce-effects}
 use Rattle.changed.specs.Put.{changed_effects}
 use Rattle.changed.specs.Put.Effects.{bag-changed}
 
@@ -51,6 +50,8 @@ pub record Pairing (w : List ℕ) (ch : Change) (a e b f i j due : ℕ) : Type 0
   pub right : Along w f j due
   pub to : type_in w a ≡ change_type ch (type_in w b) → list_of w e i due left ≡ map (change_type ch) (list_of w f j due right)
   pub from : list_of w e i due left ≡ map (change_type ch) (list_of w f j due right) → type_in w a ≡ change_type ch (type_in w b)
+  pub left-inside : 0 < due → i < length w
+  pub right-inside : 0 < due → j < length w
 
 pub pairing-begin : (w : List ℕ) (ch : Change) (a e b f : ℕ) → At w a (rest_of (type_at (drop a w))) e → At w b (rest_of (type_at (drop b w))) f
     → Pairing w ch a e b f a b 1
@@ -62,33 +63,26 @@ pairing-begin w ch a e b f s t =
       right = along-begin w b f t;
       to = λ h. p ∙ ap (λ (T : Ty). T ∷ []) h ∙ sym q;
       from = λ h. heads (sym p ∙ h ∙ q);
+      left-inside = along-inside w e a 1 (along-begin w a e s);
+      right-inside = along-inside w f b 1 (along-begin w b f t);
     }
   where
     heads : type_in w a ∷ [] ≡ change_type ch (type_in w b) ∷ [] → type_in w a ≡ change_type ch (type_in w b)
     heads h = cc
 
 module _ (w : List ℕ) (ch : Change) (a e b f i j due : ℕ) (t : Pairing w ch a e b f i j due) where
-  pub pairing-few : due ≤ i + 1
-  pairing-few = t.left.few
-
   unequal : (list_of w e i due t.left ≡ map (change_type ch) (list_of w f j due t.right) → ⊥)
       → false ≡ test (same_type (type_in w a) (change_type ch (type_in w b)))
   unequal d = sym (test-no (same_type (type_in w a) (change_type ch (type_in w b))) (λ h. d (t.to h)))
 
   module _ (h : 0 < due) where
-    pub pairing-left : i < length w
-    pairing-left = along-inside w e i due t.left h
+    pub pairing-left : (o : Answer ℕ) → Ends w (i + 1) (type_own (drop i w)) o → IsSome o
+    pairing-left o q = along-found w e i due t.left h o q
 
-    pub pairing-right : j < length w
-    pairing-right = along-inside w f j due t.right h
+    pub pairing-right : (o : Answer ℕ) → Ends w (j + 1) (type_own (drop j w)) o → IsSome o
+    pairing-right o q = along-found w f j due t.right h o q
 
-    pub pairing-own : (r : ℕ) → Ends w (i + 1) (type_own (drop i w)) r → At w (i + 1) (type_own (drop i w)) r
-    pairing-own r q = along-own w e i due t.left h r q
-
-    pub pairing-other : (r : ℕ) → Ends w (j + 1) (type_own (drop j w)) r → At w (j + 1) (type_own (drop j w)) r
-    pairing-other r q = along-own w f j due t.right h r q
-
-    module _ (r : ℕ) (q : Ends w (i + 1) (type_own (drop i w)) r) (s : ℕ) (p : Ends w (j + 1) (type_own (drop j w)) s) where
+    module _ (r : ℕ) (q : At w (i + 1) (type_own (drop i w)) r) (s : ℕ) (p : At w (j + 1) (type_own (drop j w)) s) where
       -- the second list, one turn on
       right-list : (n : ℕ) (y : Turn w f j due t.right s n)
           → map (change_type ch) (list_of w f j due t.right)
@@ -108,10 +102,10 @@ module _ (w : List ℕ) (ch : Change) (a e b f i j due : ℕ) (t : Pairing w ch 
           ∙ ap head_code (sym x.list ∙ g ∙ right-list (type_parts (get_or w j 0)) y)
           ∙ form-code (get_or w j 0) _ _ y.begins (right-long (type_parts (get_or w j 0)) y)))
 
-      module _ (same : get_or w i 0 ≡ get_or w j 0) (c : Bool)
-          (d : c ≡ test (same_effects (own_effects (drop i w)) (changed_own ch (own_effects (drop j w))))) where
-        pub pairing-effects : not c ≡ true → false ≡ test (same_type (type_in w a) (change_type ch (type_in w b)))
-        pairing-effects g =
+      module _ (same : get_or w i 0 ≡ get_or w j 0) where
+        pub pairing-effects : false ≡ test (same_effects (own_effects (drop i w)) (changed_own ch (own_effects (drop j w))))
+            → false ≡ test (same_type (type_in w a) (change_type ch (type_in w b)))
+        pairing-effects d =
             let x = along-turn w e i due t.left h r q (type_parts (get_or w i 0)) refl (parts-small (get_or w i 0)) in
             let y = along-turn w f j due t.right h s p (type_parts (get_or w j 0)) refl (parts-small (get_or w j 0)) in
             unequal (λ k. effects-clash _ _ (sym x.list ∙ k ∙ right-list (type_parts (get_or w j 0)) y
@@ -119,7 +113,7 @@ module _ (w : List ℕ) (ch : Change) (a e b f i j due : ℕ) (t : Pairing w ch 
             (map (change_type ch) (list_of w f s (due + type_parts (get_or w j 0) - 1) y.next))) (sym same)))
           where
             differ : own_effects (drop i w) ≡ changed_own ch (own_effects (drop j w)) → ⊥
-            differ z = clash (d ∙ test-yes (same_effects (own_effects (drop i w)) (changed_own ch (own_effects (drop j w)))) z) (not-true c g)
+            differ z = clash (test-yes (same_effects (own_effects (drop i w)) (changed_own ch (own_effects (drop j w)))) z) (sym d)
 
             effects-clash : (l m : List Ty) → form (get_or w i 0) (own_effects (drop i w)) l
                 ≡ form (get_or w i 0) (changed_own ch (own_effects (drop j w))) m
@@ -133,12 +127,12 @@ module _ (w : List ℕ) (ch : Change) (a e b f i j due : ℕ) (t : Pairing w ch 
                   differ (own-not w i other ∙ sym (ap (changed_own ch) (own-not w j (λ five. other (same ∙ five))) ∙ none-changed ch))
             ]
 
-        pub pairing-again : not c ≡ false → (n : ℕ) → n ≡ type_parts (get_or w i 0) → n ≤ 2 → Pairing w ch a e b f r s (due + n - 1)
-        pairing-again g n k l =
+        pub pairing-again : true ≡ test (same_effects (own_effects (drop i w)) (changed_own ch (own_effects (drop j w)))) → (n : ℕ) → n ≡ type_parts (get_or w i 0) → n ≤ 2 → Pairing w ch a e b f r s (due + n - 1)
+        pairing-again d n k l =
             let x = along-turn w e i due t.left h r q n k l in
             let y = along-turn w f j due t.right h s p n (k ∙ ap type_parts same) l in
             let es : own_effects (drop i w) ≡ changed_own ch (own_effects (drop j w)) =
-            test-true (same_effects (own_effects (drop i w)) (changed_own ch (own_effects (drop j w)))) (sym d ∙ not-false c g) in
+            test-true (same_effects (own_effects (drop i w)) (changed_own ch (own_effects (drop j w)))) (sym d) in
             let to-form : form (get_or w j 0) (changed_own ch (own_effects (drop j w))) (map (change_type ch) (list_of w f s (due + n - 1) y.next))
             ≡ form (get_or w i 0) (own_effects (drop i w)) (map (change_type ch) (list_of w f s (due + n - 1) y.next)) =
             ap (λ (m : ℕ). form m (changed_own ch (own_effects (drop j w))) (map (change_type ch) (list_of w f s (due + n - 1) y.next))) (sym same)
@@ -146,6 +140,8 @@ module _ (w : List ℕ) (ch : Change) (a e b f i j due : ℕ) (t : Pairing w ch 
             record {
               left = x.next;
               right = y.next;
+              left-inside = along-inside w e r (due + n - 1) x.next;
+              right-inside = along-inside w f s (due + n - 1) y.next;
               to = λ z. form-rest (get_or w i 0) _ _ _ _ x.begins x.long
                   (subst (λ (m : ℕ). type_parts m ≤ length (map (change_type ch) (list_of w f s (due + n - 1) y.next))) (sym same) (right-long n y))
                   (sym x.list ∙ t.to z ∙ right-list n y ∙ to-form);

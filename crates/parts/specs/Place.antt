@@ -12,6 +12,7 @@ use Rattle.parts.specs.Own.{Own, own, names_of, terms_of, types_of, cast_effects
 use Rattle.parts.specs.Own.Same.{Exact}
 use Rattle.parts.specs.declared.Parts.{Parts}
 pub mod Laws
+pub mod Values
 pub mod Several
 pub mod Lists
 pub mod Processes

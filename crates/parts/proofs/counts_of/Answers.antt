@@ -1,37 +1,34 @@
 -- `parts::counts_of` meets its contract, word by word of the table. Assumes nothing.
-use Rattle.parts.specs.Own.Laws.{counted-split, counted-match, counted-decrypt, counted-inp, counted-new, counted-cast, counted-out}
-use Rattle.parts.specs.Own.Laws.{counted-check, counted-begin, counted-end, counted_none}
+use native.Mathlib.Omega.{arith}
+use Rattle.parts.specs.Own.Laws.{counted-new, counted-out, counted-inp, counted-split, counted-match, counted-begin, counted-cast, counted-check, counted_none}
 use Rattle.parts.proofs.counts_of.Goals as goal
 
-pub returns-then-c-eq6 : goal.returns-then-c-eq6
-returns-then-c-eq6 c = search counted-split
+pub returns-in-1 : goal.returns-in-1
+returns-in-1 c = counted-new _ c.in-1.is
 
-pub returns-then-c-eq7 : goal.returns-then-c-eq7
-returns-then-c-eq7 c = search counted-match
+pub returns-in-2 : goal.returns-in-2
+returns-in-2 c = counted-out _ c.in-2.is
 
-pub returns-then-c-eq8 : goal.returns-then-c-eq8
-returns-then-c-eq8 c = search counted-decrypt
+pub returns-in-3 : goal.returns-in-3
+returns-in-3 c = counted-inp _ c.in-3.is
 
-pub returns-then-c-eq3 : goal.returns-then-c-eq3
-returns-then-c-eq3 c = search counted-inp
+pub returns-in-6 : goal.returns-in-6
+returns-in-6 c = counted-split _ c.in-6.is
 
-pub returns-then-c-eq1 : goal.returns-then-c-eq1
-returns-then-c-eq1 c = search counted-new
+pub returns-in-11 : goal.returns-in-11
+returns-in-11 c = counted-cast _ c.in-11.is
 
-pub returns-then-c-eq11 : goal.returns-then-c-eq11
-returns-then-c-eq11 c = search counted-cast
+pub returns-in-7 : goal.returns-in-7
+returns-in-7 c = counted-match _ (omega arith) (omega arith)
 
-pub returns-then-c-eq2 : goal.returns-then-c-eq2
-returns-then-c-eq2 c = search counted-out
+pub returns-in-9 : goal.returns-in-9
+returns-in-9 c = counted-begin _ (omega arith) (omega arith)
 
-pub returns-then-c-eq12 : goal.returns-then-c-eq12
-returns-then-c-eq12 c = search counted-check
+pub returns-in-12 : goal.returns-in-12
+returns-in-12 c = counted-check _ c.in-12.is
 
-pub returns-then-c-eq9 : goal.returns-then-c-eq9
-returns-then-c-eq9 c = search counted-begin
+pub returns-in_default : goal.returns-in_default
+returns-in_default c = counted_none _ (λ l m. omega arith) (λ l m. omega arith)
 
-pub returns-then-c-eq10 : goal.returns-then-c-eq10
-returns-then-c-eq10 c = search counted-end
-
-pub returns : goal.returns
-returns c = search counted_none
+pub returns-in_default-2 : goal.returns-in_default-2
+returns-in_default-2 c = counted_none _ (λ l m. omega arith) (λ l m. omega arith)

@@ -1,12 +1,13 @@
 -- `parts::parts_of` meets its contract: the parts are there, one behind another. Assumes nothing.
 use borrow.Author.Rules.{rules}
 use native.Mathlib.Omega.{arith}
-use Rattle.parts.specs.Place.Laws.{spelled-word, found-names, found-terms-inside, found-types-inside, places-no-list, places-list}
+use Rattle.spans.specs.Behind.Laws.{ends_at}
+use Rattle.parts.specs.Place.Laws.{spelled-word, found-names, found-terms-some, found-terms-inside, found-types-some}
+use Rattle.parts.specs.Place.Laws.{places-no-list, found-list-some, places-list}
 use Rattle.parts.proofs.parts_of.Goals as goal
 
 pub offset_bounds-w-i : goal.offset_bounds-w-i
-offset_bounds-w-i c = let l = spelled-word _ _ c.requires in
-    search rules
+offset_bounds-w-i c = let l = spelled-word _ _ c.requires in search rules
 
 pub bounds-w-i : goal.bounds-w-i
 bounds-w-i c = omega (arith, spelled-word)
@@ -17,19 +18,25 @@ overflow_add-terms c = omega (arith, spelled-word)
 pub overflow_add-terms-2 : goal.overflow_add-terms-2
 overflow_add-terms-2 c = omega (arith, spelled-word)
 
-pub returns-then-c-ne11 : goal.returns-then-c-ne11
-returns-then-c-ne11 c = search places-no-list
+pub several_end-requires : goal.several_end-requires
+several_end-requires c = found-names _ _ c.requires _ _ _ c.counts_of-counts.ensures
 
-pub returns : goal.returns
-returns c = search places-list
+pub unwrap-types-requires : goal.unwrap-types-requires
+unwrap-types-requires c = found-terms-some _ _ c.requires _ _ _ c.counts_of-counts.ensures _ c.several_end.ensures
 
-pub terms_end-types-requires : goal.terms_end-types-requires
-terms_end-types-requires c = found-names _ _ c.requires _ _ _ c.counts_of-counts.ensures
+pub several_end-requires-2 : goal.several_end-requires-2
+several_end-requires-2 c = found-terms-inside _ _ c.requires _ _ _ c.counts_of-counts.ensures _ (ends_at _ _ _ _ _ c.several_end.ensures c.unwrap-types.ensures)
 
-pub types_end-list-requires : goal.types_end-list-requires
-types_end-list-requires c = found-terms-inside _ _ c.requires _ _ _ c.counts_of-counts.ensures _ c.terms_end-types.ensures
+pub unwrap-list-requires : goal.unwrap-list-requires
+unwrap-list-requires c = found-types-some _ _ c.requires _ _ _ c.counts_of-counts.ensures _ (ends_at _ _ _ _ _ c.several_end.ensures c.unwrap-types.ensures) _ c.several_end-2.ensures
 
-pub list_end-next-requires : goal.list_end-next-requires
-list_end-next-requires c = found-types-inside _ _ c.requires _ _ _ c.counts_of-counts.ensures _
-    c.terms_end-types.ensures _
-    c.types_end-list.ensures
+pub unwrap-next-requires : goal.unwrap-next-requires
+unwrap-next-requires c = found-list-some _ _ c.requires _ _ _ c.counts_of-counts.ensures _ (ends_at _ _ _ _ _ c.several_end.ensures c.unwrap-types.ensures) _ (ends_at _ _ _ _ _ c.several_end-2.ensures c.unwrap-list.ensures) c.if-c-eq11.true _ c.list_end.ensures
+
+pub returns-then-c-eq11 : goal.returns-then-c-eq11
+returns-then-c-eq11 c =
+    places-list _ _ c.requires _ _ _ c.counts_of-counts.ensures _ (ends_at _ _ _ _ _ c.several_end.ensures c.unwrap-types.ensures) _ (ends_at _ _ _ _ _ c.several_end-2.ensures c.unwrap-list.ensures)
+    c.if-c-eq11.true _ (ends_at _ _ _ _ _ c.list_end.ensures c.unwrap-next.ensures)
+
+pub returns-else-c-eq11 : goal.returns-else-c-eq11
+returns-else-c-eq11 c = places-no-list _ _ c.requires _ _ _ c.counts_of-counts.ensures _ (ends_at _ _ _ _ _ c.several_end.ensures c.unwrap-types.ensures) _ (ends_at _ _ _ _ _ c.several_end-2.ensures c.unwrap-list.ensures) c.if-c-eq11.false

@@ -46,21 +46,19 @@ pub counted-split : (c : ℕ) → c ≡ 6 → Counted c 2 1 2
 unfolding names_of terms_of types_of pick
 counted-split c e = counted-at c 6 e (omega arith) (omega arith) (omega arith)
 
-pub counted-match : (c : ℕ) → c ≡ 7 → Counted c 1 2 1
+pub counted-match : (c : ℕ) → 7 ≤ c → c ≤ 8 → Counted c 1 2 1
 unfolding names_of terms_of types_of pick
-counted-match c e = counted-at c 7 e (omega arith) (omega arith) (omega arith)
+counted-match c l m = elim (dec_lt c 8) [
+  | yes h ↦ counted-at c 7 (omega arith) (omega arith) (omega arith) (omega arith)
+  | no h ↦ counted-at c 8 (omega arith) (omega arith) (omega arith) (omega arith)
+]
 
-pub counted-decrypt : (c : ℕ) → c ≡ 8 → Counted c 1 2 1
+pub counted-begin : (c : ℕ) → 9 ≤ c → c ≤ 10 → Counted c 0 1 0
 unfolding names_of terms_of types_of pick
-counted-decrypt c e = counted-at c 8 e (omega arith) (omega arith) (omega arith)
-
-pub counted-begin : (c : ℕ) → c ≡ 9 → Counted c 0 1 0
-unfolding names_of terms_of types_of pick
-counted-begin c e = counted-at c 9 e (omega arith) (omega arith) (omega arith)
-
-pub counted-end : (c : ℕ) → c ≡ 10 → Counted c 0 1 0
-unfolding names_of terms_of types_of pick
-counted-end c e = counted-at c 10 e (omega arith) (omega arith) (omega arith)
+counted-begin c l m = elim (dec_lt c 10) [
+  | yes h ↦ counted-at c 9 (omega arith) (omega arith) (omega arith) (omega arith)
+  | no h ↦ counted-at c 10 (omega arith) (omega arith) (omega arith) (omega arith)
+]
 
 pub counted-cast : (c : ℕ) → c ≡ 11 → Counted c 1 1 0
 unfolding names_of terms_of types_of pick
@@ -70,11 +68,20 @@ pub counted-check : (c : ℕ) → c ≡ 12 → Counted c 0 2 0
 unfolding names_of terms_of types_of pick
 counted-check c e = counted-at c 12 e (omega arith) (omega arith) (omega arith)
 
-pub counted_none : (c : ℕ) → (c ≡ 6 → ⊥) → (c ≡ 7 → ⊥) → (c ≡ 8 → ⊥) → (c ≡ 3 → ⊥) → (c ≡ 1 → ⊥)
-    → (c ≡ 11 → ⊥) → (c ≡ 2 → ⊥) → (c ≡ 12 → ⊥) → (c ≡ 9 → ⊥) → (c ≡ 10 → ⊥)
-    → Counted c 0 0 0
+-- any other word
+pub counted_none : (c : ℕ) → (1 ≤ c → c ≤ 3 → ⊥) → (6 ≤ c → c ≤ 12 → ⊥) → Counted c 0 0 0
 unfolding names_of terms_of types_of
-counted_none c d6 d7 d8 d3 d1 d11 d2 d12 d9 d10 =
+counted_none c small large =
+    let d1 : c ≡ 1 → ⊥ = λ e. small (omega arith) (omega arith) in
+    let d2 : c ≡ 2 → ⊥ = λ e. small (omega arith) (omega arith) in
+    let d3 : c ≡ 3 → ⊥ = λ e. small (omega arith) (omega arith) in
+    let d6 : c ≡ 6 → ⊥ = λ e. large (omega arith) (omega arith) in
+    let d7 : c ≡ 7 → ⊥ = λ e. large (omega arith) (omega arith) in
+    let d8 : c ≡ 8 → ⊥ = λ e. large (omega arith) (omega arith) in
+    let d9 : c ≡ 9 → ⊥ = λ e. large (omega arith) (omega arith) in
+    let d10 : c ≡ 10 → ⊥ = λ e. large (omega arith) (omega arith) in
+    let d11 : c ≡ 11 → ⊥ = λ e. large (omega arith) (omega arith) in
+    let d12 : c ≡ 12 → ⊥ = λ e. large (omega arith) (omega arith) in
     record {
       names = sym (pick-false (eqb c 6) _ _ (ne_eqb c 6 d6) ∙ pick-false (eqb c 1) _ _ (ne_eqb c 1 d1) ∙ pick-false (eqb c 3) _ _ (ne_eqb c 3 d3)
           ∙ pick-false (eqb c 7) _ _ (ne_eqb c 7 d7) ∙ pick-false (eqb c 8) _ _ (ne_eqb c 8 d8) ∙ pick-false (eqb c 11) _ _ (ne_eqb c 11 d11));

@@ -1,7 +1,7 @@
 -- Laws of the places of a process's parts. Assumes nothing.
-use Rattle.std.specs.Prelude.{ℕ, zero, suc, ◌+◌, ◌≤◌, ◌<◌, ◌≡◌, refl, eqb, length, drop, get_or}
+use Rattle.std.specs.Prelude.{ℕ, zero, suc, ◌+◌, ◌≤◌, ◌<◌, ◌≡◌, refl, eqb, length, drop, get_or, Option as Answer, IsSome}
 use mathlib.Core.List.{List, [], ◌∷◌}
-use Rattle.std.proofs.Common.{inl, inr, sym, ◌∙◌, arith, eq-eqb, ne_eqb, drop_of_length-le, drop-cons, add-one}
+use Rattle.std.proofs.Common.{sym, ◌∙◌, arith, eq-eqb, ne_eqb, drop_of_length-le, drop-cons, add-one}
 use Rattle.std.proofs.Math.Option.{Option, none, some}
 use Rattle.std.proofs.Math.Path.{ap}
 use Rattle.std.proofs.Math.Decide.{dec_lt}
@@ -15,7 +15,7 @@ use Rattle.typing.specs.Types.{Ty}
 use Rattle.typing.specs.Reading.{Read, ahead, term, effects, with_effects, type_at, several}
 use Rattle.typing.proofs.Derivation.Laws.{then-goes}
 use Rattle.spans.specs.Behind.{rest_of, At, Ends, times, skip_term, skip_type, skip_effects}
-use Rattle.spans.specs.Behind.Laws.{rest-ahead}
+use Rattle.spans.specs.Behind.Laws.{rest-ahead, ends_some}
 use Rattle.alike.specs.Same.{value_or}
 use Rattle.alike.specs.Same.Laws.{read-value}
 use Rattle.parts.specs.Own.{Own, own, Counted, names_of, terms_of, types_of, name, cast_effects, own_behind, own_of}
@@ -101,10 +101,6 @@ names-none (suc n) a w l k = elim (dec_lt a (length w)) [
 ]
 
 -- ---- a process's own words, part by part
-at_some : (w : List ℕ) (a : ℕ) (o : Option (List ℕ)) (r : ℕ) (v : List ℕ) → o ≡ some v → Ends w a o r → At w a o r
-at_some w a o r v e (inl n) = absurd (let q : none ≡ some v = sym n.none ∙ e in let z : ◌≡◌ {A = ℕ} 0 1 = cc in omega arith)
-at_some w a o r v e (inr b) = b
-
 at-as : (w : List ℕ) (a : ℕ) (o p : Option (List ℕ)) (r : ℕ) → o ≡ p → At w a p r → At w a o r
 at-as w a o p r e b = record { some_word = b.some_word; after = b.after; inside = b.inside; rest = e ∙ b.rest }
 
@@ -174,12 +170,13 @@ module _ (w : List ℕ) (i : ℕ) (s : Spelled w i) where
     start : own_of (drop i w) ≡ then (several term m (drop a w)) behind_terms
     start = from-names ∙ ap (λ (k : ℕ). then (several term m (drop k w)) behind_terms) (sym first)
 
-    pub terms-at : (e : ℕ) → Ends w a (times skip_term m (drop a w)) e → At w a (rest_of (several term m (drop a w))) e
-    terms-at e q =
+    pub terms-found : (o : Answer ℕ) → Ends w a (times skip_term m (drop a w)) o → IsSome o
+    terms-found o q =
         let (Ms, x, d, h) = rest-came (several term m (drop a w)) behind_terms s.behind (sym (ap rest_of start) ∙ s.reads) in
-        let there : rest_of (several term m (drop a w)) ≡ some x = rest_some _ Ms x d in
-        let st = several-times term m (drop a w) in
-        at-as w a _ _ e st (at_some w a _ e x (sym st ∙ there) q)
+        ends_some w a _ x o q (sym (several-times term m (drop a w)) ∙ rest_some _ Ms x d)
+
+    pub terms-at : (e : ℕ) → At w a (times skip_term m (drop a w)) e → At w a (rest_of (several term m (drop a w))) e
+    terms-at e q = at-as w a _ _ e (several-times term m (drop a w)) q
 
     module _ (e : ℕ) (terms : At w a (rest_of (several term m (drop a w))) e) where
       abbrev Ms : List Term
@@ -189,12 +186,13 @@ module _ (w : List ℕ) (i : ℕ) (s : Spelled w i) where
       unfolding list_in then
       past-terms = start ∙ then-goes _ behind_terms _ (read-value [] (several term m (drop a w)) (drop e w) terms.rest)
 
-      pub types-at : (f : ℕ) → Ends w e (times skip_type t (drop e w)) f → At w e (rest_of (several type_at t (drop e w))) f
-      types-at f q =
+      pub types-found : (o : Answer ℕ) → Ends w e (times skip_type t (drop e w)) o → IsSome o
+      types-found o q =
           let (Ts, x, d, h) = rest-came (several type_at t (drop e w)) (behind_types Ms) s.behind (sym (ap rest_of past-terms) ∙ s.reads) in
-          let there : rest_of (several type_at t (drop e w)) ≡ some x = rest_some _ Ts x d in
-          let st = several-times type_at t (drop e w) in
-          at-as w e _ _ f st (at_some w e _ f x (sym st ∙ there) q)
+          ends_some w e _ x o q (sym (several-times type_at t (drop e w)) ∙ rest_some _ Ts x d)
+
+      pub types-at : (f : ℕ) → At w e (times skip_type t (drop e w)) f → At w e (rest_of (several type_at t (drop e w))) f
+      types-at f q = at-as w e _ _ f (several-times type_at t (drop e w)) q
 
       module _ (f : ℕ) (types : At w e (rest_of (several type_at t (drop e w))) f) where
         abbrev Ts : List Ty
@@ -219,13 +217,14 @@ module _ (w : List ℕ) (i : ℕ) (s : Spelled w i) where
         list-rest d =
             ap rest_of (pick_true (eqb (get_or w i 0) 11) _ _ (eq-eqb (get_or w i 0) 11 d)) ∙ with_rest (drop f w)
 
-        pub list_at : get_or w i 0 ≡ 11 → (g : ℕ) → Ends w f (skip_effects (drop f w)) g → At w f (rest_of (cast_effects (get_or w i 0) (drop f w))) g
-        list_at d g q =
+        pub list-found : get_or w i 0 ≡ 11 → (o : Answer ℕ) → Ends w f (skip_effects (drop f w)) o → IsSome o
+        list-found d o q =
             let (es, x, c, h) = rest-came (cast_effects (get_or w i 0) (drop f w)) (behind_effects Ms Ts) s.behind
             (sym (ap rest_of past-types) ∙ s.reads) in
-            let there : rest_of (cast_effects (get_or w i 0) (drop f w)) ≡ some x = rest_some _ es x c in
-            let st = list-rest d in
-            at-as w f _ _ g st (at_some w f _ g x (sym st ∙ there) q)
+            ends_some w f _ x o q (sym (list-rest d) ∙ rest_some _ es x c)
+
+        pub list_at : get_or w i 0 ≡ 11 → (g : ℕ) → At w f (skip_effects (drop f w)) g → At w f (rest_of (cast_effects (get_or w i 0) (drop f w))) g
+        list_at d g q = at-as w f _ _ g (list-rest d) q
 
         pub places : (g : ℕ) → At w f (rest_of (cast_effects (get_or w i 0) (drop f w))) g
             → Places w i (record { terms = a; types = e; list = f; next = g })
@@ -257,15 +256,20 @@ module _ (w : List ℕ) (i : ℕ) (s : Spelled w i) (n m t : ℕ) (k : Counted (
   pub found-names : (0 < i + 1 + n) × (i + 1 + n ≤ length w)
   found-names = (omega arith, omega (arith, spelled-names w i s, k.names))
 
-  module _ (e : ℕ) (q : Ends w (i + 1 + n) (times skip_term m (drop (i + 1 + n) w)) e) where
+  pub found-terms-some : (o : Answer ℕ) → Ends w (i + 1 + n) (times skip_term m (drop (i + 1 + n) w)) o → IsSome o
+  found-terms-some o q = terms-found w i s (i + 1 + n) names-place o (rw k.terms at q)
+
+  module _ (e : ℕ) (q : At w (i + 1 + n) (times skip_term m (drop (i + 1 + n) w)) e) where
     found-terms : At w (i + 1 + n) (rest_of (several term (terms_of (get_or w i 0)) (drop (i + 1 + n) w))) e
-    found-terms =
-        terms-at w i s (i + 1 + n) names-place e (rw k.terms at q)
+    found-terms = terms-at w i s (i + 1 + n) names-place e (rw k.terms at q)
 
     pub found-terms-inside : (0 < e) × (e ≤ length w)
     found-terms-inside = (found-terms.some_word, found-terms.inside)
 
-    module _ (f : ℕ) (x : Ends w e (times skip_type t (drop e w)) f) where
+    pub found-types-some : (o : Answer ℕ) → Ends w e (times skip_type t (drop e w)) o → IsSome o
+    found-types-some o x = types-found w i s (i + 1 + n) names-place e found-terms o (rw k.types at x)
+
+    module _ (f : ℕ) (x : At w e (times skip_type t (drop e w)) f) where
       found-types : At w e (rest_of (several type_at (types_of (get_or w i 0)) (drop e w))) f
       found-types = types-at w i s (i + 1 + n) names-place e found-terms f (rw k.types at x)
 
@@ -276,7 +280,10 @@ module _ (w : List ℕ) (i : ℕ) (s : Spelled w i) (n m t : ℕ) (k : Counted (
       places-no-list d =
           places w i s (i + 1 + n) names-place e found-terms f found-types f (no-list w i s (i + 1 + n) names-place e found-terms f found-types d)
 
-      pub places-list : get_or w i 0 ≡ 11 → (g : ℕ) → Ends w f (skip_effects (drop f w)) g
-          → Places w i (record { terms = i + 1 + n; types = e; list = f; next = g })
-      places-list d g y =
-          places w i s (i + 1 + n) names-place e found-terms f found-types g (list_at w i s (i + 1 + n) names-place e found-terms f found-types d g y)
+      module _ (d : get_or w i 0 ≡ 11) where
+        pub found-list-some : (o : Answer ℕ) → Ends w f (skip_effects (drop f w)) o → IsSome o
+        found-list-some o y = list-found w i s (i + 1 + n) names-place e found-terms f found-types d o y
+
+        pub places-list : (g : ℕ) → At w f (skip_effects (drop f w)) g → Places w i (record { terms = i + 1 + n; types = e; list = f; next = g })
+        places-list g y =
+            places w i s (i + 1 + n) names-place e found-terms f found-types g (list_at w i s (i + 1 + n) names-place e found-terms f found-types d g y)

@@ -1,11 +1,11 @@
 -- A cast's effects, and the whole of a process's own words, compared. Assumes nothing.
-use Rattle.std.specs.Prelude.{ℕ, ◌+◌, ◌≤◌, ◌<◌, Bool, true, false, not, ◌&&◌, ◌≡◌, refl, eqb, length, drop, get_or}
+use Rattle.std.specs.Prelude.{ℕ, ◌+◌, ◌<◌, Bool, true, ◌&&◌, ◌≡◌, refl, eqb, length, drop, get_or}
 use mathlib.Core.List.{List, []}
 use Rattle.std.proofs.Math.Option.{none, some}
 use Rattle.std.proofs.Common.{sym, ◌∙◌, arith, add-one, drop_of_length-le, drop-cons, eq-eqb}
 use Rattle.std.proofs.Math.Path.{ap}
 use Rattle.std.proofs.Math.Decide.{dec_lt}
-use Rattle.std.proofs.lemmas.Bool.{not-true, not-false}
+use Rattle.std.proofs.Math.Bool.{and_assoc}
 use Rattle.words.specs.Choice.{then}
 use Rattle.words.specs.Choice.Laws.{pick_true}
 use Rattle.words.specs.Run.{run, same_words}
@@ -14,11 +14,11 @@ use Rattle.typing.specs.Term.{Effect, same_term}
 use Rattle.typing.specs.Bag.{bag, plus}
 use Rattle.typing.specs.Types.{same_list, same_type, same_effects}
 use Rattle.typing.proofs.Check.Laws.{both, and_both}
-use Rattle.typing.specs.Reading.{Read, term, effects, with_effects, type_at, several}
+use Rattle.typing.specs.Reading.{Read, term, effects, with_effects, type_at}
 use Rattle.spans.specs.Behind.{rest_of, At}
 use Rattle.alike.specs.Same.{value_or, effects_in, test}
 use Rattle.alike.specs.Same.Laws.{test-yes, test-true}
-use Rattle.parts.specs.Own.{Own, Counted, names_of, cast_effects}
+use Rattle.parts.specs.Own.{Own, Counted, cast_effects}
 use Rattle.parts.specs.Place.{list_in, own_in, same_own, Places}
 use Rattle.parts.specs.Place.Laws.{no-effects, no-rest}
 use Rattle.parts.specs.declared.Parts.{Parts}
@@ -74,12 +74,6 @@ lists-bags u v c a e b f s t cast n m x y r d =
 -- ---- same_own, one part after another
 module _ (u : List ℕ) (i : ℕ) (p : Parts) (v : List ℕ) (j : ℕ) (q : Parts) (s : Places u i p) (t : Places v j q)
     (same : get_or u i 0 ≡ get_or v j 0) (n m k : ℕ) (counts : Counted (get_or u i 0) n m k) where
-  pub names-left : i + 1 + n ≤ length u
-  names-left = omega (arith, s.names, counts.names)
-
-  pub names-right : j + 1 + n ≤ length v
-  names-right = omega (arith, t.names, counts.names, ap names_of same)
-
   abbrev A : Bool
   A = same_words (run u (i + 1) n) (run v (j + 1) n)
 
@@ -92,42 +86,12 @@ module _ (u : List ℕ) (i : ℕ) (p : Parts) (v : List ℕ) (j : ℕ) (q : Part
   abbrev D : Bool
   D = test (same_effects (value_or [] (cast_effects (get_or u i 0) (drop p.list u))) (value_or [] (cast_effects (get_or u i 0) (drop q.list v))))
 
-  own-tests : same_own (own_in u i p) (own_in v j q) ≡ (A && (B && (C && D)))
+  one_by_one : same_own (own_in u i p) (own_in v j q) ≡ (A && (B && (C && D)))
   unfolding same_own own_in
-  own-tests = rw (counts.names, counts.terms, counts.types, same)
+  one_by_one = rw (counts.names, counts.terms, counts.types, same)
 
-  pub terms-there : At u p.terms (rest_of (several term m (drop p.terms u))) p.types
-      × At v q.terms (rest_of (several term m (drop q.terms v))) q.types
-  terms-there = (rw counts.terms s.terms, rw (counts.terms, same) t.terms)
-
-  pub types-there : At u p.types (rest_of (several type_at k (drop p.types u))) p.list
-      × At v q.types (rest_of (several type_at k (drop q.types v))) q.list
-  types-there = (rw counts.types s.types, rw (counts.types, same) t.types)
-
-  pub lists-there : At u p.list (rest_of (cast_effects (get_or u i 0) (drop p.list u))) p.next
-      × At v q.list (rest_of (cast_effects (get_or u i 0) (drop q.list v))) q.next
-  lists-there = (s.effects, rw same t.effects)
-
-  module _ (a : Bool) (names : a ≡ A) where
-    pub names-differ : not a ≡ true → false ≡ same_own (own_in u i p) (own_in v j q)
-    names-differ z = sym (own-tests ∙ ap (λ (x : Bool). x && (B && (C && D))) (sym names ∙ not-true a z))
-
-    module _ (x : not a ≡ false) (b : Bool) (terms : b ≡ B) where
-      past-names : same_own (own_in u i p) (own_in v j q) ≡ (b && (C && D))
-      past-names = own-tests ∙ ap (λ (z : Bool). z && (B && (C && D))) (sym names ∙ not-false a x) ∙ ap (λ (z : Bool). z && (C && D)) (sym terms)
-
-      pub terms-differ : not b ≡ true → false ≡ same_own (own_in u i p) (own_in v j q)
-      terms-differ z = sym (past-names ∙ ap (λ (y : Bool). y && (C && D)) (not-true b z))
-
-      module _ (y : not b ≡ false) (c : Bool) (types : c ≡ C) where
-        past-terms : same_own (own_in u i p) (own_in v j q) ≡ (c && D)
-        past-terms = past-names ∙ ap (λ (z : Bool). z && (C && D)) (not-false b y) ∙ ap (λ (z : Bool). z && D) (sym types)
-
-        pub types-differ : not c ≡ true → false ≡ same_own (own_in u i p) (own_in v j q)
-        types-differ z = sym (past-terms ∙ ap (λ (o : Bool). o && D) (not-true c z))
-
-        pub lists-last : not c ≡ false → (r : Bool) → r ≡ D → r ≡ same_own (own_in u i p) (own_in v j q)
-        lists-last z r e = e ∙ sym (past-terms ∙ ap (λ (o : Bool). o && D) (not-false c z))
+  pub own-tests : same_own (own_in u i p) (own_in v j q) ≡ (((A && B) && C) && D)
+  own-tests = one_by_one ∙ sym (and_assoc (A && B) C D ∙ and_assoc A B (C && D))
 
 -- ---- same_own, of what is the same
 pub own_same : (o p : Own) → same_own o p ≡ true

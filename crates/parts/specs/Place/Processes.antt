@@ -1,10 +1,9 @@
 -- Processes compared by their own words, one after another. Assumes nothing.
-use Rattle.std.specs.Prelude.{ℕ, suc, ◌+◌, ◌-◌, ◌≤◌, ◌<◌, Bool, true, false, not, List, [], ◌∷◌, eqb, length, drop, get_or}
+use Rattle.std.specs.Prelude.{ℕ, suc, ◌+◌, ◌-◌, ◌≤◌, ◌<◌, true, false, List, [], ◌∷◌, eqb, length, drop, get_or}
 use Rattle.std.proofs.Math.Option.{none, some}
 use Rattle.std.proofs.Math.Path.{◌≡◌, refl, sym, ap}
 use Rattle.std.proofs.Common.{◌∙◌, arith, drop_of_length-le, drop-cons}
 use Rattle.std.proofs.Math.Decide.{dec_lt}
-use borrow.Author.Tests.{not-true, not-false}
 use Rattle.words.specs.Choice.{then}
 use Rattle.words.specs.Choice.Laws.{pick_ind}
 use Rattle.words.specs.First.Laws.{clash}
@@ -150,16 +149,7 @@ module _ (u : List ℕ) (a e : ℕ) (v : List ℕ) (b f i j due : ℕ) (t : Pair
   unequal : (list_in process_at u i due ≡ list_in process_at v j due → ⊥) → false ≡ test (same_process (process_in u a) (process_in v b))
   unequal d = sym (test-no (same_process (process_in u a) (process_in v b)) (λ z. d (t.to z)))
 
-  pub pairing-few : due ≤ i + 1
-  pairing-few = t.left.few
-
   module _ (h : 0 < due) where
-    pub pairing-left : i < length u
-    pairing-left = along-inside u e i due t.left h
-
-    pub pairing-right : j < length v
-    pairing-right = along-inside v f j due t.right h
-
     pub pairing-left-spelled : Spelled u i
     pairing-left-spelled = along-spelled u e i due t.left h
 
@@ -194,19 +184,17 @@ module _ (u : List ℕ) (a e : ℕ) (v : List ℕ) (b f i j due : ℕ) (t : Pair
         parted z =
             parts_same (own_in u i p) (own_in v j q) more_left more_right same x.exact y.exact left-turn.long right-turn.long (formed-both z)
 
-        pub pairing-own : (c : Bool) → c ≡ same_own (own_in u i p) (own_in v j q) → not c ≡ true
-            → false ≡ test (same_process (process_in u a) (process_in v b))
-        pairing-own c m n =
+        pub pairing-own : false ≡ same_own (own_in u i p) (own_in v j q) → false ≡ test (same_process (process_in u a) (process_in v b))
+        pairing-own m =
             unequal (λ z.
             let (w, k, l, o, r) = parted z in
-            clash (m ∙ same-own (own_in u i p) (own_in v j q) w k l o) (not-true _ n))
+            clash (same-own (own_in u i p) (own_in v j q) w k l o) (sym m))
 
-        pub pairing-again : (c : Bool) → c ≡ same_own (own_in u i p) (own_in v j q) → not c ≡ false → (n : ℕ) → n ≡ process_parts (get_or u i 0)
-            → n ≤ 2
+        pub pairing-again : true ≡ same_own (own_in u i p) (own_in v j q) → (n : ℕ) → n ≡ process_parts (get_or u i 0) → n ≤ 2
             → Pairing u a e v b f p.next q.next (due + n - 1)
         unfolding own_in
-        pairing-again c m o n k l =
-            let (w, r, s, z) = own_same (own_in u i p) (own_in v j q) (sym m ∙ not-false _ o) in
+        pairing-again m n k l =
+            let (w, r, s, z) = own_same (own_in u i p) (own_in v j q) (sym m) in
             let lt = along-turn u e i due t.left h p x n k l in
             let rt = along-turn v f j due t.right h q y n (k ∙ ap process_parts same) l in
             record {

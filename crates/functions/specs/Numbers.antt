@@ -4,6 +4,7 @@ use Rattle.functions.specs.Functions.{Known}
 use Rattle.functions.specs.declared.Function.{Function}
 use Rattle.functions.specs.declared.Function.TheVariants.{Read, Accept, Translate, Rehearse, TranslateBytes, RehearseBytes, WriteSummary, Ask, SummaryBytes, AskBytes, Judge, JudgeBytes, Check, CheckBytes, Apart, ApartBytes}
 use Rattle.functions.specs.declared.Unknown.{Unknown}
+pub mod Laws
 
 abbrev pub number_of : Function → ℕ
 number_of Read = 1

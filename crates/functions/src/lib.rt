@@ -1,5 +1,6 @@
-// What a request's number says: which function it is, whose slices are of bytes, how many slices and numbers follow, and how many bytes a
-// slice has. The numbers are those of docs/CALLS.md.
+// What a request's number says: which function it is, whose slices are of bytes, which function asks a question and which judges a listing,
+// how many slices and numbers follow, and how many bytes a slice has. The numbers are those of docs/CALLS.md; each function here but
+// `Function::try_from` has an answer for any number.
 #![tactic(auto)]
 
 ghost use Rattle.std.specs.Prelude.{◌≡◌, ◌^◌, ◌≤◌, ◌<◌};
@@ -7,7 +8,7 @@ ghost use Rattle.octets.specs.Octets.{word_at};
 ghost use Rattle.functions.specs.Functions.{on_bytes, asks, judges, slices_of, numbers_of, slice_size};
 ghost use Rattle.functions.specs.Numbers.{number_of, Numbers};
 
-// The functions, in the order of their numbers, from 1 on.
+// The functions, in the order of their numbers.
 #[derive(Clone, Copy, Debug, PartialEq, Eq)]
 pub enum Function {
     Read,
@@ -28,6 +29,41 @@ pub enum Function {
     ApartBytes,
 }
 
+// Their numbers. Each stays its function's own.
+impl Function {
+    pub const READ: u32 = 1;
+
+    pub const ACCEPT: u32 = 2;
+
+    pub const TRANSLATE: u32 = 3;
+
+    pub const REHEARSE: u32 = 4;
+
+    pub const TRANSLATE_BYTES: u32 = 5;
+
+    pub const REHEARSE_BYTES: u32 = 6;
+
+    pub const WRITE_SUMMARY: u32 = 7;
+
+    pub const ASK: u32 = 8;
+
+    pub const SUMMARY_BYTES: u32 = 9;
+
+    pub const ASK_BYTES: u32 = 10;
+
+    pub const JUDGE: u32 = 11;
+
+    pub const JUDGE_BYTES: u32 = 12;
+
+    pub const CHECK: u32 = 13;
+
+    pub const CHECK_BYTES: u32 = 14;
+
+    pub const APART: u32 = 15;
+
+    pub const APART_BYTES: u32 = 16;
+}
+
 // A number that is no function's.
 #[derive(Clone, Copy, Debug, PartialEq, Eq)]
 pub struct Unknown(pub u32);
@@ -39,23 +75,49 @@ impl TryFrom<u32> for Function {
 
     fn try_from(number: u32) -> Result<Self, Unknown> {
         match number {
-            1 => Ok(Function::Read),
-            2 => Ok(Function::Accept),
-            3 => Ok(Function::Translate),
-            4 => Ok(Function::Rehearse),
-            5 => Ok(Function::TranslateBytes),
-            6 => Ok(Function::RehearseBytes),
-            7 => Ok(Function::WriteSummary),
-            8 => Ok(Function::Ask),
-            9 => Ok(Function::SummaryBytes),
-            10 => Ok(Function::AskBytes),
-            11 => Ok(Function::Judge),
-            12 => Ok(Function::JudgeBytes),
-            13 => Ok(Function::Check),
-            14 => Ok(Function::CheckBytes),
-            15 => Ok(Function::Apart),
-            16 => Ok(Function::ApartBytes),
+            Function::READ => Ok(Function::Read),
+            Function::ACCEPT => Ok(Function::Accept),
+            Function::TRANSLATE => Ok(Function::Translate),
+            Function::REHEARSE => Ok(Function::Rehearse),
+            Function::TRANSLATE_BYTES => Ok(Function::TranslateBytes),
+            Function::REHEARSE_BYTES => Ok(Function::RehearseBytes),
+            Function::WRITE_SUMMARY => Ok(Function::WriteSummary),
+            Function::ASK => Ok(Function::Ask),
+            Function::SUMMARY_BYTES => Ok(Function::SummaryBytes),
+            Function::ASK_BYTES => Ok(Function::AskBytes),
+            Function::JUDGE => Ok(Function::Judge),
+            Function::JUDGE_BYTES => Ok(Function::JudgeBytes),
+            Function::CHECK => Ok(Function::Check),
+            Function::CHECK_BYTES => Ok(Function::CheckBytes),
+            Function::APART => Ok(Function::Apart),
+            Function::APART_BYTES => Ok(Function::ApartBytes),
             _ => Err(Unknown(number)),
+        }
+    }
+}
+
+impl Function {
+    // The function's number.
+    pub fn number(self) -> u32
+        ensures { result ≡ number_of self }
+    {
+        match self {
+            Function::Read => Function::READ,
+            Function::Accept => Function::ACCEPT,
+            Function::Translate => Function::TRANSLATE,
+            Function::Rehearse => Function::REHEARSE,
+            Function::TranslateBytes => Function::TRANSLATE_BYTES,
+            Function::RehearseBytes => Function::REHEARSE_BYTES,
+            Function::WriteSummary => Function::WRITE_SUMMARY,
+            Function::Ask => Function::ASK,
+            Function::SummaryBytes => Function::SUMMARY_BYTES,
+            Function::AskBytes => Function::ASK_BYTES,
+            Function::Judge => Function::JUDGE,
+            Function::JudgeBytes => Function::JUDGE_BYTES,
+            Function::Check => Function::CHECK,
+            Function::CheckBytes => Function::CHECK_BYTES,
+            Function::Apart => Function::APART,
+            Function::ApartBytes => Function::APART_BYTES,
         }
     }
 }
@@ -69,71 +131,92 @@ impl Most {
     const NUMBERS: usize = 3;
 }
 
-impl Function {
-    // The function's slices are of bytes.
-    pub fn on_bytes(self) -> bool
-        ensures { result ≡ on_bytes (number_of self) }
-    {
-        matches!(
-            self,
-            Function::ApartBytes
-                | Function::AskBytes
-                | Function::CheckBytes
-                | Function::JudgeBytes
-                | Function::RehearseBytes
-                | Function::SummaryBytes
-                | Function::TranslateBytes
-        )
-    }
+// Kept: the six that follow take a number, as docs/PROMISES.md has them, for they answer for any, also for one that is no function's.
 
-    // The function answers a question: numbers stand behind its slice.
-    pub fn is_question(self) -> bool
-        ensures { result ≡ asks (number_of self) }
-    {
-        matches!(self, Function::Ask | Function::AskBytes)
+// The function's slices are of bytes.
+pub fn on_bytes(function: u32) -> bool
+    ensures { result ≡ on_bytes function }
+{
+    if function < Function::TRANSLATE_BYTES {
+        return false;
     }
+    if function < Function::WRITE_SUMMARY {
+        return true;
+    }
+    if function == Function::JUDGE {
+        return false;
+    }
+    if function == Function::CHECK {
+        return false;
+    }
+    if function == Function::APART {
+        return false;
+    }
+    Function::ASK < function
+}
 
-    // The function judges a listing: a party's number stands behind its slices.
-    pub fn is_judgement(self) -> bool
-        ensures { result ≡ judges (number_of self) }
-    {
-        matches!(self, Function::Judge | Function::JudgeBytes)
+// The function answers a question: numbers stand behind its slice.
+pub fn is_question(function: u32) -> bool
+    ensures { result ≡ asks function }
+{
+    if function == Function::ASK {
+        return true;
     }
+    function == Function::ASK_BYTES
+}
 
-    // How many bytes a slice of the function has: by its count, the word that the first four bytes make, which is of words or of bytes.
-    pub fn slice_size(self, head: &[u8; 4]) -> usize
-        ensures { (result ≡ slice_size (number_of self) (word_at head.now 0)) × (result < 2 ^ 34) }
-    {
-        let count = words::wide(octets::word(head[0], head[1], head[2], head[3]));
-        if self.on_bytes() {
-            return count;
-        }
-        4 * count
+// The function judges a listing: a party's number stands behind its slices.
+pub fn is_judgement(function: u32) -> bool
+    ensures { result ≡ judges function }
+{
+    if function == Function::JUDGE {
+        return true;
     }
+    function == Function::JUDGE_BYTES
+}
 
-    // How many slices the function has: a reading, a question and the test of bound names one, a rehearsal three, the others two.
-    pub fn slices(self) -> usize
-        ensures { result ≡ slices_of (number_of self) }
-    {
-        match self {
-            Function::Read | Function::Accept => 1,
-            Function::Ask | Function::AskBytes => 1,
-            Function::Apart | Function::ApartBytes => 1,
-            Function::RehearseBytes | Function::Rehearse => 3,
-            _ => 2,
-        }
+// How many bytes a slice of a function has: by its count, the word that the first four bytes make, which is of words or of bytes.
+pub fn slice_size(function: u32, head: &[u8; 4]) -> usize
+    ensures { (result ≡ slice_size function (word_at head.now 0)) × (result < 2 ^ 34) }
+{
+    let count = words::wide(octets::word(head[0], head[1], head[2], head[3]));
+    if on_bytes(function) {
+        return count;
     }
+    4 * count
+}
 
-    // How many numbers the function has behind its slices: a question three, a judgement one.
-    pub fn numbers(self) -> usize
-        ensures { (result ≡ numbers_of (number_of self)) × (result ≤ 3) }
-    {
-        if self.is_question() {
-            return Most::NUMBERS;
-        }
-        if self.is_judgement() {
-            return 1;
-        }
-        0
+// How many slices a function has: a reading, a question and the test of bound names one, a rehearsal three, the others two.
+pub fn slices(function: u32) -> usize
+    ensures { result ≡ slices_of function }
+{
+    if function < Function::TRANSLATE {
+        return 1;
     }
+    if is_question(function) {
+        return 1;
+    }
+    if function == Function::REHEARSE {
+        return 3;
+    }
+    if function == Function::REHEARSE_BYTES {
+        return 3;
+    }
+    if Function::CHECK_BYTES < function {
+        return 1;
+    }
+    2
+}
+
+// How many numbers a function has behind its slices: a question three, a judgement one.
+pub fn numbers(function: u32) -> usize
+    ensures { (result ≡ numbers_of function) × (result ≤ 3) }
+{
+    if is_question(function) {
+        return Most::NUMBERS;
+    }
+    if is_judgement(function) {
+        return 1;
+    }
+    0
 }

@@ -1,7 +1,7 @@
 // Another translator's words, compared with ours. Our program is made step by step, in a buffer that has room for any step's words, and read
 // as a row of slots; theirs are followed as far as a one-to-one renaming of their placeholders can agree. `follow_words` compares any words
 // of ours with theirs from a place on, `follow_steps` all of a party's steps.
-#![tactic(auto)]
+#![tactic(auto, using(book::specs::Headed::Laws::headed_rules))]
 
 ghost use Rattle.std.specs.Prelude.{◌≡◌, ◌<◌};
 ghost use Rattle.book.specs.Layout.{steps as steps_of};
@@ -16,7 +16,7 @@ use book::{ByRow, Triple, steps};
 use holding::start;
 use naming::{Numbers, Range, begins_run, fill, keep_names, name_of, size, their, widened};
 use scanning::{Class, Mode, run_of};
-use walking::{act, next_own};
+use walking::{act, is_own};
 use words::word;
 
 // Their word y agrees with ours, w, behind which v stands, by the mode of ours. `names` are what they call our placeholders so far: of the
@@ -34,37 +34,31 @@ fn agree(
     log: &[u32],
     n: usize,
     called: &[u32],
-    low: usize,
-    high: usize,
+    range: Range,
 ) -> bool
-    requires { AgreeReady (theirs words.now bytes.now) total place mode w begin table.now log.now n called.now low high }
+    requires { AgreeReady (theirs words.now bytes.now) total place mode w begin table.now log.now n called.now range }
     ensures { result ≡ stands (theirs words.now bytes.now) place (told (theirs words.now bytes.now) place mode w) (slot_of (class_of mode) w v) }
 {
     if total <= place {
         return false;
     }
     let y = their(words, bytes, place);
-    let class = mode.class();
-    if class == Class::USE {
-        return y == name_of(w, begin, table, log, n, called);
+    match mode.class() {
+        Class::Use => y == name_of(w, begin, table, log, n, called),
+        Class::First => begins_run(words, bytes, place, w, v, y, range),
+        _ => y == w,
     }
-    if class == Class::FIRST {
-        return begins_run(words, bytes, place, w, v, y, low, high);
-    }
-    y == w
 }
 
-// How far their words agree: the place of the first that doesn't, or the one behind them all; and the range of their numbers.
+// How far their words agree: the place behind them all, and the range of their numbers.
 #[derive(Drop)]
 pub struct Far {
-    pub whole: bool,
     pub at: usize,
-    pub low: usize,
-    pub high: usize,
+    pub range: Range,
 }
 
-// Their words from the place on, compared with ours, which begin with an event. What they call the placeholders that are handed out goes to
-// the table.
+// Their words from the place on, compared with ours, which begin with an event: how far they agree or, where one doesn't, the place of the
+// first that doesn't. What they call the placeholders that are handed out goes to the table.
 pub fn follow_words(
     ours: &[u32],
     words: &[u32],
@@ -75,58 +69,40 @@ pub fn follow_words(
     log: &[u32],
     n: usize,
     called: &[u32],
-    low: usize,
-    high: usize,
-) -> Far
-    requires { WordsReady (theirs words.now bytes.now) ours.now place begin table.old log.now n called.now low high }
+    range: Range,
+) -> Result<Far, usize>
+    requires { WordsReady (theirs words.now bytes.now) ours.now place begin table.old log.now n called.now range }
     ensures { WordsFollowed (theirs words.now bytes.now) ours.now place begin table.new log.now n called.now result }
 {
     let total = size(words, bytes);
-    let count = ours.len();
     let mut mode = Mode::Event;
     let mut at = place;
     let mut filled = 0;
-    let mut range = Range { low, high };
-    let mut k = 0;
-    while k < count {
-        let w = ours[k];
+    let mut all = range;
+    for (k, &w) in ours.iter().enumerate() {
         let v = word(ours, k + 1);
         let agreed = agree(
-            words, bytes, total, at, mode, w, v, begin, table, log, n, called, range.low,
-            range.high,
+            words, bytes, total, at, mode, w, v, begin, table, log, n, called, all,
         );
         if !agreed {
-            return Far {
-                whole: false,
-                at,
-                low: range.low,
-                high: range.high,
-            };
+            return Err(at);
         }
         let y = their(words, bytes, at);
         let run = run_of(mode, v);
         filled = fill(table, filled, y, run);
-        range = widened(range, y, run);
+        all = widened(all, y, run);
         mode = mode.next(w);
         at += 1;
-        k += 1;
     }
-    Far {
-        whole: true,
-        at,
-        low: range.low,
-        high: range.high,
-    }
+    Ok(Far { at, range: all })
 }
 
-// Behind the steps: how far their words agree; and where they all do, the range of their numbers, the next placeholder of ours, and the
-// words of what is stored.
+// Behind steps that agree: the place behind their words, the range of their numbers, the next placeholder of ours, and the words of what is
+// stored.
 #[derive(Drop)]
 pub struct Reached {
-    pub whole: bool,
     pub at: usize,
-    pub low: usize,
-    pub high: usize,
+    pub range: Range,
     pub given: u32,
     pub kept: usize,
 }
@@ -146,7 +122,7 @@ fn follow_step(
     log: &mut [u32],
     called: &mut [u32],
     reached: Reached,
-) -> Reached
+) -> Result<Reached, usize>
     requires { (i < steps_of book.now) × Partners book.now partners.now × Stepped book.now party i (theirs words.now bytes.now) step.old table.old log.old called.old entries.old reached }
     ensures { StepFollowed book.now party i (theirs words.now bytes.now) step.new table.new log.new called.new entries.new result }
 {
@@ -155,10 +131,9 @@ fn follow_step(
     let acted = act(
         book, since, partners, entries, given, kept, party, i, log, step, 0,
     );
-    let end = acted.at;
     let stored = kept / Triple::WORDS;
     let far = follow_words(
-        &step[..end],
+        &step[..acted.at],
         words,
         bytes,
         reached.at,
@@ -167,19 +142,8 @@ fn follow_step(
         log,
         stored,
         called,
-        reached.low,
-        reached.high,
-    );
-    if !far.whole {
-        return Reached {
-            whole: false,
-            at: far.at,
-            low: far.low,
-            high: far.high,
-            given,
-            kept,
-        };
-    }
+        reached.range,
+    )?;
     keep_names(
         log,
         stored,
@@ -188,17 +152,15 @@ fn follow_step(
         table,
         called,
     );
-    Reached {
-        whole: true,
+    Ok(Reached {
         at: far.at,
-        low: far.low,
-        high: far.high,
+        range: far.range,
         given: acted.next,
         kept: acted.kept,
-    }
+    })
 }
 
-// The steps, one after another.
+// The steps, one after another: what is reached behind them all, or the place of the first word that doesn't agree.
 pub fn follow_steps(
     book: &[u32],
     since: &ByRow,
@@ -210,22 +172,25 @@ pub fn follow_steps(
     table: &mut [u32],
     log: &mut [u32],
     called: &mut [u32],
-) -> Reached
+) -> Result<Reached, usize>
     requires { StepsReady book.now partners.now party × Buffers step.old table.old log.old called.old }
     ensures { StepsFollowed book.now party (theirs words.now bytes.now) log.new called.new result × Buffers step.new table.new log.new called.new }
 {
     let n = steps(book);
     let mut entries = start(book, party);
     let mut reached = Reached {
-        whole: true,
         at: 0,
-        low: Numbers::ALL,
-        high: 0,
+        range: Range {
+            low: Numbers::ALL,
+            high: 0,
+        },
         given: 0,
         kept: 0,
     };
-    let mut i = next_own(book, party, 0);
-    while i < n {
+    for i in 0..n {
+        if !is_own(book, party, i) {
+            continue;
+        }
         reached = follow_step(
             book,
             since,
@@ -240,11 +205,7 @@ pub fn follow_steps(
             log,
             called,
             reached,
-        );
-        if !reached.whole {
-            return reached;
-        }
-        i = next_own(book, party, i + 1);
+        )?;
     }
-    reached
+    Ok(reached)
 }

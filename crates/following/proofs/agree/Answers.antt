@@ -7,19 +7,17 @@ pub returns-then-total-place : goal.returns-then-total-place
 returns-then-total-place c = agree-past c.requires _ c.if-total-place.true
 
 -- a placeholder
-pub returns-then-class-eq-USE : goal.returns-then-class-eq-USE
-returns-then-class-eq-USE c = agree-use c.requires _ c.if-total-place.false c.their-y.ensures c.class-class.ensures
-    c.if-class-eq-USE.true c.name_of.ensures
+pub returns-in-Use : goal.returns-in-Use
+returns-in-Use c = agree-use c.requires _ c.if-total-place.false c.their-y.ensures c.in-Use.ensures c.name_of.ensures
 
 pub begins_run-requires : goal.begins_run-requires
-begins_run-requires c = agree-ranged c.requires c.args.v c.class-class.ensures c.if-class-eq-FIRST.true
+begins_run-requires c = agree-ranged c.requires c.args.v c.in-First.ensures
 
 -- the first of a run
-pub returns-then-class-eq-FIRST : goal.returns-then-class-eq-FIRST
-returns-then-class-eq-FIRST c = agree-first c.requires _ c.if-total-place.false c.their-y.ensures c.class-class.ensures
-    c.if-class-eq-FIRST.true c.begins_run.ensures
+pub returns-in-First : goal.returns-in-First
+returns-in-First c = agree-first c.requires _ c.if-total-place.false c.their-y.ensures c.in-First.ensures c.begins_run.ensures
 
 -- a plain word
-pub returns : goal.returns
-returns c = agree-plain c.requires _ c.if-total-place.false c.their-y.ensures c.class-class.ensures
-    c.if-class-eq-USE.false c.if-class-eq-FIRST.false
+pub returns-in_default : goal.returns-in_default
+returns-in_default c = agree-plain c.requires _ c.if-total-place.false c.their-y.ensures c.class.ensures
+    c.in_default.not-Use c.in_default.not-First

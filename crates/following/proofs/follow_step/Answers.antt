@@ -1,8 +1,7 @@
 -- `following::follow_step` meets its contract: the step's words agree, and what they call what it stored is kept
 -- (`stepped-on`), or they don't
 -- (`stepped-broken`). Assumes nothing.
-use mathlib.Core.Path.{refl}
-use borrow.Author.Tests.{not-true, not-false}
+use Rattle.std.proofs.lemmas.Result.{err_from_is_err_and}
 use Rattle.following.specs.Stepping.Step.{stepped-ready, stepped-few, stepped-sized, stepped-compare, stepped-broken, stepped-keep, stepped-on}
 use Rattle.following.proofs.follow_step.Goals as goal
 
@@ -18,20 +17,19 @@ pub slice_bounds-follow_words-end-2 : goal.slice_bounds-follow_words-end-2
 slice_bounds-follow_words-end-2 c = stepped-sized c.requires.0 c.requires.2 c.act-acted.ensures
 
 -- its words can be compared
-pub follow_words-far-requires : goal.follow_words-far-requires
-follow_words-far-requires c = stepped-compare c.requires.0 c.requires.2 c.act-acted.ensures
+pub follow_words-requires : goal.follow_words-requires
+follow_words-requires c = stepped-compare c.requires.0 c.requires.2 c.act-acted.ensures
 
 -- they don't agree
-pub returns-then-not-far : goal.returns-then-not-far
-returns-then-not-far c = stepped-broken c.requires.0 c.requires.2 c.act-acted.ensures c.follow_words-far.ensures
-    (not-true _ c.if-not-far.true) refl refl
+pub returns-in_err-far : goal.returns-in_err-far
+returns-in_err-far c =
+    let p = err_from_is_err_and c.from_residual.result c.from_residual.ensures.1 in
+    rw (p.1, p.2) (stepped-broken c.requires.0 c.requires.2 c.act-acted.ensures c.in_err-far.ensures)
 
 -- there is room for the names of what is stored
 pub keep_names-requires : goal.keep_names-requires
-keep_names-requires c = stepped-keep c.requires.0 c.requires.2 c.act-acted.ensures c.follow_words-far.ensures
-    (not-false _ c.if-not-far.false)
+keep_names-requires c = stepped-keep c.requires.0 c.requires.2 c.act-acted.ensures c.in_ok-far.ensures
 
 -- they agree
 pub returns : goal.returns
-returns c = stepped-on c.requires.0 c.requires.2 c.act-acted.ensures c.follow_words-far.ensures
-    (not-false _ c.if-not-far.false) c.keep_names.ensures
+returns c = stepped-on c.requires.0 c.requires.2 c.act-acted.ensures c.in_ok-far.ensures c.keep_names.ensures

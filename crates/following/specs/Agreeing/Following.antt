@@ -1,6 +1,6 @@
 -- Their words compared with ours word by word: laws of `UpTo`. Assumes nothing.
-use Rattle.std.specs.Prelude.{ℕ, zero, suc, ◌+◌, ◌≤◌, ◌<◌, Bool, true, false, List, [], ◌∷◌, ◌++◌, ◌⊎◌, ◌≡◌, refl, length, get_or, drop, eqb, leb}
-use Rattle.std.proofs.Common.{append-nil, inl, inr, sym, ap, ap₂, ◌∙◌, arith, add-one, length-append, drop-cons, get_or-drop, ne_eqb, leb-true}
+use Rattle.std.specs.Prelude.{ℕ, zero, suc, ◌+◌, ◌≤◌, ◌<◌, Bool, true, false, Ok, Err, List, [], ◌∷◌, ◌++◌, ◌⊎◌, ◌≡◌, refl, length, get_or, drop, leb}
+use Rattle.std.proofs.Common.{append-nil, inl, inr, sym, ap, ap₂, ◌∙◌, arith, add-one, length-append, drop-cons, get_or-drop, leb-true}
 use Rattle.std.proofs.Math.ListN.{get_or-eq_default}
 use Rattle.std.proofs.Math.Seq.{drop-length}
 use Rattle.words.specs.Choice.{pick}
@@ -12,69 +12,64 @@ use Rattle.translation.specs.Low.{word_limit}
 use Rattle.renaming.specs.Slot.{Slot, InOrder, handed}
 use Rattle.renaming.specs.Renaming.{numbers, agrees, named, stands, Followed, follow}
 use Rattle.renaming.specs.Renaming.Laws.{follow-on, follow-stops, stands-within, stands-agrees, numbers-length}
+use Rattle.scanning.specs.declared.Class.{Class}
 use Rattle.scanning.specs.declared.Mode.{Mode}
 use Rattle.scanning.specs.declared.Mode.TheVariants.{Event}
-use Rattle.following.specs.declared.Far.{Far}
-use Rattle.scanning.specs.Scan.{next_mode, class_of, slot_of, run_of, scan, after}
-use Rattle.naming.specs.Mirror.{mode_at, handed_by, told}
+use Rattle.scanning.specs.Scan.{next_mode, class_of, slot_of, run_by, run_of, scan, after}
+use Rattle.naming.specs.declared.Range.{Range}
+use Rattle.naming.specs.Mirror.{handed_by, told}
 use Rattle.naming.specs.Mirror.Laws.{mode-on, told-on}
 use Rattle.naming.specs.Called.{Wider}
 use Rattle.naming.specs.Called.Laws.{ranged-run, called-run, filled_on}
 use Rattle.following.specs.Agreeing.{AgreeReady, WordsReady, WordsFollowed, UpTo}
 
 -- ---- what a slot hands out, by its class
-abbrev run_by : ℕ → ℕ → ℕ
-run_by c v = pick (eqb c 2) v 0
+named-run : (names : List ℕ) (c : Class) (w v y : ℕ) → named names (slot_of c w v) y ≡ names ++ numbers y (run_by c v)
+unfolding named values
+named-run names Class.Plain w v y = sym (append-nil names)
+named-run names Class.Use w v y = sym (append-nil names)
+named-run names Class.First w v y = refl
+named-run names Class.Length w v y = sym (append-nil names)
 
-other-run : (c v : ℕ) → run_by (suc (suc (suc c))) v ≡ 0
-other-run c v = pick-false _ _ _ (ne_eqb (suc (suc (suc c))) 2 (λ e. omega arith))
-
-named-run : (names : List ℕ) (c w v y : ℕ) → named names (slot_of c w v) y ≡ names ++ numbers y (run_by c v)
-unfolding named pick values
-named-run names zero w v y = sym (append-nil names)
-named-run names (suc zero) w v y = sym (append-nil names)
-named-run names (suc (suc zero)) w v y = refl
-named-run names (suc (suc (suc c))) w v y = rw (other-run c v) (sym (append-nil names))
-
-handed-run : (c w v : ℕ) (ss : List Slot) → handed (slot_of c w v ∷ ss) ≡ run_by c v + handed ss
-unfolding handed pick
-handed-run zero w v ss = omega arith
-handed-run (suc zero) w v ss = omega arith
-handed-run (suc (suc zero)) w v ss = refl
-handed-run (suc (suc (suc c))) w v ss = rw (other-run c v) (omega arith)
+handed-run : (c : Class) (w v : ℕ) (ss : List Slot) → handed (slot_of c w v ∷ ss) ≡ run_by c v + handed ss
+unfolding handed
+handed-run Class.Plain w v ss = omega arith
+handed-run Class.Use w v ss = omega arith
+handed-run Class.First w v ss = refl
+handed-run Class.Length w v ss = omega arith
 
 -- ---- in order, a word on
-order-known : {old : ℕ → Type 0} {begin n : ℕ} (c w v : ℕ) {ss : List Slot} → InOrder old begin n (slot_of c w v ∷ ss) → c ≡ 1
-    → ((begin ≤ w) × (w < n)) ⊎ old w
-order-known zero w v o e = absurd (omega arith)
-order-known (suc zero) w v (InOrder.kept k o) e = inr k
-order-known (suc zero) w v (InOrder.since h l o) e = inl (h, l)
-order-known (suc (suc c)) w v o e = absurd (omega arith)
+order-known : {old : ℕ → Type 0} {begin n : ℕ} (c : Class) (w v : ℕ) {ss : List Slot} → InOrder old begin n (slot_of c w v ∷ ss)
+    → c ≡ Class.Use → ((begin ≤ w) × (w < n)) ⊎ old w
+order-known Class.Plain w v o e = cc
+order-known Class.Use w v (InOrder.kept k o) e = inr k
+order-known Class.Use w v (InOrder.since h l o) e = inl (h, l)
+order-known Class.First w v o e = cc
+order-known Class.Length w v o e = cc
 
 order-at : {old : ℕ → Type 0} {begin n m : ℕ} {ss : List Slot} → n ≡ m → InOrder old begin n ss → InOrder old begin m ss
 order-at e o = rw (← e) o
 
-order-on : {old : ℕ → Type 0} {begin n : ℕ} (c w v : ℕ) {ss : List Slot} → InOrder old begin n (slot_of c w v ∷ ss)
+order-on : {old : ℕ → Type 0} {begin n : ℕ} (c : Class) (w v : ℕ) {ss : List Slot} → InOrder old begin n (slot_of c w v ∷ ss)
     → InOrder old begin (n + run_by c v) ss
-unfolding pick
-order-on zero w v (InOrder.plain o) = order-at (omega arith) o
-order-on (suc zero) w v (InOrder.kept k o) = order-at (omega arith) o
-order-on (suc zero) w v (InOrder.since h l o) = order-at (omega arith) o
-order-on (suc (suc zero)) w v (InOrder.runs o) = o
-order-on (suc (suc (suc c))) w v (InOrder.plain o) = let e = other-run c v in order-at (omega arith) o
+order-on Class.Plain w v (InOrder.plain o) = order-at (omega arith) o
+order-on Class.Use w v (InOrder.kept k o) = order-at (omega arith) o
+order-on Class.Use w v (InOrder.since h l o) = order-at (omega arith) o
+order-on Class.First w v (InOrder.runs o) = o
+order-on Class.Length w v (InOrder.plain o) = order-at (omega arith) o
 
 -- ---- a run that stands there fits 32 bits
-run_fits : (names : List ℕ) (c w v y : ℕ) → agrees names (slot_of c w v) y ≡ true → y < word_limit → y + run_by c v ≤ word_limit
-unfolding agrees pick
-run_fits names zero w v y h l = omega arith
-run_fits names (suc zero) w v y h l = omega arith
-run_fits names (suc (suc zero)) w zero y h l = omega arith
-run_fits names (suc (suc zero)) w (suc v) y h l = go (leb (y + suc v) word_limit) refl
+run_fits : (names : List ℕ) (c : Class) (w v y : ℕ) → agrees names (slot_of c w v) y ≡ true → y < word_limit → y + run_by c v ≤ word_limit
+unfolding agrees
+run_fits names Class.Plain w v y h l = omega arith
+run_fits names Class.Use w v y h l = omega arith
+run_fits names Class.First w zero y h l = omega arith
+run_fits names Class.First w (suc v) y h l = go (leb (y + suc v) word_limit) refl
   where
     go : (b : Bool) → leb (y + suc v) word_limit ≡ b → y + suc v ≤ word_limit
     go true e = leb-true _ _ e
     go false e = absurd (clash h (pick-false _ _ _ e))
-run_fits names (suc (suc (suc c))) w v y h l = let e = other-run c v in omega arith
+run_fits names Class.Length w v y h l = omega arith
 
 -- ---- a slot more, or none
 follow-more : (ws : List ℕ) (s : Slot) (ss : List Slot) (a : ℕ) (names : List ℕ) → stands ws a names s ≡ true
@@ -118,8 +113,8 @@ unfolding pick
 told-event ws a w = append-nil (handed_by ws a)
 
 -- ---- before the first word
-pub up_start : {ws ours : List ℕ} {a begin : ℕ} {table log : List ℕ} {n : ℕ} {called : List ℕ} {low high : ℕ}
-    → WordsReady ws ours a begin table log n called low high → UpTo ws ours a 0 a Event begin 0 table log n called low high
+pub up_start : {ws ours : List ℕ} {a begin : ℕ} {table log : List ℕ} {n : ℕ} {called : List ℕ} {range : Range}
+    → WordsReady ws ours a begin table log n called range → UpTo ws ours a 0 a Event begin 0 table log n called range
 up_start {ws} {ours} {a} {begin} g =
     let e = told-event ws a (get_or ours 0 0) in
     let b = g.begins in
@@ -136,8 +131,8 @@ up_start {ws} {ours} {a} {begin} g =
       ends = refl;
     }
 
-module _ {ws ours : List ℕ} {a k at : ℕ} {m : Mode} {begin filled : ℕ} {table log : List ℕ} {n : ℕ} {called : List ℕ} {low high : ℕ}
-    (u : UpTo ws ours a k at m begin filled table log n called low high) where
+module _ {ws ours : List ℕ} {a k at : ℕ} {m : Mode} {begin filled : ℕ} {table log : List ℕ} {n : ℕ} {called : List ℕ} {range : Range}
+    (u : UpTo ws ours a k at m begin filled table log n called range) where
   abbrev w : ℕ
   w = get_or ours k 0
 
@@ -145,7 +140,7 @@ module _ {ws ours : List ℕ} {a k at : ℕ} {m : Mode} {begin filled : ℕ} {ta
   names = told ws at m w
 
   -- ---- a word can be compared
-  pub up-ready : {t : ℕ} → t ≡ length ws → k < length ours → AgreeReady ws t at m w begin table log n called low high
+  pub up-ready : {t : ℕ} → t ≡ length ws → k < length ours → AgreeReady ws t at m w begin table log n called range
   up-ready e h =
       record {
         total = e;
@@ -163,14 +158,14 @@ module _ {ws ours : List ℕ} {a k at : ℕ} {m : Mode} {begin filled : ℕ} {ta
     rest-there = u.rest ∙ ap (λ (ss : List Slot). follow ws ss at names) (scan-on m ours k h)
 
     -- ---- it doesn't agree
-    pub up-off : {t : Bool} (r : Far) → t ≡ stands ws at names (slot_of (class_of m) w v) → t ≡ false → r.whole ≡ false → r.at ≡ at
-        → WordsFollowed ws ours a begin table log n called r
-    up-off r s f o l =
+    pub up-off : {t : Bool} → t ≡ stands ws at names (slot_of (class_of m) w v) → t ≡ false
+        → WordsFollowed ws ours a begin table log n called (Err at)
+    up-off s f =
         let z = rest-there ∙ follow-stops ws slot _ at names (ap (λ x. stands ws at names (slot_of (class_of m) w x)) (sym ahead) ∙ sym s ∙ f) in
         record {
-          at = ap (λ (x : Followed). x.at) z ∙ sym l;
-          whole = ap (λ (x : Followed). x.whole) z ∙ sym o;
-          all = λ e. absurd (clash e o);
+          at = ap (λ (x : Followed). x.at) z;
+          whole = ap (λ (x : Followed). x.whole) z;
+          all = tt;
           size = u.calls.size;
         }
 
@@ -215,8 +210,8 @@ module _ {ws ours : List ℕ} {a k at : ℕ} {m : Mode} {begin filled : ℕ} {ta
             let i = run_is in
             rw t' (omega arith)
 
-        pub up-on : {table' : List ℕ} {r low' high' : ℕ} → Wrote (numbers y c) table filled table' r → Wider low high y c low' high'
-            → UpTo ws ours a (k + 1) (at + 1) m' begin r table' log n called low' high'
+        pub up-on : {table' : List ℕ} {r : ℕ} {range' : Range} → Wrote (numbers y c) table filled table' r
+            → Wider range.low range.high y c range'.low range'.high → UpTo ws ours a (k + 1) (at + 1) m' begin r table' log n called range'
         up-on {table'} {r} f' wide =
             let size = u.calls.size in
             let sum = sum-on in
@@ -238,29 +233,27 @@ module _ {ws ours : List ℕ} {a k at : ℕ} {m : Mode} {begin filled : ℕ} {ta
             }
 
   -- ---- they all agree
-  pub up-end : (r : Far) → length ours ≤ k → r.whole ≡ true → r.at ≡ at → r.low ≡ low → r.high ≡ high
-      → WordsFollowed ws ours a begin table log n called r
-  up-end r h o l p q =
+  pub up-end : length ours ≤ k → WordsFollowed ws ours a begin table log n called (Ok (record { at = at; range = range }))
+  up-end h =
       let most = u.within in
       let last : k ≡ length ours = omega arith in
       let none = ap (λ j. drop j ours) last ∙ drop-length ours in
       let zero : get_or ours k 0 ≡ 0 = get_or-eq_default ours 0 h in
       let ends : m ≡ after Event ours = sym (ap (after m) none ∙ after_none m) ∙ u.ends in
-      let place : told ws at m w ≡ told ws r.at (after Event ours) 0 =
-      ap₂ (λ (x : Mode) z. told ws at x z) ends zero ∙ ap (λ z. told ws z (after Event ours) 0) (sym l) in
+      let place : told ws at m w ≡ told ws at (after Event ours) 0 = ap₂ (λ (x : Mode) z. told ws at x z) ends zero in
       let handed-none = rw (none, scan-none m) at u.sum in
       let all : length names ≡ begin + handed (scan Event ours) = let d = u.count in let e = no-slots in omega arith in
       let z = u.rest ∙ ap (λ (x : List ℕ). follow ws (scan m x) at names) none ∙ ap (λ (x : List Slot). follow ws x at names) (scan-none m)
       ∙ follow-none ws at names in
       record {
-        at = ap (λ (x : Followed). x.at) z ∙ sym l;
-        whole = ap (λ (x : Followed). x.whole) z ∙ sym o;
-        all = λ e. record {
-          mode = ap (mode_at ws) l ∙ sym u.mode ∙ ends;
+        at = ap (λ (x : Followed). x.at) z;
+        whole = ap (λ (x : Followed). x.whole) z;
+        all = record {
+          mode = sym u.mode ∙ ends;
           names = ap (λ (x : Followed). x.names) z ∙ place;
           count = rw place at all;
           calls = rw place at u.calls;
-          ranged = rw (p, q) (rw place at u.ranged);
+          ranged = rw place at u.ranged;
         };
         size = u.calls.size;
       }

@@ -1,29 +1,25 @@
 -- Laws of comparing their words with ours. Assumes nothing.
-use Rattle.std.specs.Prelude.{ℕ, zero, suc, ◌≤◌, ◌<◌, Bool, false, List, ◌⊎◌, ◌≡◌, refl, length, get_or, eqb}
+use Rattle.std.specs.Prelude.{ℕ, ◌≤◌, ◌<◌, Bool, false, List, ◌⊎◌, ◌≡◌, refl, length, get_or, eqb}
 use Rattle.std.proofs.Common.{append-nil, inl, inr, sym, ap, ap₂, ◌∙◌, arith, lt-ltb, le-ltb}
 use Rattle.words.specs.Choice.{pick}
 use Rattle.words.specs.Choice.Laws.{pick_true, pick-false}
 use Rattle.renaming.specs.Slot.{Slot}
 use Rattle.renaming.specs.Renaming.{agrees, stands}
+use Rattle.scanning.specs.declared.Class.{Class}
 use Rattle.scanning.specs.declared.Mode.{Mode}
 use Rattle.scanning.specs.Scan.{class_of, slot_of}
+use Rattle.naming.specs.declared.Range.{Range}
 use Rattle.naming.specs.Mirror.{handed_by, told}
 use Rattle.naming.specs.Called.{Ranged, name_of, StoredIn}
 use Rattle.naming.specs.Called.Laws.{called-recent, called-older}
 use Rattle.following.specs.Agreeing.{AgreeReady}
 
 -- ---- a slot by its class
-slot-use : (c w v : ℕ) → c ≡ 1 → slot_of c w v ≡ Slot.uses w
-slot-use c w v e = rw e
-
-slot-first : (c w v : ℕ) → c ≡ 2 → slot_of c w v ≡ Slot.runs w v
-slot-first c w v e = rw e
-
-slot-plain : (c w v : ℕ) → (c ≡ 1 → ⊥) → (c ≡ 2 → ⊥) → slot_of c w v ≡ Slot.plain w
-slot-plain zero w v p q = refl
-slot-plain (suc zero) w v p q = absurd (p refl)
-slot-plain (suc (suc zero)) w v p q = absurd (q refl)
-slot-plain (suc (suc (suc c))) w v p q = refl
+slot-plain : (c : Class) (w v : ℕ) → (c ≡ Class.Use → ⊥) → (c ≡ Class.First → ⊥) → slot_of c w v ≡ Slot.plain w
+slot-plain Class.Plain w v p q = refl
+slot-plain Class.Use w v p q = absurd (p refl)
+slot-plain Class.First w v p q = absurd (q refl)
+slot-plain Class.Length w v p q = refl
 
 -- ---- a word stands there, or none
 stands-past : (ws : List ℕ) (a : ℕ) (names : List ℕ) (s : Slot) → length ws ≤ a → false ≡ stands ws a names s
@@ -44,13 +40,13 @@ unfolding agrees
 plain-agree names w y = refl
 
 -- ---- at the first of a run, the names are those that their words hand out
-pub told-first : (ws : List ℕ) (a : ℕ) (m : Mode) (w : ℕ) → class_of m ≡ 2 → told ws a m w ≡ handed_by ws a
+pub told-first : (ws : List ℕ) (a : ℕ) (m : Mode) (w : ℕ) → Class.First ≡ class_of m → told ws a m w ≡ handed_by ws a
 unfolding pick
-told-first ws a m w e = rw e (append-nil (handed_by ws a))
+told-first ws a m w e = rw (← e) (append-nil (handed_by ws a))
 
 -- ---- what is compared
-module _ {ws : List ℕ} {k a : ℕ} {m : Mode} {w begin : ℕ} {table log : List ℕ} {n : ℕ} {called : List ℕ} {low high : ℕ}
-    (g : AgreeReady ws k a m w begin table log n called low high) (v : ℕ) where
+module _ {ws : List ℕ} {k a : ℕ} {m : Mode} {w begin : ℕ} {table log : List ℕ} {n : ℕ} {called : List ℕ} {range : Range}
+    (g : AgreeReady ws k a m w begin table log n called range) (v : ℕ) where
   abbrev names : List ℕ
   names = told ws a m w
 
@@ -69,26 +65,24 @@ module _ {ws : List ℕ} {k a : ℕ} {m : Mode} {w begin : ℕ} {table log : Lis
   name (inl h) = called-recent g.calls h.0 h.1
   name (inr s) = called-older g.calls s
 
-  pub agree-use : {y c r : ℕ} → a < k → y ≡ get_or ws a 0 → c ≡ class_of m → c ≡ 1 → r ≡ name_of w begin table log n called
+  pub agree-use : {y r : ℕ} → a < k → y ≡ get_or ws a 0 → Class.Use ≡ class_of m → r ≡ name_of w begin table log n called
       → eqb y r ≡ stands ws a names (slot_of (class_of m) w v)
-  agree-use {y} {c} {r} h e q o f =
-      let one : class_of m ≡ 1 = sym q ∙ o in
-      let known = g.known one in
+  agree-use {y} {r} h e q f =
+      let known = g.known (sym q) in
       ap₂ eqb e (f ∙ name known) ∙ stands-there ws a names _ (there h) (uses-agree names w (get_or ws a 0) (below known))
-      ∙ ap (stands ws a names) (sym (slot-use (class_of m) w v one))
+      ∙ ap (λ (c : Class). stands ws a names (slot_of c w v)) q
 
-  pub agree-first : {y c : ℕ} {r : Bool} → a < k → y ≡ get_or ws a 0 → c ≡ class_of m → c ≡ 2
+  pub agree-first : {y : ℕ} {r : Bool} → a < k → y ≡ get_or ws a 0 → Class.First ≡ class_of m
       → r ≡ agrees (handed_by ws a) (Slot.runs w v) y → r ≡ stands ws a names (slot_of (class_of m) w v)
-  agree-first {y} {c} {r} h e q o f =
-      let two : class_of m ≡ 2 = sym q ∙ o in
+  agree-first {y} {r} h e q f =
       stands-there ws a names (Slot.runs w v) (there h)
-      (f ∙ ap₂ (λ (x : List ℕ) (z : ℕ). agrees x (Slot.runs w v) z) (sym (told-first ws a m w two)) e)
-      ∙ ap (stands ws a names) (sym (slot-first (class_of m) w v two))
+      (f ∙ ap₂ (λ (x : List ℕ) (z : ℕ). agrees x (Slot.runs w v) z) (sym (told-first ws a m w q)) e)
+      ∙ ap (λ (c : Class). stands ws a names (slot_of c w v)) q
 
-  pub agree-ranged : {c : ℕ} → c ≡ class_of m → c ≡ 2 → Ranged low high (handed_by ws a)
-  agree-ranged q o = rw (told-first ws a m w (sym q ∙ o)) at g.ranged
+  pub agree-ranged : Class.First ≡ class_of m → Ranged range.low range.high (handed_by ws a)
+  agree-ranged q = rw (told-first ws a m w q) at g.ranged
 
-  pub agree-plain : {y c : ℕ} → a < k → y ≡ get_or ws a 0 → c ≡ class_of m → (c ≡ 1 → ⊥) → (c ≡ 2 → ⊥)
+  pub agree-plain : {y : ℕ} {c : Class} → a < k → y ≡ get_or ws a 0 → c ≡ class_of m → (c ≡ Class.Use → ⊥) → (c ≡ Class.First → ⊥)
       → eqb y w ≡ stands ws a names (slot_of (class_of m) w v)
   agree-plain {y} {c} h e q u t =
       ap (λ z. eqb z w) e ∙ stands-there ws a names (Slot.plain w) (there h) (plain-agree names w (get_or ws a 0))

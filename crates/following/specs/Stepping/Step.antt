@@ -1,7 +1,6 @@
 -- A party's steps compared with their words, one after another: laws of `Stepped`. Assumes nothing.
-use Rattle.std.specs.Prelude.{ℕ, zero, suc, ◌+◌, ◌-◌, ◌*◌, ◌/◌, ◌≤◌, ◌<◌, Bool, true, false, List, [], ◌++◌, map, ◌≡◌, refl, length, get_or, take, ltb}
+use Rattle.std.specs.Prelude.{ℕ, zero, suc, ◌+◌, ◌-◌, ◌*◌, ◌/◌, ◌≤◌, ◌<◌, Bool, true, false, Option, Ok, Err, List, [], ◌++◌, map, ◌≡◌, refl, length, get_or, take, ltb}
 use Rattle.std.proofs.Common.{arith, append-nil, append_assoc, sym, ap, ap₂, ◌∙◌, length-append, length-take-le, ltb-true, ltb-false}
-use Rattle.words.specs.First.Laws.{clash}
 use Rattle.words.specs.Overlay.{forward, Wrote}
 use Rattle.words.specs.Overlay.Laws.{wrote-length, wrote-take}
 use Rattle.terms.specs.Term.{Term}
@@ -15,7 +14,7 @@ use Rattle.translation.specs.Receive.{Event, Did, nothing}
 use Rattle.translation.specs.Listing.{program_words, triple_words}
 use Rattle.translation.specs.Steps.{step_did, before}
 use Rattle.translation.proofs.Steps.Laws.{before-none, before_more}
-use Rattle.translation.specs.Long.{step_size, step_words}
+use Rattle.translation.specs.Long.{step_words}
 use Rattle.translation.proofs.Long.Laws.{step-within, triples-length, stored-few}
 use Rattle.renaming.specs.Slot.{Slot, program_slots, handed}
 use Rattle.renaming.specs.Slot.Laws.{slots-append, order-more}
@@ -37,16 +36,17 @@ use Rattle.scanning.specs.declared.Mode.TheVariants as modes
 use Rattle.scanning.specs.Scan.{scan, after, Through}
 use Rattle.scanning.specs.Scan.Program.{through-program, through-all}
 use Rattle.scanning.specs.Scan.Inside.{inner-step}
+use Rattle.naming.specs.declared.Range.{Range}
 use Rattle.naming.specs.Mirror.{mode_at, handed_by, told}
 use Rattle.naming.specs.Called.{placeholder_at, recent_names, Called}
 use Rattle.naming.specs.Called.Laws.{ranged-none, wrote-before, wrote-there}
 use Rattle.following.specs.Agreeing.{WordsReady, AllFollowed, WordsFollowed}
 use Rattle.following.specs.Agreeing.Following.{told-event}
-use Rattle.following.specs.Stepping.{placeholders, Agreed, Buffers, Stepped, StepFollowed, StepsFollowed}
+use Rattle.following.specs.Stepping.{placeholders, Agreed, Buffers, Stepped, StepFollowed}
 use Rattle.following.specs.Stepping.Laws.{log-at, placeholders-front, placeholders-back, at-kept, kept-stored}
 
-agreed-as : {b : List ℕ} {d f : Did} {ws : List ℕ} {at low high m k : ℕ} {log called : List ℕ} → d ≡ f
-    → Agreed b d ws at low high m k log called → Agreed b f ws at low high m k log called
+agreed-as : {b : List ℕ} {d f : Did} {ws : List ℕ} {at : ℕ} {range : Range} {m k : ℕ} {log called : List ℕ} → d ≡ f
+    → Agreed b d ws at range m k log called → Agreed b f ws at range m k log called
 agreed-as e g = rw (← e) g
 
 -- steps in which the party has no part add nothing
@@ -66,9 +66,9 @@ stepped-skip {b} {p} idle g =
     }
 
 -- ---- at the start the party holds what it knows, and nothing was compared
-agreed-none : (b ws : List ℕ) (δ : _) (low high : ℕ) (log called : List ℕ) → Agreed b (nothing δ) ws 0 low high 0 0 log called
+agreed-none : (b ws : List ℕ) (δ : _) (range : Range) (log called : List ℕ) → Agreed b (nothing δ) ws 0 range 0 0 log called
 unfolding follow program_slots mode_at handed_by triple_words
-agreed-none b ws δ low high log called =
+agreed-none b ws δ range log called =
     record {
       follows = refl;
       mode = refl;
@@ -80,22 +80,21 @@ agreed-none b ws δ low high log called =
       older = λ j h. absurd (omega arith);
     }
 
-pub stepped_start : {b : List ℕ} {p i : ℕ} {ws step table log called e : List ℕ} {low high : ℕ} → Valid b → length e ≡ 1024
-    → view b e ≡ start (map (term (table_of b)) (known b p)) → IdleUntil b p 0 i → Buffers step table log called
-    → Stepped b p i ws step table log called e (record { whole = true; at = 0; low = low; high = high; given = 0; kept = 0 })
-stepped_start {b} {p} {ws = ws} {log = log} {called} {e = e} {low} {high} v long h idle l =
+pub stepped_start : {b : List ℕ} {p : ℕ} {ws step table log called e : List ℕ} {range : Range} → Valid b → length e ≡ 1024
+    → view b e ≡ start (map (term (table_of b)) (known b p)) → Buffers step table log called
+    → Stepped b p 0 ws step table log called e (record { at = 0; range = range; given = 0; kept = 0 })
+stepped_start {b} {p} {ws = ws} {log = log} {called} {e = e} {range} v long h l =
     let none = before-none b p in
-    stepped-skip idle
-    (record {
+    record {
       valid = v;
       within = omega arith;
       count = 0;
       log-first = log;
       along = doing-as (rw (← h) (doing-none {b = b} {x = e})) none;
-      agreed = agreed-as (sym none) (agreed-none b ws _ low high log called);
+      agreed = agreed-as (sym none) (agreed-none b ws _ range log called);
       buffers = l;
       long = long;
-    })
+    }
 
 -- ---- the events of more steps begin with those of fewer
 later-events : (b : List ℕ) (p i j : ℕ) → (rest : List Event) × ((before b p (i + j)).events ≡ (before b p i).events ++ rest)
@@ -155,7 +154,7 @@ module _ {b : List ℕ} {p i : ℕ} (h : i < steps b) {ws step table log called 
         room = omega arith;
       }
 
-  module _ {l log_after step_after : List ℕ} {y : Received} {ahead more : ℕ} {t : Stop}
+  module _ {l log_after step_after : List ℕ} {y : Received} {ahead more : ℕ} {t : Option Stop}
       (w : Acting b l p i (standing i e m k 0) log log_after step step_after y ahead more t)
     where
       abbrev did : Did
@@ -243,7 +242,7 @@ module _ {b : List ℕ} {p i : ℕ} (h : i < steps b) {ws step table log called 
           ∙ placeholders-front past.stored did.stored j (omega arith)
 
       -- ---- its words can be compared
-      pub stepped-compare : WordsReady ws ours at m table log_after (k / 3) called r.low r.high
+      pub stepped-compare : WordsReady ws ours at m table log_after (k / 3) called r.range
       stepped-compare =
           let a = g.agreed in
           let n = stored-many in
@@ -278,182 +277,145 @@ module _ {b : List ℕ} {p i : ℕ} (h : i < steps b) {ws step table log called 
           ∙ ap (λ (x : Followed). follow ws (program_slots row did.events) x.at x.names) a
           ∙ ap (λ (s : List Slot). follow ws s at (handed_by ws at)) (sym slots)
 
-      module _ {table_after : List ℕ} {far : Far} (f : WordsFollowed ws ours at m table_after log_after (k / 3) called far) where
-        pub stepped-table : length table_after ≡ step_size
-        stepped-table = f.size
+      -- they don't agree
+      module _ {table_after : List ℕ} {place : ℕ} (f : WordsFollowed ws ours at m table_after log_after (k / 3) called (Err place)) where
+        broken : (follow ws (program_slots row (before b p (i + 1)).events) 0 []).whole ≡ false
+        broken = ap (λ (x : Followed). x.whole) follow-step ∙ f.whole
 
-        -- they don't agree
-        module _ (o : far.whole ≡ false) where
-          broken : (follow ws (program_slots row (before b p (i + 1)).events) 0 []).whole ≡ false
-          broken = ap (λ (x : Followed). x.whole) follow-step ∙ f.whole ∙ o
+        broken-all : follow ws (program_slots row (before b p (steps b)).events) 0 [] ≡ follow ws (program_slots row (before b p (i + 1)).events) 0 []
+        broken-all =
+            let r = later-events b p (i + 1) (steps b - (i + 1)) in
+            let n : i + 1 + (steps b - (i + 1)) ≡ steps b = omega arith in
+            ap (λ (es : List Event). follow ws (program_slots row es) 0 []) (ap (λ z. (before b p z).events) (sym n) ∙ r.1)
+            ∙ ap (λ (s : List Slot). follow ws s 0 []) (slots-append row (before b p (i + 1)).events r.0)
+            ∙ follow-append-part ws (program_slots row (before b p (i + 1)).events) (program_slots row r.0) 0 [] broken
 
-          broken-all : follow ws (program_slots row (before b p (steps b)).events) 0 [] ≡ follow ws (program_slots row (before b p (i + 1)).events) 0 []
-          broken-all =
-              let r = later-events b p (i + 1) (steps b - (i + 1)) in
-              let n : i + 1 + (steps b - (i + 1)) ≡ steps b = omega arith in
-              ap (λ (es : List Event). follow ws (program_slots row es) 0 []) (ap (λ z. (before b p z).events) (sym n) ∙ r.1)
-              ∙ ap (λ (s : List Slot). follow ws s 0 []) (slots-append row (before b p (i + 1)).events r.0)
-              ∙ follow-append-part ws (program_slots row (before b p (i + 1)).events) (program_slots row r.0) 0 [] broken
+        pub stepped-broken : StepFollowed b p i ws step_after table_after log_after called y.dictionary.entries (Err place)
+        stepped-broken = (
+          record {
+            at = ap (λ (x : Followed). x.at) (broken-all ∙ follow-step) ∙ f.at;
+            whole = ap (λ (x : Followed). x.whole) broken-all ∙ broken;
+          },
+          record {
+            step-size = stepped-step;
+            table-size = f.size;
+            log-size = log-size;
+            called-size = g.buffers.called-size;
+          },
+        )
 
-          pub stepped-broken : {x : Reached} → x.whole ≡ false → x.at ≡ far.at
-              → StepFollowed b p i ws step_after table_after log_after called y.dictionary.entries x
-          stepped-broken q e =
-              record {
-                broken = λ z. record {
-                  at = ap (λ (x : Followed). x.at) (broken-all ∙ follow-step) ∙ f.at ∙ sym e;
-                  whole = ap (λ (x : Followed). x.whole) broken-all ∙ broken;
-                };
-                all = λ z. absurd (clash z q);
-                buffers = record {
-                  step-size = stepped-step;
-                  table-size = f.size;
-                  log-size = log-size;
-                  called-size = g.buffers.called-size;
-                };
-              }
+      -- they agree
+      module _ {table_after : List ℕ} {far : Far} (f : WordsFollowed ws ours at m table_after log_after (k / 3) called (Ok far)) where
+        abbrev all : AllFollowed ws ours at m table_after log_after (k / 3) called far
+        all = f.all
 
-        -- they agree
-        module _ (o : far.whole ≡ true) where
-          abbrev all : AllFollowed ws ours at m table_after log_after (k / 3) called far
-          all = f.all o
+        abbrev names : List ℕ
+        names = handed_by ws far.at
 
-          abbrev names : List ℕ
-          names = handed_by ws far.at
+        names-are : told ws far.at (after modes.Event ours) 0 ≡ names
+        names-are = ap (λ z. told ws far.at z 0) ends ∙ told-event ws far.at 0
 
-          names-are : told ws far.at (after modes.Event ours) 0 ≡ names
-          names-are = ap (λ z. told ws far.at z 0) ends ∙ told-event ws far.at 0
+        calls : Called names m table_after log_after (k / 3) called
+        calls = rw names-are at all.calls
 
-          calls : Called names m table_after log_after (k / 3) called
-          calls = rw names-are at all.calls
+        names-many : length names ≡ m + length did.given
+        names-many =
+            let c = rw names-are at all.count in
+            let s = ap handed slots in
+            let d = ap (λ (x : Did). handed (program_slots row x.events)) same ∙ step-handed b p i row
+            ∙ ap (λ (x : Did). length x.given) (sym same) in
+            omega arith
 
-          names-many : length names ≡ m + length did.given
-          names-many =
-              let c = rw names-are at all.count in
-              let s = ap handed slots in
-              let d = ap (λ (x : Did). handed (program_slots row x.events)) same ∙ step-handed b p i row
-              ∙ ap (λ (x : Did). length x.given) (sym same) in
-              omega arith
+        pub stepped-keep : (k / 3 ≤ y.dictionary.kept / 3) × (y.dictionary.kept / 3 ≤ 1024)
+        stepped-keep =
+            let n = stored-many in
+            let a = ap (λ (s : List _). length s) all-stored ∙ length-append past.stored did.stored in
+            let e = all-kept in
+            let l = all-few in
+            (omega arith, omega arith)
 
-          pub stepped-keep : (k / 3 ≤ y.dictionary.kept / 3) × (y.dictionary.kept / 3 ≤ 1024)
-          stepped-keep =
-              let n = stored-many in
-              let a = ap (λ (s : List _). length s) all-stored ∙ length-append past.stored did.stored in
-              let e = all-kept in
-              let l = all-few in
-              (omega arith, omega arith)
+        module _ {called_after : List ℕ} {next : ℕ}
+            (keep : Wrote (recent_names log_after m table_after (k / 3) (y.dictionary.kept / 3 - k / 3)) called (k / 3) called_after next)
+          where
+            abbrev recent : ℕ → ℕ
+            recent j = get_or table_after (placeholder_at log_after j - m) 0
 
-          module _ {called_after : List ℕ} {next : ℕ}
-              (keep : Wrote (recent_names log_after m table_after (k / 3) (y.dictionary.kept / 3 - k / 3)) called (k / 3) called_after next)
-            where
-              abbrev recent : ℕ → ℕ
-              recent j = get_or table_after (placeholder_at log_after j - m) 0
+            new-bounds : (j : ℕ) → k / 3 ≤ j → j < length (before b p (i + 1)).stored
+                → (m ≤ placeholder_at log_after j) × (placeholder_at log_after j < length names)
+            new-bounds j u v =
+                let n = stored-many in
+                let q = g.agreed.given in
+                let a = ap (λ (s : List _). length s) all-stored ∙ length-append past.stored did.stored in
+                let z = j - length past.stored in
+                let e : length past.stored + z ≡ j = omega arith in
+                let x = stored_at j v ∙ ap (λ (s : List _). get_or (placeholders s) j 0) all-stored
+                ∙ ap (λ t. get_or (placeholders (past.stored ++ did.stored)) t 0) (sym e) ∙ placeholders-back past.stored did.stored z in
+                let there = x ∙ ap (λ (d : Did). get_or (placeholders d.stored) z 0) same in
+                let c = rw same at (at-kept did.stored z (omega arith)) in
+                let s = ap (λ (d : Did). length d.given) same in
+                let bounds = step-stored b p i _ c in
+                let many = names-many in
+                let (from, below) = bounds in
+                (omega arith, omega arith)
 
-              new-bounds : (j : ℕ) → k / 3 ≤ j → j < length (before b p (i + 1)).stored
-                  → (m ≤ placeholder_at log_after j) × (placeholder_at log_after j < length names)
-              new-bounds j u v =
-                  let n = stored-many in
-                  let q = g.agreed.given in
-                  let a = ap (λ (s : List _). length s) all-stored ∙ length-append past.stored did.stored in
-                  let z = j - length past.stored in
-                  let e : length past.stored + z ≡ j = omega arith in
-                  let x = stored_at j v ∙ ap (λ (s : List _). get_or (placeholders s) j 0) all-stored
-                  ∙ ap (λ t. get_or (placeholders (past.stored ++ did.stored)) t 0) (sym e) ∙ placeholders-back past.stored did.stored z in
-                  let there = x ∙ ap (λ (d : Did). get_or (placeholders d.stored) z 0) same in
-                  let c = rw same at (at-kept did.stored z (omega arith)) in
-                  let s = ap (λ (d : Did). length d.given) same in
-                  let bounds = step-stored b p i _ c in
-                  let many = names-many in
-                  let (from, below) = bounds in
-                  (omega arith, omega arith)
+            keep-sum : k / 3 + (y.dictionary.kept / 3 - k / 3) ≡ length (before b p (i + 1)).stored
+            keep-sum = let (low, high) = stepped-keep in let e = all-kept in omega arith
 
-              keep-sum : k / 3 + (y.dictionary.kept / 3 - k / 3) ≡ length (before b p (i + 1)).stored
-              keep-sum = let (low, high) = stepped-keep in let e = all-kept in omega arith
+            older : (j : ℕ) → j < length (before b p (i + 1)).stored
+                → get_or called_after j 0 ≡ get_or names (get_or (placeholders (before b p (i + 1)).stored) j 0) 0
+            older j v = go (ltb j (k / 3)) refl ∙ ap (λ x. get_or names x 0) (stored_at j v)
+              where
+                there : (j : ℕ) → k / 3 ≤ j → j < length (before b p (i + 1)).stored → get_or called_after j 0 ≡ recent j
+                there j u v =
+                    let s = keep-sum in
+                    let c = g.buffers.called-size in
+                    let few = all-few in
+                    let within = rw (← s) at v in
+                    let room = rw (← s) at few in
+                    wrote-there recent (k / 3) (y.dictionary.kept / 3 - k / 3) keep j u within (rw c room)
 
-              older : (j : ℕ) → j < length (before b p (i + 1)).stored
-                  → get_or called_after j 0 ≡ get_or names (get_or (placeholders (before b p (i + 1)).stored) j 0) 0
-              older j v = go (ltb j (k / 3)) refl ∙ ap (λ x. get_or names x 0) (stored_at j v)
-                where
-                  there : (j : ℕ) → k / 3 ≤ j → j < length (before b p (i + 1)).stored → get_or called_after j 0 ≡ recent j
-                  there j u v =
-                      let s = keep-sum in
-                      let c = g.buffers.called-size in
-                      let few = all-few in
-                      let within = rw (← s) at v in
-                      let room = rw (← s) at few in
-                      wrote-there recent (k / 3) (y.dictionary.kept / 3 - k / 3) keep j u within (rw c room)
+                go : (t : Bool) → ltb j (k / 3) ≡ t → get_or called_after j 0 ≡ get_or names (placeholder_at log_after j) 0
+                go true e =
+                    let u = ltb-true j (k / 3) e in
+                    wrote-before recent (k / 3) (y.dictionary.kept / 3 - k / 3) keep j u ∙ calls.older j u
+                go false e =
+                    let u = ltb-false j (k / 3) e in
+                    let (from, below) = new-bounds j u v in
+                    there j u v ∙ calls.recent _ from below
 
-                  go : (t : Bool) → ltb j (k / 3) ≡ t → get_or called_after j 0 ≡ get_or names (placeholder_at log_after j) 0
-                  go true e =
-                      let u = ltb-true j (k / 3) e in
-                      wrote-before recent (k / 3) (y.dictionary.kept / 3 - k / 3) keep j u ∙ calls.older j u
-                  go false e =
-                      let u = ltb-false j (k / 3) e in
-                      let (from, below) = new-bounds j u v in
-                      there j u v ∙ calls.recent _ from below
+            -- the steps so far agree
+            agreed-on : Agreed b (before b p (i + 1)) ws far.at far.range y.dictionary.next y.dictionary.kept log_after called_after
+            agreed-on =
+                let goes = w.doing.goes in
+                let all-goes = next-along.goes in
+                record {
+                  follows = followed-is _ (ap (λ (x : Followed). x.at) follow-step ∙ f.at)
+                      (ap (λ (x : Followed). x.names) follow-step ∙ all.names ∙ names-are)
+                      (ap (λ (x : Followed). x.whole) follow-step ∙ f.whole);
+                  mode = all.mode ∙ ends;
+                  names = let n = names-many in omega arith;
+                  given = omega arith;
+                  ranged = rw names-are at all.ranged;
+                  kept = all-kept;
+                  triples = all-triples;
+                  older = older;
+                }
 
-              -- the steps so far agree
-              agreed-on : Agreed b (before b p (i + 1)) ws far.at far.low far.high y.dictionary.next y.dictionary.kept log_after called_after
-              agreed-on =
-                  let goes = w.doing.goes in
-                  let all-goes = next-along.goes in
-                  record {
-                    follows = followed-is _ (ap (λ (x : Followed). x.at) follow-step ∙ f.at)
-                        (ap (λ (x : Followed). x.names) follow-step ∙ all.names ∙ names-are)
-                        (ap (λ (x : Followed). x.whole) follow-step ∙ f.whole ∙ o);
-                    mode = all.mode ∙ ends;
-                    names = let n = names-many in omega arith;
-                    given = omega arith;
-                    ranged = rw names-are at all.ranged;
-                    kept = all-kept;
-                    triples = all-triples;
-                    older = older;
-                  }
-
-              abbrev reached : Reached
-              reached =
-                  record {
-                    whole = true;
-                    at = far.at;
-                    low = far.low;
-                    high = far.high;
-                    given = y.dictionary.next;
-                    kept = y.dictionary.kept;
-                  }
-
-              buffers-on : Buffers step_after table_after log_after called_after
-              buffers-on =
-                  record {
+            pub stepped-on : StepFollowed b p i ws step_after table_after log_after called_after y.dictionary.entries
+                (Ok (record { at = far.at; range = far.range; given = y.dictionary.next; kept = y.dictionary.kept }))
+            stepped-on =
+                record {
+                  valid = g.valid;
+                  within = omega arith;
+                  count = forward g.count (length (program_words row did.events));
+                  log-first = g.log-first;
+                  along = next-along;
+                  agreed = agreed-on;
+                  buffers = record {
                     step-size = stepped-step;
                     table-size = f.size;
                     log-size = log-size;
                     called-size = wrote-length keep ∙ g.buffers.called-size;
-                  }
-
-              pub stepped-on : StepFollowed b p i ws step_after table_after log_after called_after y.dictionary.entries reached
-              stepped-on =
-                  record {
-                    broken = λ z. absurd (clash refl z);
-                    all = λ z. record {
-                      valid = g.valid;
-                      within = omega arith;
-                      count = forward g.count (length (program_words row did.events));
-                      log-first = g.log-first;
-                      along = next-along;
-                      agreed = agreed-on;
-                      buffers = buffers-on;
-                      long = w.size;
-                    };
-                    buffers = buffers-on;
-                  }
-
--- ---- not all steps, or all
-pub steps-broken : {b : List ℕ} {p i : ℕ} {ws step table log called e : List ℕ} {r : Reached}
-    → StepFollowed b p i ws step table log called e r → r.whole ≡ false → StepsFollowed b p ws log called r
-steps-broken g q = record { broken = g.broken; all = λ z. absurd (clash z q) }
-
-pub steps_all : {b : List ℕ} {p i n : ℕ} {ws step table log called e : List ℕ} {r : Reached} → n ≡ steps b → n ≤ i
-    → Stepped b p i ws step table log called e r → r.whole ≡ true → StepsFollowed b p ws log called r
-steps_all {b} {i = i} d h g q =
-    let l = g.within in
-    let last : i ≡ steps b = omega arith in
-    record { broken = λ z. absurd (clash q z); all = λ z. rw last at g.agreed }
+                  };
+                  long = w.size;
+                }

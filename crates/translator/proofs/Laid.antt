@@ -15,33 +15,29 @@ use Rattle.translation.proofs.Long.Laws.{bodies-short}
 use Rattle.translator.specs.Parts.{programs_to, bodies_of}
 use Rattle.translator.specs.Parts.Laws.{bodies-more}
 
--- those of the first q of n parties
-pub record Laid (b : List ℕ) (n q : ℕ) (old : List ℕ) (at : ℕ) (new : List ℕ) (next : ℕ) : Type 0 where
-  pub few : q ≤ n
+-- those of the first q parties
+pub record Laid (b : List ℕ) (q : ℕ) (old : List ℕ) (at : ℕ) (new : List ℕ) (next : ℕ) : Type 0 where
   pub wrote : Wrote (bodies (programs_to b q)) old at new next
 
-pub bodies-start : {b : List ℕ} {n : ℕ} {old : List ℕ} {at : ℕ} → Laid b n 0 old at old at
+pub bodies-start : {b : List ℕ} {old : List ℕ} {at : ℕ} → Laid b 0 old at old at
 unfolding values bodies
-bodies-start = record { few = omega arith; wrote = wrote_none }
+bodies-start = record { wrote = wrote_none }
 
 -- the next program is so low that it is counted
-pub bodies-low : {b : List ℕ} {n q : ℕ} {old new : List ℕ} {at next : ℕ} → Valid b → n ≡ parties b → q < n → at ≤ most_listing
-    → Laid b n q old at new next → next + most_part ≤ cap
-bodies-low {b} {q = q} v e l low h =
+pub bodies-low : {b : List ℕ} {q : ℕ} {old new : List ℕ} {at next : ℕ} → Valid b → q < parties b → at ≤ most_listing
+    → Laid b q old at new next → next + most_part ≤ cap
+bodies-low {b} {q = q} v l low h =
     let short = bodies-short b v q (omega arith) in
     let few = few-parties b v in
     let next = h.wrote.next in
     omega arith
 
 -- one party's program more
-pub bodies-on : {b : List ℕ} {n q : ℕ} {old new later : List ℕ} {at next r : ℕ} → q < n → Laid b n q old at new next
-    → Wrote (part_words b q) new next later r → Laid b n (q + 1) old at later r
-bodies-on {b} {q = q} l h w = record { few = omega arith; wrote = wrote_as (wrote_then h.wrote w) (bodies-more b q) }
+pub bodies-on : {b : List ℕ} {q : ℕ} {old new later : List ℕ} {at next r : ℕ} → Laid b q old at new next
+    → Wrote (part_words b q) new next later r → Laid b (q + 1) old at later r
+bodies-on {b} {q = q} h w = record { wrote = wrote_as (wrote_then h.wrote w) (bodies-more b q) }
 
 -- the loop ends behind the last party
-pub bodies-end : {b : List ℕ} {n q : ℕ} {old new : List ℕ} {at next : ℕ} → n ≡ parties b → n ≤ q → Laid b n q old at new next
+pub bodies-end : {b : List ℕ} {q : ℕ} {old new : List ℕ} {at next : ℕ} → q ≡ parties b → Laid b q old at new next
     → Wrote (bodies_of b) old at new next
-bodies-end {b} {q = q} e l h =
-    let f = h.few in
-    let z : q ≡ parties b = omega arith in
-    rw z at h.wrote
+bodies-end z h = rw z at h.wrote

@@ -1,6 +1,6 @@
 -- What is known of any words before an output is written: refusals 1 to 10 and 13 and, where there is none, all that the parties'
 -- walks leave.
-use Rattle.std.specs.Prelude.{ℕ, List, [], ◌∷◌, ◌≡◌, ltb, eqb, length}
+use Rattle.std.specs.Prelude.{ℕ, List, [], ◌∷◌, ◌≡◌, ltb, eqb, length, Option, None}
 use Rattle.words.specs.Choice.{pick}
 use Rattle.words.specs.Overlay.{Wrote}
 use Rattle.book.specs.Layout.{parties}
@@ -22,11 +22,11 @@ pub record Lists (x y z : List ℕ) : Type 0 where
   pub ends : length z ≡ 16
 
 -- the heads were written into `old` from `at` on, which left `new` and the next place `next`; x, y and z have the places of the programs'
--- events; the last program ends at `end`; and the first of the walks to stop does so at t
-pub record WroteHeads (b old : List ℕ) (at : ℕ) (new : List ℕ) (next : ℕ) (x y z : List ℕ) (end : ℕ) (t : Stop) : Type 0 where
-  pub wrote : t.number ≡ 0 → Wrote (heads_of b) old at new next
-  pub ends : t.number ≡ 0 → end ≡ length (listing b)
-  pub placed : t.number ≡ 0 → Placed b x y z
+-- events; the last program ends at `end`; and the first of the walks to stop, if one does, does so at t
+pub record WroteHeads (b old : List ℕ) (at : ℕ) (new : List ℕ) (next : ℕ) (x y z : List ℕ) (end : ℕ) (t : Option Stop) : Type 0 where
+  pub wrote : t ≡ None → Wrote (heads_of b) old at new next
+  pub ends : t ≡ None → end ≡ length (listing b)
+  pub placed : t ≡ None → Placed b x y z
   pub stops : StopsAmong b (parties b) t
 
 -- of the words b, whichever they are

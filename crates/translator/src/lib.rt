@@ -2,7 +2,7 @@
 // leaves: the tables, the listing's heads and length, and where the programs' events stand. `translate` answers, for any words and any
 // lent words, the first refusal of 1 to 10, 13 and 12 that applies, or leaves the listing; no other lent word changes. `fit` is what a
 // translation answers for so much room; `accept` answers refusals 1 to 10 and 13, with no buffer.
-#![tactic(auto)]
+#![tactic(auto, using(book::specs::Headed::Laws::headed_rules))]
 
 ghost use Rattle.std.specs.Prelude.{◌≡◌, ◌≤◌};
 ghost use Rattle.words.specs.Overlay.{Wrote};
@@ -12,32 +12,31 @@ ghost use Rattle.translation.specs.Listing.{listing};
 ghost use Rattle.translation.specs.Long.{most_listing};
 ghost use Rattle.translation.specs.Outcome.{acceptance, outcome, answer_says, came};
 ghost use Rattle.book.specs.Stop.{stop_says};
-ghost use Rattle.translator.specs.Among.{Refusable};
 ghost use Rattle.translator.specs.Parts.{HeadsIn, bodies_of};
 ghost use Rattle.translator.specs.Ready.{Ready, Writable};
 ghost use Rattle.translator.specs.Surveyed.{Lists, WroteHeads, Surveyed, fitted};
 
-use book::{ByRow, Reading, Refusal, Stop, parties, steps};
+use book::{Against, ByRow, Refusal, Stop, parties, steps};
 use claims::claims;
 use holding::partners;
 use reader::read;
 use translation::Answer;
 use walking::{measure, write_program};
-use words::{narrow, put, put_all, put2, wide};
+use words::{narrow, put, put_all, put_each, wide};
 
-// Behind the heads: where the next word goes, where the last program ends, and where the first of the parties' walks stops.
+// Behind the heads: where the next word goes, where the last program ends, and where the first of the parties' walks stops, if one does.
 #[derive(Drop)]
 struct Heads {
     at: usize,
     end: usize,
-    stop: Stop,
+    stop: Option<Stop>,
 }
 
 // What is known of any words before anything is written: refusals 1 to 10 and 13 or, where there is none, the tables of claims and of partners,
 // the heads, where the last program ends, and the places of each step's SEND and RECEIVE and of each party's END.
 #[derive(Drop)]
 pub struct Findings {
-    pub reading: Reading,
+    pub reading: Result<(), Refusal>,
     pub since: ByRow,
     pub partners: ByRow,
     pub heads: [u32; 32],
@@ -63,26 +62,17 @@ fn write_heads(
     ensures { WroteHeads book.now out.old at out.new result.at sends.new receives.new ends.new result.end result.stop × Lists sends.new receives.new ends.new }
 {
     let n = parties(book);
+    let all = steps(book);
     let mut next = at;
     let mut end = 1 + 2 * wide(n);
-    let all = steps(book);
-    let mut stop = Stop {
-        number: 0,
-        step: all,
-        row: 0,
-    };
-    let mut party = 0;
-    while party < n {
-        let upto = stop.step;
+    let mut stop: Option<Stop> = None;
+    for party in 0..n {
+        let upto = stop.map_or(all, |stop| stop.step);
         let part = measure(book, since, partners, party, upto, sends, receives);
         put(ends, wide(party), part.events);
-        next = put2(out, next, narrow(end), narrow(part.words));
+        next = put_each(out, next, [narrow(end), narrow(part.words)]);
         end += part.words;
-        let sooner = part.stop;
-        if sooner.number != 0 {
-            stop = sooner;
-        }
-        party += 1;
+        stop = part.stop.or(stop);
     }
     Heads {
         at: next,
@@ -96,12 +86,9 @@ fn write_bodies(book: &[u32], since: &ByRow, partners: &ByRow, out: &mut [u32], 
     requires { Writable book.now since.now partners.now × (at ≤ most_listing) }
     ensures { Wrote (bodies_of book.now) out.old at out.new result }
 {
-    let n = parties(book);
     let mut next = at;
-    let mut party = 0;
-    while party < n {
+    for party in 0..parties(book) {
         next = write_program(book, since, partners, party, out, next);
-        party += 1;
     }
     next
 }
@@ -119,22 +106,21 @@ fn write_listing(
 {
     let n = parties(book);
     let first = put(out, 0, n);
-    let next = put_all(out, first, heads, 2 * wide(n));
+    let next = put_all(out, first, &heads[..2 * wide(n)]);
     write_bodies(book, since, partners, out, next)
 }
 
 // What the walks say of the book by where they stop.
-fn reading_of(stop: Stop) -> Reading
-    requires { Refusable stop }
+fn reading_of(stop: Option<Stop>) -> Result<(), Refusal>
     ensures { reading_says result ≡ stop_says stop }
 {
-    if stop.number == Stop::TAKEN {
-        return Reading::Refused(Refusal::Taken(stop.step, stop.row));
+    let Some(Stop { against, step, row }) = stop else {
+        return Ok(());
+    };
+    match against {
+        Against::Taken => Err(Refusal::Taken(step, row)),
+        Against::Maker => Err(Refusal::Maker(step, row)),
     }
-    if stop.number == Stop::MAKER {
-        return Reading::Refused(Refusal::Maker(stop.step, stop.row));
-    }
-    Reading::Accepted
 }
 
 // Refusal 10 or 13 or, where there is none, all that is known before anything is written.
@@ -158,15 +144,13 @@ fn survey_valid(book: &[u32]) -> Findings
         &mut receives,
         &mut ends,
     );
-    let end = all.end;
-    let stop = all.stop;
-    let reading = reading_of(stop);
+    let reading = reading_of(all.stop);
     Findings {
         reading,
         since,
         partners,
         heads,
-        end,
+        end: all.end,
         sends,
         receives,
         ends,
@@ -178,8 +162,8 @@ pub fn survey(book: &[u32]) -> Findings
     ensures { Surveyed book.now result }
 {
     match read(book) {
-        Reading::Refused(why) => Findings {
-            reading: Reading::Refused(why),
+        Err(why) => Findings {
+            reading: Err(why),
             since: [0u32; 1024],
             partners: [0u32; 1024],
             heads: [0u32; 32],
@@ -188,23 +172,19 @@ pub fn survey(book: &[u32]) -> Findings
             receives: [0u32; 64],
             ends: [0u32; 16],
         },
-        Reading::Accepted => survey_valid(book),
+        Ok(()) => survey_valid(book),
     }
 }
 
 // What a translation answers where there is room for so many words: the book's refusal, refusal 12, or the output's length.
-pub fn fit(reading: Reading, end: usize, room: usize) -> Answer
+pub fn fit(reading: Result<(), Refusal>, end: usize, room: usize) -> Answer
     ensures { answer_says result ≡ fitted (reading_says reading) end room }
 {
-    match reading {
-        Reading::Refused(why) => Answer::Refused(why),
-        Reading::Accepted => {
-            if room < end {
-                return Answer::Refused(Refusal::Room(end));
-            }
-            Answer::Written(end)
-        }
+    reading?;
+    if room < end {
+        return Err(Refusal::Room(end));
     }
+    Ok(end)
 }
 
 // The output of any words into any lent buffer, or the first refusal that applies.
@@ -212,24 +192,14 @@ pub fn translate(book: &[u32], out: &mut [u32]) -> Answer
     ensures { came result out.new ≡ outcome book.now out.old }
 {
     let all = survey(book);
-    let reading = all.reading;
-    let answer = fit(reading, all.end, out.len());
-    match answer {
-        Answer::Refused(why) => Answer::Refused(why),
-        Answer::Written(n) => {
-            let since = all.since;
-            let partners = all.partners;
-            let heads = all.heads;
-            write_listing(book, &since, &partners, &heads, out);
-            Answer::Written(n)
-        }
-    }
+    let n = fit(all.reading, all.end, out.len())?;
+    write_listing(book, &all.since, &all.partners, &all.heads, out);
+    Ok(n)
 }
 
 // Refusals 1 to 10 and 13 of any words, with no buffer.
-pub fn accept(book: &[u32]) -> Reading
+pub fn accept(book: &[u32]) -> Result<(), Refusal>
     ensures { reading_says result ≡ acceptance book.now }
 {
-    let all = survey(book);
-    all.reading
+    survey(book).reading
 }

@@ -3,15 +3,11 @@
 use Prim.Native.Nat.{◌<◌}
 use native.Mathlib.Omega.{arith}
 use Rattle.book.specs.Layout.{parties}
-use Rattle.book.specs.Headed.Laws.{valid-headed}
 use Rattle.translator.proofs.Laid.{bodies-start, bodies-low, bodies-on, bodies-end}
 use Rattle.translator.proofs.write_bodies.Goals as goal
 
-pub parties-n-requires : goal.parties-n-requires
-parties-n-requires c = search valid-headed
-
 pub loop-party-init : goal.loop-party-init
-loop-party-init c = search bodies-start
+loop-party-init c = bodies-start
 
 -- no step is refused for anybody, so none for this party
 pub write_program-next-requires : goal.write_program-next-requires
@@ -23,14 +19,13 @@ write_program-next-requires c = let (writable, low) = c.requires in
         partners = writable.partners;
         party = l;
         within = omega arith;
-        low = bodies-low writable.valid c.parties-n.ensures c.loop-party-test.true low
-            c.loop-party.invariant;
+        low = bodies-low writable.valid l low c.loop-party.invariant;
       },
       writable.nobody _ l,
     )
 
 pub loop-party-preserved : goal.loop-party-preserved
-loop-party-preserved c = search bodies-on
+loop-party-preserved c = bodies-on c.loop-party.invariant c.write_program-next.ensures
 
 pub returns : goal.returns
-returns c = search bodies-end
+returns c = bodies-end (omega arith) c.loop-party.invariant

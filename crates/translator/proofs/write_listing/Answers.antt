@@ -1,16 +1,14 @@
 -- `translator::write_listing` meets its contract: the number of parties, the heads and the programs, one after
 -- another (`listing-wrote`). Assumes nothing.
+use Prim.Native.Nat.{ℕ}
 use native.Mathlib.Omega.{arith}
-use Rattle.book.specs.Headed.Laws.{valid-headed}
+use Rattle.std.proofs.lemmas.List.{length-take}
 use Rattle.translator.specs.Parts.Laws.{heads-there}
 use Rattle.translator.proofs.Listing.{front_low, listing-wrote}
 use Rattle.translator.proofs.write_listing.Goals as goal
 
-pub parties-n-requires : goal.parties-n-requires
-parties-n-requires c = search valid-headed
-
-pub put_all-next-requires : goal.put_all-next-requires
-put_all-next-requires c = omega (arith, heads-there)
+pub slice_bounds-put_all-end : goal.slice_bounds-put_all-end
+slice_bounds-put_all-end c = omega (arith, heads-there, length-take {A = ℕ})
 
 -- in front of the programs there are few words
 pub write_bodies-requires : goal.write_bodies-requires

@@ -1,22 +1,20 @@
 -- Laws of where the first of the parties' walks stops: over all parties it is the place of refusals 10 and 13. Assumes nothing.
-use Rattle.std.specs.Prelude.{ℕ, ◌+◌, ◌≤◌, ◌<◌, Bool, List, ◌≡◌}
+use Rattle.std.specs.Prelude.{ℕ, ◌+◌, ◌≤◌, ◌<◌, Bool, List, ◌≡◌, Option, None}
+use Rattle.std.proofs.lemmas.Option.{none-some}
 use Rattle.std.proofs.Math.Bool.{true, false}
-use Rattle.std.proofs.Common.{inl, inr, ◌∙◌, arith, below_more, eq-eqb}
+use Rattle.std.proofs.Common.{◌∙◌, arith, below_more, eq-eqb}
 use Rattle.std.proofs.Math.Path.{refl, sym}
 use Rattle.std.proofs.Math.Dec.{eqb}
 use Rattle.words.specs.Choice.Laws.{pick_true, pick-false}
 use Rattle.words.specs.First.Laws.{clash}
 use Rattle.book.specs.Layout.{parties, steps, sender}
 use Rattle.book.specs.Valid.{Valid}
-use Rattle.book.specs.Stop.{nowhere}
 use Rattle.book.specs.declared.Stop.{Stop}
 use Rattle.translation.specs.Narration.{narration}
 use Rattle.translation.specs.Taken.{unplayable}
 use Rattle.walking.specs.Walk.{refused_for, Unrefused}
-use Rattle.translation.specs.Taken.Laws.{stop-cases}
-use Rattle.walking.specs.Stops.{StopsBefore}
-use Rattle.walking.specs.Stops.Laws.{stops-some}
-use Rattle.translator.specs.Among.{NobodyRefused, StopsAmong, FirstUnplayable, Refusable}
+use Rattle.walking.specs.Stops.{stop_of, StopsBefore}
+use Rattle.translator.specs.Among.{NobodyRefused, StopsAmong, reach, FirstUnplayable}
 
 -- ---- one party more
 -- what holds of the first q parties and of party q
@@ -24,46 +22,36 @@ each_more : (b : List ℕ) (q n : ℕ) → ((p : ℕ) → p < q → Unrefused b 
 each_more b q n = below_more (λ p. Unrefused b p n) q
 
 module _ {b : List ℕ} where
-  pub among_none : StopsAmong b 0 (nowhere (steps b))
+  pub among_none : StopsAmong b 0 None
   among_none = StopsAmong.none (λ p l. absurd (omega arith))
 
   -- where no walk stops, nothing is refused
-  pub among-nobody : {q : ℕ} {x : Stop} → StopsAmong b q x → x.number ≡ 0 → NobodyRefused b q
+  pub among-nobody : {q : ℕ} {x : Option Stop} → StopsAmong b q x → x ≡ None → NobodyRefused b q
   among-nobody (StopsAmong.none n) z = n
-  among-nobody (StopsAmong.one {s = s} l m r n) z = absurd (stops-some b s z)
+  among-nobody (StopsAmong.one {s = s} l m r n) z = absurd (none-some (stop_of b s) (sym z))
 
-  -- and the number of steps is named
-  pub among-all : {q : ℕ} {x : Stop} → StopsAmong b q x → x.number ≡ 0 → x.step ≡ steps b
-  among-all (StopsAmong.none n) z = refl
-  among-all (StopsAmong.one {s = s} l m r n) z = absurd (stops-some b s z)
-
-  -- the step is one of the book's, or their number
-  pub among-within : {q : ℕ} {x : Stop} → StopsAmong b q x → x.step ≤ steps b
+  -- the steps that are still asked about are the book's
+  pub among-within : {q : ℕ} {x : Option Stop} → StopsAmong b q x → reach (steps b) x ≤ steps b
   among-within (StopsAmong.none n) = omega arith
   among-within (StopsAmong.one l m r n) = omega arith
 
-  -- it is acceptance or a refusal
-  pub among-refusable : {q : ℕ} {x : Stop} → StopsAmong b q x → Refusable x
-  among-refusable (StopsAmong.none n) = inl refl
-  among-refusable (StopsAmong.one {s = s} l m r n) = inr (stop-cases (narration b) s)
-
   -- in any case nothing is refused before
-  before-it : {q : ℕ} {x : Stop} → StopsAmong b q x → (p : ℕ) → p < q → Unrefused b p x.step
+  before-it : {q : ℕ} {x : Option Stop} → StopsAmong b q x → (p : ℕ) → p < q → Unrefused b p (reach (steps b) x)
   before-it (StopsAmong.none n) = n
   before-it (StopsAmong.one l m r n) = n
 
   -- the stop stays where party q has none before it
-  stays : {q : ℕ} {x : Stop} → StopsAmong b q x → Unrefused b q x.step → StopsAmong b (q + 1) x
+  stays : {q : ℕ} {x : Option Stop} → StopsAmong b q x → Unrefused b q (reach (steps b) x) → StopsAmong b (q + 1) x
   stays {q} (StopsAmong.none n) i = StopsAmong.none (each_more b q (steps b) n i)
   stays {q} (StopsAmong.one {s = s} {p = p} l m r n) i = StopsAmong.one {s = s} {p = p} (omega arith) m r (each_more b q s n i)
 
   -- party q was asked of the steps before it, and does not stop
-  pub among-stays : {q : ℕ} {x y : Stop} → StopsAmong b q x → StopsBefore b q x.step y → y.number ≡ 0 → StopsAmong b (q + 1) x
+  pub among-stays : {q : ℕ} {x y : Option Stop} → StopsAmong b q x → StopsBefore b q (reach (steps b) x) y → y ≡ None → StopsAmong b (q + 1) x
   among-stays f (StopsBefore.none n) z = stays f n
-  among-stays f (StopsBefore.one {s = s} l r n) z = absurd (stops-some b s z)
+  among-stays f (StopsBefore.one {s = s} l r n) z = absurd (none-some (stop_of b s) (sym z))
 
   -- and party q's takes its place, for it comes sooner
-  pub among-sooner : {q : ℕ} {x y : Stop} → StopsAmong b q x → StopsBefore b q x.step y → (y.number ≡ 0 → ⊥) → StopsAmong b (q + 1) y
+  pub among-sooner : {q : ℕ} {x y : Option Stop} → StopsAmong b q x → StopsBefore b q (reach (steps b) x) y → (y ≡ None → ⊥) → StopsAmong b (q + 1) y
   among-sooner f (StopsBefore.none n) z = absurd (z refl)
   among-sooner {q} f (StopsBefore.one {s = u} l r n) z =
       let w = among-within f in

@@ -1,24 +1,20 @@
 -- Laws of what a survey found: what a translation says follows from it. Assumes nothing.
-use Rattle.std.specs.Prelude.{ℕ, ◌≤◌, ◌<◌, List, [], ◌∷◌, ◌≡◌, refl, length}
+use Rattle.std.specs.Prelude.{ℕ, ◌≤◌, ◌<◌, List, [], ◌∷◌, ◌≡◌, refl, length, Ok, Err}
 use Rattle.std.proofs.Math.Decide.{ℕ_discrete, dec_lt}
 use Rattle.std.proofs.Common.{arith, ap, ◌∙◌, lt-ltb, le-ltb, eq-eqb, ne_eqb}
 use Rattle.std.proofs.Math.Path.{sym}
 use Rattle.words.specs.Choice.Laws.{pick_true, pick-false}
-use Rattle.book.specs.declared.Reading.{Reading}
-use Rattle.book.specs.declared.Reading.TheVariants as reading
 use Rattle.book.specs.declared.Refusal.{Refusal}
-use Rattle.book.specs.Said.{Said, said, accepted, refusal_says, reading_says}
+use Rattle.book.specs.Said.{Said, said, accepted, refusal_says, Reading, reading_says}
 use Rattle.book.specs.Said.Laws.{refusal-number}
 use Rattle.translation.specs.Outcome.{translation_says, answer_says, Plays}
 use Rattle.translation.specs.Outcome.Laws.{book-first, accepted-plays, exactly-12, written-says}
-use Rattle.translation.specs.declared.Answer.{Answer}
-use Rattle.translation.specs.declared.Answer.TheVariants.{Written}
 use Rattle.translator.specs.Surveyed.{Surveyed, fitted}
 use Rattle.translator.specs.declared.Findings.{Findings}
 
 accepted-reading : (x : Reading) → (reading_says x).number ≡ 0 → reading_says x ≡ accepted
-accepted-reading reading.Accepted z = refl
-accepted-reading (reading.Refused f) z = absurd (refusal-number f z)
+accepted-reading (Ok u) z = refl
+accepted-reading (Err f) z = absurd (refusal-number f z)
 
 -- a book that is accepted plays
 pub surveyed-plays : {b : List ℕ} {r : Findings} → Surveyed b r → (reading_says r.reading).number ≡ 0 → Plays b
@@ -42,25 +38,25 @@ fitted-says {b} {r} s out {n} d = go (ℕ_discrete (reading_says r.reading).numb
         ∙ ap (λ i. said 0 (i ∷ [])) m ∙ sym (written-says b out (surveyed-plays s z) (omega arith))
 
 -- an output is written only of a book that is accepted
-pub written-accepted : {b : List ℕ} {r : Findings} → Surveyed b r → (room : ℕ) {n i : ℕ} {a : Answer} → n ≡ room
-    → answer_says a ≡ fitted (reading_says r.reading) r.end n → a ≡ Written i → (reading_says r.reading).number ≡ 0
+pub written-accepted : {b : List ℕ} {r : Findings} → Surveyed b r → (room : ℕ) {n i : ℕ} → n ≡ room
+    → answer_says (Ok i) ≡ fitted (reading_says r.reading) r.end n → (reading_says r.reading).number ≡ 0
 unfolding fitted
-written-accepted {r = r} s room d e k = go (ℕ_discrete (reading_says r.reading).number 0)
+written-accepted {r = r} s room d e = go (ℕ_discrete (reading_says r.reading).number 0)
   where
     go : Dec ((reading_says r.reading).number ≡ 0) → (reading_says r.reading).number ≡ 0
     go (yes z) = z
-    go (no z) = ap (λ (y : Said). y.number) (sym (pick-false _ _ _ (ne_eqb _ 0 z)) ∙ sym e ∙ ap answer_says k)
+    go (no z) = ap (λ (y : Said). y.number) (sym (pick-false _ _ _ (ne_eqb _ 0 z)) ∙ sym e)
 
 -- ---- fitted, case by case
-module _ {x : Reading} (end room : ℕ) where
-  pub fitted-refused : {f : Refusal} → x ≡ reading.Refused f → refusal_says f ≡ fitted (reading_says x) end room
+module _ (end room : ℕ) where
+  pub fitted-refused : (f : Refusal) → refusal_says f ≡ fitted (refusal_says f) end room
   unfolding fitted
-  fitted-refused {f} e = sym (ap (λ y. fitted (reading_says y) end room) e ∙ pick-false _ _ _ (ne_eqb _ 0 (refusal-number f)))
+  fitted-refused f = sym (pick-false _ _ _ (ne_eqb _ 0 (refusal-number f)))
 
-  pub fitted_short : x ≡ reading.Accepted → room < end → said 12 (end ∷ []) ≡ fitted (reading_says x) end room
+  pub fitted_short : room < end → said 12 (end ∷ []) ≡ fitted accepted end room
   unfolding fitted
-  fitted_short e h = sym (ap (λ y. fitted (reading_says y) end room) e ∙ pick_true _ _ _ (eq-eqb 0 0 refl) ∙ pick_true _ _ _ (lt-ltb room end h))
+  fitted_short h = sym (pick_true _ _ _ (eq-eqb 0 0 refl) ∙ pick_true _ _ _ (lt-ltb room end h))
 
-  pub fitted-length : x ≡ reading.Accepted → end ≤ room → said 0 (end ∷ []) ≡ fitted (reading_says x) end room
+  pub fitted-length : end ≤ room → said 0 (end ∷ []) ≡ fitted accepted end room
   unfolding fitted
-  fitted-length e h = sym (ap (λ y. fitted (reading_says y) end room) e ∙ pick_true _ _ _ (eq-eqb 0 0 refl) ∙ pick-false _ _ _ (le-ltb room end h))
+  fitted-length h = sym (pick_true _ _ _ (eq-eqb 0 0 refl) ∙ pick-false _ _ _ (le-ltb room end h))

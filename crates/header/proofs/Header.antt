@@ -3,11 +3,11 @@ use Prim.Native.Nat.{ℕ, ◌+◌, ◌*◌, ◌≤◌, ◌<◌}
 use mathlib.Core.Bool.{Bool, true, false}
 use mathlib.Core.List.{List}
 use mathlib.Core.Path.{◌≡◌, refl, sym, ap, ◌∙◌}
+use Rattle.std.specs.Prelude.{Some, None}
 use lib.ListN.{length}
 use native.Mathlib.Omega.{arith}
 use borrow.Author.Tests.{lt-ltb, le-ltb}
 use Rattle.words.specs.Choice.Laws.{pick_true, pick-false}
-use Rattle.words.specs.First.{first}
 use Rattle.words.specs.First.Laws.{first-at, first-end}
 use Rattle.book.specs.declared.Section.{Section}
 use Rattle.book.specs.Sections.{OfSection}
@@ -16,7 +16,7 @@ use Rattle.book.specs.Rules.{outside, count_breaks, stated, offset_breaks}
 use Rattle.book.specs.Rules.Laws.{differs-same, differs_true}
 use Rattle.book.specs.Headed.Laws.{offset-more, offset-most}
 use Rattle.header.specs.Counted.{Counted}
-use Rattle.header.specs.Scans.{Passed}
+use Rattle.header.specs.Scans.{Passed, Found}
 use Rattle.header.specs.Scans.Laws.{passed_none, passed-more}
 
 -- ---- count_breaks: v is what `outside` says of the count of section i, which stands at w
@@ -47,19 +47,20 @@ module _ (b : List ℕ) (i : ℕ) where
 pub record Placed (b : List ℕ) (i next : ℕ) : Type 0 where
   pub passed : Passed (offset_breaks b) i
   pub placed : next ≡ offset b i
-  pub within : i ≤ sections
 
 pub placed-none : {b : List ℕ} → Placed b 0 header
 unfolding offset
-placed-none {b} = record { passed = passed_none _; placed = refl; within = omega arith }
+placed-none {b} = record { passed = passed_none _; placed = refl }
 
 module _ {b : List ℕ} {i next : ℕ} (p : Placed b i next) where
   -- the section's offset stands at u
   module _ (l : i < sections) (u : ℕ) (du : u ≡ 2 * i + 1) where
-    pub begins-wrong : (at b u ≡ next → ⊥) → i ≡ first (offset_breaks b) (sections + 1)
-    begins-wrong n =
-        first-at _ _ i (omega arith) p.passed
-        (offset-wrong b i (λ e. n (ap (at b) du ∙ sym (stated-begins b i l) ∙ e ∙ sym p.placed)))
+    pub begins-wrong : (at b u ≡ next → ⊥) → Found (offset_breaks b) (sections + 1) (Some i)
+    begins-wrong n = (
+      first-at _ _ i (omega arith) p.passed
+          (offset-wrong b i (λ e. n (ap (at b) du ∙ sym (stated-begins b i l) ∙ e ∙ sym p.placed))),
+      omega arith,
+    )
 
     -- its records lie from there on: their number stands at w, and the next section begins behind them
     module _ (s : Section) (o : OfSection i s) (w : ℕ) (dw : w ≡ 2 * i) where
@@ -71,22 +72,24 @@ module _ {b : List ℕ} {i next : ℕ} (p : Placed b i next) where
           record {
             passed = passed-more _ i p.passed (offset-right b i (stated-begins b i l ∙ sym (ap (at b) du) ∙ e ∙ p.placed));
             placed = behind;
-            within = omega arith;
           }
 
       pub next-most : Counted b → next + s.width * at b w ≤ longest
       next-most few = let most = offset-most b few (i + 1) (omega arith) in let e = behind in omega arith
 
   -- behind the last section the book ends: m is what code compared its length with
-  module _ (l : sections ≤ i) (m : ℕ) (dm : m ≡ next) where
-    pub length-wrong : (length b ≡ m → ⊥) → i ≡ first (offset_breaks b) (sections + 1)
-    length-wrong n =
-        let w = p.within in
-        first-at _ _ i (omega arith) p.passed
-        (offset-wrong b i (λ e. n (sym (stated-length b i l) ∙ e ∙ sym p.placed ∙ sym dm)))
+  module _ (l : sections ≤ i) (h : i ≤ sections) (m : ℕ) (dm : m ≡ next) where
+    last : i ≡ sections
+    last = omega arith
 
-    pub length-right : length b ≡ m → i + 1 ≡ first (offset_breaks b) (sections + 1)
+    pub length-wrong : (length b ≡ m → ⊥) → Found (offset_breaks b) (sections + 1) (Some sections)
+    length-wrong n = (
+      first-at _ _ sections (omega arith) (rw last at p.passed)
+          (rw last at (offset-wrong b i (λ e. n (sym (stated-length b i l) ∙ e ∙ sym p.placed ∙ sym dm)))),
+      omega arith,
+    )
+
+    pub length-right : length b ≡ m → Found (offset_breaks b) (sections + 1) None
     length-right e =
-        let w = p.within in
-        first-end _ _ (i + 1) (omega arith)
-        (passed-more _ i p.passed (offset-right b i (stated-length b i l ∙ e ∙ dm ∙ p.placed)))
+        let more = passed-more _ i p.passed (offset-right b i (stated-length b i l ∙ e ∙ dm ∙ p.placed)) in
+        first-end _ _ (sections + 1) refl (rw last at more)

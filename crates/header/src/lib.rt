@@ -3,10 +3,10 @@
 #![tactic(auto)]
 
 ghost use Rattle.std.specs.Prelude.{◌≡◌, ◌+◌, ◌≤◌, length};
-ghost use Rattle.words.specs.First.{first};
 ghost use Rattle.book.specs.Layout.{header, sections};
 ghost use Rattle.book.specs.Rules.{outside as outside_of, count_breaks, offset_breaks};
 ghost use Rattle.header.specs.Counted.{Counted};
+ghost use Rattle.header.specs.Scans.{Found};
 
 use book::{Layout, Section};
 use words::wide;
@@ -15,46 +15,39 @@ use words::wide;
 fn outside(lo: u32, hi: u32, x: u32) -> bool
     ensures { result ≡ outside_of lo hi x }
 {
-    if x < lo {
-        return true;
-    }
-    hi < x
+    !(lo..=hi).contains(&x)
 }
 
-// Refusal 2: the first section whose count is outside its bounds, or their number.
-pub fn counts(book: &[u32]) -> u32
+// Refusal 2: the first section whose count is outside its bounds.
+pub fn counts(book: &[u32]) -> Option<u32>
     requires { header ≤ length book.now }
-    ensures { result ≡ first (count_breaks book.now) sections }
+    ensures { Found (count_breaks book.now) sections result }
 {
-    let mut i = 0;
-    while i < Layout::SECTIONS {
+    for i in 0..Layout::SECTIONS {
         let section = Section::of(i);
         if outside(section.least, section.most, book[wide(2 * i)]) {
-            return i;
+            return Some(i);
         }
-        i += 1;
     }
-    i
+    None
 }
 
-// Refusal 3: the first section that does not begin where it has to, their number if only the length is wrong, or one more. `next` is
-// where section i has to begin.
-pub fn offsets(book: &[u32]) -> u32
+// Refusal 3: the first section that does not begin where it has to, or the number of sections if only the length is wrong. `next` is where
+// section i has to begin.
+pub fn offsets(book: &[u32]) -> Option<u32>
     requires { (header ≤ length book.now) × Counted book.now }
-    ensures { result ≡ first (offset_breaks book.now) (sections + 1) }
+    ensures { Found (offset_breaks book.now) (sections + 1) result }
 {
     let mut next = Layout::HEADER;
-    let mut i = 0;
-    while i < Layout::SECTIONS {
+    for i in 0..Layout::SECTIONS {
         if book[wide(2 * i + 1)] != next {
-            return i;
+            return Some(i);
         }
         let section = Section::of(i);
         next += section.width * book[wide(2 * i)];
-        i += 1;
     }
     if book.len() != wide(next) {
-        return i;
+        return Some(Layout::SECTIONS);
     }
-    i + 1
+    None
 }

@@ -1,9 +1,9 @@
 -- `header::counts` meets its contract: no section that the loop has passed has a count outside its bounds.
 -- Assumes nothing.
-use mathlib.Core.Path.{◌≡◌, refl}
+use Rattle.std.proofs.Common.{◌≡◌, sym, ◌∙◌}
 use Rattle.book.specs.Rules.{count_breaks}
 use Rattle.header.proofs.Header.{count_at}
-use Rattle.header.specs.Scans.Laws.{scan_begins, scan-goes, stops_at, ends_at}
+use Rattle.header.specs.Scans.Laws.{passed-more, found_at, found_none}
 use Rattle.header.proofs.counts.Goals as goal
 use Rattle.header.proofs.counts.Goals.{After-outside}
 
@@ -13,14 +13,11 @@ module _ (c : After-outside) where
   breaks =
       count_at c.args.book.now _ _ _ _ c.of-section.ensures c.wide.ensures.0 c.outside.ensures
 
-pub loop-i-init : goal.loop-i-init
-loop-i-init c = scan_begins _ _
-
 pub returns-then-outside : goal.returns-then-outside
-returns-then-outside c = stops_at _ _ _ _ refl c.loop-i-test.true c.loop-i.invariant _ (breaks (goal.at.returns-then-outside c).After-outside) c.if-outside.true
+returns-then-outside c = found_at _ _ _ c.loop-i.invariant c.loop-i-test.true _ (breaks (goal.at.returns-then-outside c).After-outside) c.if-outside.true
 
 pub loop-i-preserved : goal.loop-i-preserved
-loop-i-preserved c = scan-goes _ _ _ c.loop-i.invariant c.loop-i-test.true _ (breaks (goal.at.loop-i-preserved c).After-outside) c.if-outside.false
+loop-i-preserved c = passed-more _ _ c.loop-i.invariant (sym (breaks (goal.at.loop-i-preserved c).After-outside) ∙ c.if-outside.false)
 
 pub returns : goal.returns
-returns c = search (ends_at, refl)
+returns c = found_none _ _ _ c.loop-i.invariant c.loop-i.auto.i-end c.loop-i-test.false

@@ -1,18 +1,8 @@
 -- `header::offsets` meets its contract: the sections that the loop has passed begin where they have to, and the next has
 -- to begin at `next`; no sum wraps, as no book with such counts is longer than the longest. Assumes nothing.
-use Prim.Native.Nat.{◌+◌, ◌*◌, ◌≤◌}
-use native.Mathlib.Omega.{arith}
-use Rattle.book.specs.Layout.{longest, at}
+use Rattle.std.proofs.Common.{arith}
 use Rattle.header.proofs.Header.{placed-none, begins-wrong, begins-right, next-most, length-wrong, length-right}
 use Rattle.header.proofs.offsets.Goals as goal
-use Rattle.header.proofs.offsets.Goals.{After-wide-in-loop-i}
-
--- where the section ends, as its line and its count say it
-module _ (c : After-wide-in-loop-i) where
-  fits : c.loop-i.next + c.of-section.result.width * at c.args.book.now c.wide-in-loop-i.result ≤ longest
-  fits =
-      next-most c.loop-i.invariant c.loop-i-test.true _ c.wide.ensures.0 _ c.of-section.ensures
-      _ c.wide-in-loop-i.ensures.0 c.requires.1
 
 pub loop-i-init : goal.loop-i-init
 loop-i-init c = placed-none
@@ -20,15 +10,14 @@ loop-i-init c = placed-none
 pub returns-then-book-wide : goal.returns-then-book-wide
 returns-then-book-wide c = begins-wrong c.loop-i.invariant c.loop-i-test.true _ c.wide.ensures.0 c.if-book-wide.true
 
-pub overflow_mul-next : goal.overflow_mul-next
-overflow_mul-next c = omega (arith, fits (goal.at.overflow_mul-next c).After-wide-in-loop-i)
-
-pub overflow_add-next : goal.overflow_add-next
-overflow_add-next c = omega (arith, fits (goal.at.overflow_add-next c).After-wide-in-loop-i)
-
 pub loop-i-preserved : goal.loop-i-preserved
 loop-i-preserved c = begins-right c.loop-i.invariant c.loop-i-test.true _ c.wide.ensures.0
     _ c.of-section.ensures _ c.wide-in-loop-i.ensures.0 c.if-book-wide.false
+
+-- where the section ends, as its line and its count say it
+pub overflow_add-next : goal.overflow_add-next
+overflow_add-next c = let fits = next-most c.loop-i.invariant c.loop-i-test.true _ c.wide.ensures.0 _ c.of-section.ensures
+    _ c.wide-in-loop-i.ensures.0 c.requires.1 in omega arith
 
 pub returns-then-book-wide-2 : goal.returns-then-book-wide-2
 returns-then-book-wide-2 c = search length-wrong

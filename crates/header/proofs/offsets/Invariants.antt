@@ -1,12 +1,7 @@
 -- `header::offsets` meets its contract: the sections that the loop has passed begin where they have to, and the next has
 -- to begin at `next`; no sum wraps, as no book with such counts is longer than the longest. Assumes nothing.
-use Prim.Native.Nat.{◌-◌}
-use Rattle.book.specs.Layout.{sections}
 use Rattle.header.proofs.Header.{Placed}
 use Rattle.header.proofs.offsets.Given as goal
 
 abbrev pub invariant-loop-i : goal.invariant-loop-i
 invariant-loop-i l = Placed l.book l.i l.next
-
-abbrev pub decreases-loop-i : goal.decreases-loop-i
-decreases-loop-i l = sections - l.i

@@ -1,9 +1,9 @@
--- `header::outside` meets its contract: the two tests, one after the other. Assumes nothing.
-use Rattle.header.specs.Tests.{outside_below, outside_above}
+-- `header::outside` meets its contract: what lies in the range is neither below nor above it. Assumes nothing.
+use Rattle.std.proofs.Common.{arith}
+use Rattle.std.proofs.lemmas.Grind.{common_steps}
+use Rattle.book.specs.Rules.{outside}
 use Rattle.header.proofs.outside.Goals as goal
 
-pub returns-then-x-lo : goal.returns-then-x-lo
-returns-then-x-lo c = search outside_below
-
 pub returns : goal.returns
-returns c = search outside_above
+unfolding outside
+returns c = rw (c.contains.ensures.value, c.new.ensures.start, c.new.ensures.end, c.new.ensures.exhausted) (grind (arith, common_steps))

@@ -1,9 +1,9 @@
 -- What a loop over numbered places knows of the first of them that breaks a rule, or of whether one does. Assumes nothing.
-use Rattle.std.specs.Prelude.{ℕ, ◌+◌, ◌≤◌, ◌<◌, Bool, true, false, ◌≡◌}
+use Rattle.std.specs.Prelude.{ℕ, ◌+◌, ◌≤◌, ◌<◌, Bool, true, false, Some, None, ◌≡◌}
 use Rattle.std.proofs.Common.{sym, ◌∙◌, arith, below_none, below_more}
-use Rattle.words.specs.First.{first, any}
+use Rattle.words.specs.First.{any}
 use Rattle.words.specs.First.Laws.{any_at, any_none, first-at, first-end}
-use Rattle.header.specs.Scans.{Passed, Scanning}
+use Rattle.header.specs.Scans.{Passed, Found}
 
 module _ (t : ℕ → Bool) where
   -- ---- Passed
@@ -13,23 +13,16 @@ module _ (t : ℕ → Bool) where
   pub passed-more : (k : ℕ) → Passed t k → t k ≡ false → Passed t (k + 1)
   passed-more = below_more (λ j. t j ≡ false)
 
-  -- ---- Scanning: the first turn, and the next; v is what a call says of place k
-  pub scan_begins : (n : ℕ) → Scanning t n 0
-  scan_begins n = record { passed = passed_none; within = omega arith }
+  -- ---- Found: the loop over n places stops at place k, of which a call said v, or ends behind the last
+  pub found_at : (n k : ℕ) → Passed t k → k < n → (v : Bool) → v ≡ t k → v ≡ true → Found t n (Some k)
+  found_at n k s l v d h = (first-at t n k l s (sym d ∙ h), l)
 
-  pub scan-goes : (n k : ℕ) → Scanning t n k → k < n → (v : Bool) → v ≡ t k → v ≡ false → Scanning t n (k + 1)
-  scan-goes n k s l v d h = record { passed = passed-more k s.passed (sym d ∙ h); within = omega arith }
-
-  -- ---- the first place that breaks the rule: the loop stops at place k, or ends; m is the number of places as code has it
-  pub stops_at : (n k m : ℕ) → m ≡ n → k < m → Scanning t m k → (v : Bool) → v ≡ t k → v ≡ true → k ≡ first t n
-  stops_at n k m e l s v d h = first-at t n k (omega arith) s.passed (sym d ∙ h)
-
-  pub ends_at : (n k m : ℕ) → m ≡ n → m ≤ k → Scanning t m k → k ≡ first t n
-  ends_at n k m e l s = let w = s.within in first-end t n k (omega arith) s.passed
+  pub found_none : (n k : ℕ) → Passed t k → k ≤ n → n ≤ k → Found t n None
+  found_none n k s l m = let z = first-end t n k (omega arith) s in omega arith
 
   -- ---- whether a place breaks the rule
   pub some-breaks : (n k : ℕ) → k < n → t k ≡ true → true ≡ any t n
   some-breaks n k l e = sym (any_at t n k l e)
 
-  pub none-breaks : (n k : ℕ) → n ≤ k → Scanning t n k → false ≡ any t n
-  none-breaks n k l s = sym (any_none t n (λ j m. s.passed j (omega arith)))
+  pub none-breaks : (n k : ℕ) → Passed t k → n ≤ k → false ≡ any t n
+  none-breaks n k s l = sym (any_none t n (λ j m. s j (omega arith)))

@@ -1,2 +1,2 @@
-pub mod Parties
-pub mod Steps
+pub mod PartyTests
+pub mod StepTests

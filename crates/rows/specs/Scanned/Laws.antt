@@ -1,30 +1,37 @@
 -- A walk over the rows, the parties or the steps, whose lists lie in the pool one after another. Assumes nothing.
-use Rattle.std.specs.Prelude.{ℕ, ◌+◌, ◌≤◌, ◌<◌, Bool, true, false, List, ◌≡◌}
-use Rattle.std.proofs.Common.{arith}
-use Rattle.book.specs.Layout.{pool}
-use Rattle.book.specs.Rules.{ListRule}
-use Rattle.header.specs.Scans.Laws.{scan_begins, scan-goes, stops_at, ends_at}
+use Rattle.std.specs.Prelude.{ℕ, ◌+◌, ◌≤◌, ◌<◌, Bool, true, false, List, Ok, Err, ◌≡◌}
+use Rattle.std.proofs.Common.{sym, ◌∙◌, arith}
+use Rattle.words.specs.Sum.Laws.{sum_more}
+use Rattle.book.specs.Layout.{pool, row_count, rows_before}
+use Rattle.book.specs.Rules.{ListRule, row_breaks}
+use Rattle.book.specs.Rules.Laws.{row-exact}
+use Rattle.header.specs.Scans.Laws.{passed_none, passed-more, found_at, found_none}
 use Rattle.rows.specs.Scanned.{Summed, Scanned}
 
-module _ (b : List ℕ) (breaks : ℕ → Bool) (before : ℕ → ℕ) where
-  pub summed-begins : (n s : ℕ) → s ≡ before 0 → s ≤ pool b → Summed b breaks before n 0 s
-  summed-begins n s e i = record { scanning = scan_begins breaks n; summed = e; inside = i }
+module _ {b : List ℕ} {breaks : ℕ → Bool} {before : ℕ → ℕ} where
+  pub summed-begins : (s : ℕ) → s ≡ before 0 → s ≤ pool b → Summed b breaks before 0 s
+  summed-begins s e i = record { passed = passed_none breaks; summed = e; inside = i }
 
-  -- it stops at place k, of which a call said v, or behind the last place; n is the number m of places
-  pub summed-stops : (m n k s : ℕ) → Summed b breaks before n k s → n ≡ m → k < n → (v : Bool) → v ≡ breaks k → v ≡ true
-      → Scanned b breaks before m k s
-  summed-stops m n k s w e l v d h =
-      record { stopped = stops_at breaks m k n e l w.scanning v d h; summed = w.summed; inside = w.inside }
+  -- it stops at place k, of which a call said v, or behind the last of n places
+  pub summed-stops : (n k s : ℕ) → Summed b breaks before k s → k < n → (v : Bool) → v ≡ breaks k → v ≡ true
+      → Scanned b breaks before n (Err k)
+  summed-stops n k s w l v d h = let e = w.summed in let i = w.inside in (found_at breaks n k w.passed l v d h, omega arith)
 
-  pub summed-ends : (m n k s : ℕ) → Summed b breaks before n k s → n ≡ m → n ≤ k → Scanned b breaks before m k s
-  summed-ends m n k s w e l =
-      record { stopped = ends_at breaks m k n e l w.scanning; summed = w.summed; inside = w.inside }
+  pub summed-ends : (n k s : ℕ) → Summed b breaks before k s → k ≤ n → n ≤ k → Scanned b breaks before n (Ok s)
+  summed-ends n k s w l m =
+      let e : k ≡ n = omega arith in
+      (found_none breaks n k w.passed l m, rw e at w.summed, w.inside)
 
-  -- a place that keeps its rule is passed: its list, of x entries, lies behind the lists before it and in the pool
-  pub summed-goes : (n k s c : ℕ) (v : Bool) (lo hi x f bound : ℕ) → Summed b breaks before n k s → k < n → v ≡ breaks k → v ≡ false
-      → ListRule b lo hi x f (before k) bound → c ≡ x → before (k + 1) ≡ before k + x → Summed b breaks before n (k + 1) (s + c)
-  summed-goes n k s c v lo hi x f bound w l d h r e z =
-      let p = r.placed in
-      let i = r.inside in
+  -- a place that keeps its rule is passed: its list of c entries lies in the pool
+  pub summed-goes : (k s c : ℕ) → Summed b breaks before k s → (v : Bool) → v ≡ breaks k → v ≡ false
+      → before k + c ≡ before (k + 1) → before (k + 1) ≤ pool b → Summed b breaks before (k + 1) (s + c)
+  summed-goes k s c w v d h e i =
       let y = w.summed in
-      record { scanning = scan-goes breaks n k w.scanning l v d h; summed = omega arith; inside = omega arith }
+      record { passed = passed-more breaks k w.passed (sym d ∙ h); summed = omega arith; inside = omega arith }
+
+-- a list of n entries that keeps its rule lies in the pool, behind those before it
+pub list-inside : {b : List ℕ} {lo hi n f before bound : ℕ} → ListRule b lo hi n f before bound → before + n ≤ pool b
+list-inside r = let p = r.placed in let i = r.inside in omega arith
+
+pub rows-inside : (b : List ℕ) (k : ℕ) → row_breaks b k ≡ false → rows_before b (k + 1) ≤ pool b
+rows-inside b k e = let i = list-inside ((row-exact b k).0 e).listed in let z = sum_more (row_count b) k in omega arith

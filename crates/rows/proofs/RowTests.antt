@@ -1,20 +1,16 @@
--- Refusal 4: a row that breaks its rule, and the walk over the rows. Assumes nothing.
-use Prim.Native.Nat.{ℕ, ◌+◌, ◌≤◌, ◌<◌}
+-- Refusal 4: a row that breaks its rule. Assumes nothing.
+use Prim.Native.Nat.{ℕ, ◌≤◌, ◌<◌}
 use mathlib.Core.Bool.{Bool, true, false}
 use mathlib.Core.List.{List}
-use mathlib.Core.Path.{◌≡◌, sym, ap, ◌∙◌}
+use mathlib.Core.Path.{◌≡◌, ap, ◌∙◌}
 use lib.Dec.{ltb}
 use native.Mathlib.Omega.{arith}
 use borrow.Author.Tests.{lt-ltb, le-ltb}
-use Rattle.words.specs.Sum.Laws.{sum-none, sum_more}
 use Rattle.terms.specs.Kind.{of_kind, last_kind}
 use Rattle.book.specs.Layout.{kind, tag, row_first, row_count, rows_before}
 use Rattle.book.specs.declared.Kind.{Kind}
 use Rattle.book.specs.Kinds.{OfKind}
 use Rattle.book.specs.Rules.{list_breaks, row_breaks}
-use Rattle.book.specs.Rules.Laws.{row-exact}
-use Rattle.rows.specs.Scanned.{Summed}
-use Rattle.rows.specs.Scanned.Laws.{summed-begins, summed-goes}
 use Rattle.header.specs.Tests.{one-here, one_on, one_last}
 
 -- ---- row_breaks, test after test: no such kind, a tag too large, the list of parts
@@ -42,13 +38,3 @@ module _ (b : List ℕ) (r k : ℕ) (d : k ≡ kind b r) where
         let e = tags in
         let tagged = le-ltb (of_kind (kind b r)).tag (tag b r) (omega arith) in
         one_on _ _ _ kinded (one_on _ _ _ tagged (one_last v _ (z ∙ rw (o.fewest, o.most, en, ef, eb, d))))
-
--- ---- the walk over the rows: where it begins, and how it goes on, v being what a call said of row k and c its count
-module _ (b : List ℕ) where
-  pub rows-begin : (n : ℕ) → Summed b (row_breaks b) (rows_before b) n 0 0
-  rows-begin n = summed-begins b _ _ n 0 (sym (sum-none (row_count b))) (omega arith)
-
-  pub row-passed : (n k s c : ℕ) (v : Bool) → Summed b (row_breaks b) (rows_before b) n k s → k < n
-      → v ≡ row_breaks b k → v ≡ false → c ≡ row_count b k → Summed b (row_breaks b) (rows_before b) n (k + 1) (s + c)
-  row-passed n k s c v w l d h e =
-      summed-goes b _ _ n k s c v _ _ _ _ _ w l d h ((row-exact b k).0 (sym d ∙ h)).listed e (sum_more (row_count b) k)

@@ -1,4 +1,4 @@
--- Refusal 7: a party that breaks its rule, and the walk over the parties. Assumes nothing.
+-- Refusal 7: a party that breaks its rule. Assumes nothing.
 use Prim.Native.Nat.{ℕ, ◌+◌, ◌-◌, ◌≤◌, ◌<◌}
 use mathlib.Core.Bool.{Bool, true, false}
 use mathlib.Core.List.{List}
@@ -7,12 +7,9 @@ use lib.Dec.{ltb, leb, eqb}
 use native.Mathlib.Omega.{arith}
 use borrow.Author.Tests.{le-ltb, lt-ltb, le-leb, lt-leb}
 use Rattle.words.specs.First.{any}
-use Rattle.words.specs.Sum.Laws.{sum-none, sum_more}
-use Rattle.book.specs.Layout.{rows, pool, kind, name, party_first, party_count, mark, pooled, rows_before, parties_before}
+use Rattle.book.specs.Layout.{rows, pool, kind, name, party_first, party_count, mark, pooled, parties_before}
 use Rattle.book.specs.Rules.{list_breaks, name_breaks, party_breaks}
-use Rattle.book.specs.Rules.Laws.{differs-same, differs_true, list-exact, party-exact}
-use Rattle.rows.specs.Scanned.{Summed}
-use Rattle.rows.specs.Scanned.Laws.{summed-begins, summed-goes}
+use Rattle.book.specs.Rules.Laws.{differs-same, differs_true, list-exact}
 use Rattle.header.specs.Tests.{one-here, one_on, one_last}
 
 -- ---- name_breaks, test after test: the name is no row, no atom, an earlier party's
@@ -69,14 +66,3 @@ module _ (b : List ℕ) (p : ℕ) (v : Bool) (dv : v ≡ name_breaks b p) where
 pub list_inside : (b : List ℕ) (lo hi n f before bound : ℕ) (v : Bool) → v ≡ list_breaks b lo hi n f before bound → v ≡ false
     → f + n ≤ pool b
 list_inside b lo hi n f before bound v d h = ((list-exact b lo hi n f before bound).0 (sym d ∙ h)).inside
-
--- ---- the walk over the parties: where it begins, and how it goes on, v being what a call said of party k and c its count
-module _ (b : List ℕ) where
-  pub parties-begin : (n s : ℕ) → s ≡ rows_before b (rows b) → s ≤ pool b → Summed b (party_breaks b) (parties_before b) n 0 s
-  parties-begin n s e i = let z = sum-none (party_count b) in summed-begins b _ _ n s (omega arith) i
-
-  pub party-passed : (n k s c : ℕ) (v : Bool) → Summed b (party_breaks b) (parties_before b) n k s → k < n
-      → v ≡ party_breaks b k → v ≡ false → c ≡ party_count b k → Summed b (party_breaks b) (parties_before b) n (k + 1) (s + c)
-  party-passed n k s c v w l d h e =
-      let z = sum_more (party_count b) k in
-      summed-goes b _ _ n k s c v _ _ _ _ _ w l d h ((party-exact b k).0 (sym d ∙ h)).listed e (omega arith)

@@ -1,18 +1,17 @@
 -- Refusal 6: rows that agree in kind, tag and parts, and a row that repeats an earlier one. Assumes nothing.
-use Rattle.std.proofs.Common.{◌≡◌, ℕ, ◌+◌, ◌%◌, ◌<◌, ◌≤◌, Bool, true, false, not, eqb, ltb, List, length, get_or, sym, ap, ◌∙◌, true≢false, arith, ext_get_or, below_none, below_more, eq-eqb, ne_eqb}
+use Rattle.std.proofs.Common.{◌≡◌, ℕ, ◌+◌, ◌%◌, ◌<◌, ◌≤◌, Bool, true, false, not, ltb, is_some, Some, None, Option, lt-ltb, le-ltb, List, length, get_or, sym, ap, ◌∙◌, true≢false, arith, ext_get_or, below_none, below_more, eq-eqb, ne_eqb}
 use native.Mathlib.Decide.{dec_lt}
 use borrow.Author.Tests.{not-true, not-false}
 use Rattle.words.specs.Choice.Laws.{pick_true, pick-false}
 use Rattle.words.specs.First.{first, any}
 use Rattle.words.specs.Run.Laws.{run_length, run-get_d}
 use Rattle.book.specs.Layout.{begins, rows, kind, tag, row_first, row_count, pooled, parts}
-use Rattle.book.specs.Rules.{differs, Alike, alike, repeats}
-use Rattle.book.specs.Rules.Laws.{none_of, of_none, differs-same, differs_true, differs_false, alike-exact, not_alike}
-use Rattle.header.specs.Tests.{one-here, one_on, one_last}
+use Rattle.book.specs.Rules.{Alike, alike, repeats}
+use Rattle.book.specs.Rules.Laws.{none_of, of_none, differs-same, differs_false, alike-exact, not_alike}
 use Rattle.twins.specs.Heads.{heads_differ}
 use Rattle.twins.specs.Keys.{key_of, chains, chain_of, NextIn, ChainedFrom}
 use Rattle.twins.specs.Keys.Laws.{next-within, next-passed, next-chained}
-use Rattle.header.specs.Scans.{Scanning}
+use Rattle.header.specs.Scans.{Scanning, Found}
 use Rattle.header.specs.Scans.Laws.{passed-more}
 
 -- ---- the parts of a row, as numbers: how many there are, and which
@@ -38,25 +37,6 @@ module _ (b : List ℕ) (r k : ℕ) where
       let p = parts-length b k in
       let q = parts-length b r in
       ext_get_or 0 _ _ (omega arith) (λ j l. parts_at b k j (omega arith) ∙ h j (omega arith) ∙ sym (parts_at b r j (omega arith)))
-
-  -- ---- heads_differ, test after test: c', t' and n' were read of row k, and c, t and n of row r
-  module _ (c' c : ℕ) (dc' : c' ≡ kind b k) (dc : c ≡ kind b r) where
-    pub kind-differs : (c' ≡ c → ⊥) → true ≡ heads_differ b r k
-    unfolding heads_differ
-    kind-differs n = one-here _ _ (differs_true _ _ (λ z. n (dc' ∙ z ∙ sym dc)))
-
-    module _ (h : c' ≡ c) (t' t : ℕ) (dt' : t' ≡ tag b k) (dt : t ≡ tag b r) where
-      kinds : differs (kind b k) (kind b r) ≡ false
-      kinds = differs-same _ _ (sym dc' ∙ h ∙ dc)
-
-      pub tag-differs : (t' ≡ t → ⊥) → true ≡ heads_differ b r k
-      unfolding heads_differ
-      tag-differs n = one_on _ _ _ kinds (one-here _ _ (differs_true _ _ (λ z. n (dt' ∙ z ∙ sym dt))))
-
-      pub count-differs : t' ≡ t → (n' n : ℕ) → n' ≡ row_count b k → n ≡ row_count b r → not (eqb n' n) ≡ heads_differ b r k
-      unfolding heads_differ differs
-      count-differs g n' n dn' dn =
-          one_on _ _ _ kinds (one_on _ _ _ (differs-same _ _ (sym dt' ∙ g ∙ dt)) (one_last _ _ (rw (dn', dn))))
 
   -- ---- rows whose heads differ are not alike; v is what a call said
   module _ (v : Bool) (d : v ≡ heads_differ b r k) where
@@ -199,6 +179,10 @@ module _ (b : List ℕ) (r k : ℕ) (d : k ≡ kind b r) where
   unfolding repeats
   repeats-atom e = sym (pick_true _ _ _ (eq-eqb (kind b r) 0 (omega arith)))
 
-  pub repeats-twin : (k ≡ 0 → ⊥) → (t : ℕ) → t ≡ first (alike b r) r → ltb t r ≡ repeats b r
+  pub repeats-twin : (k ≡ 0 → ⊥) → (t : Option ℕ) → Found (alike b r) r t → is_some t ≡ repeats b r
   unfolding repeats any
-  repeats-twin n t e = ap (λ x. ltb x r) e ∙ sym (pick-false _ _ _ (ne_eqb (kind b r) 0 (λ z. n (d ∙ z))))
+  repeats-twin n t e = some t e ∙ sym (pick-false _ _ _ (ne_eqb (kind b r) 0 (λ z. n (d ∙ z))))
+    where
+      some : (t : Option ℕ) → Found (alike b r) r t → is_some t ≡ ltb (first (alike b r) r) r
+      some None e = sym (le-ltb _ _ (omega arith))
+      some (Some k) e = sym (lt-ltb _ _ (omega arith))

@@ -5,6 +5,3 @@ use Rattle.twins.proofs.chain.Given as goal
 
 abbrev pub invariant-loop-row : goal.invariant-loop-row
 invariant-loop-row l = ChainedFrom l.book l.row l.keys l.heads l.nexts
-
-abbrev pub decreases-loop-row : goal.decreases-loop-row
-decreases-loop-row l = l.row

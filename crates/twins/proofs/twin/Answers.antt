@@ -2,7 +2,7 @@
 -- the row that is returned is alike in all of them. Assumes nothing.
 use Rattle.std.proofs.Common.{not}
 use Rattle.std.proofs.Common.{◌%◌, refl, ap, ◌∙◌, arith, rules}
-use Rattle.words.specs.First.Laws.{first-at, first-end}
+use Rattle.header.specs.Scans.Laws.{found_at, found_none}
 use Rattle.twins.specs.Keys.{chains}
 use Rattle.twins.specs.Keys.Laws.{key-differs}
 use Rattle.rows.specs.Parts.Laws.{parts-of}
@@ -49,13 +49,13 @@ rows-smaller c = let (headed, keep, chained, inside) = c.requires in
 
 -- no row before the row itself agrees
 pub returns-then-k-row : goal.returns-then-k-row
-returns-then-k-row c = first-end _ _ _ refl (λ m h. c.rows.invariant.1.scan.passed m (omega arith))
+returns-then-k-row c = let hunt = c.rows.invariant.1 in found_none _ _ _ hunt.scan.passed hunt.scan.within (omega arith)
 
 -- the other row is alike in every part
 pub returns-then-j-n : goal.returns-then-j-n
 returns-then-j-n c = let hunt = c.rows.invariant.1 in
     let within = hunt.scan.within in
-    first-at _ _ _ (omega (arith, within, c.if-k-row.false)) hunt.scan.passed
+    found_at _ _ _ hunt.scan.passed (omega (arith, within, c.if-k-row.false)) _ refl
     (same_alike _ _ _ _ _ _ _ c.parts.invariant c.if-j-n.true)
 
 -- what was read of the row, and the first row of its own chain
@@ -81,7 +81,10 @@ rows-preserved c = let (headed, keep, chained, inside) = c.requires in
           (elim c.if-keys-wide.branch [
             | goal.then-keys-wide+then-not-heads_differ+else-j-n+then-pooled w ↦
                 part-differs _ _ _ _ _ _ _ w.parts.invariant w.if-j-n.false _ _ w.pooled.ensures w.pooled-in-parts.ensures w.if-pooled.true
-            | goal.then-keys-wide+else-not-heads_differ w ↦ heads-differ _ _ _ _ w.heads_differ.ensures (ap not w.if-not-heads_differ.false)
-            | goal.else-keys-wide w ↦ key-differs _ _ _ _ _ own.key key w.if-keys-wide.false
+            | goal.else-keys-wide w ↦
+                elim w.else-keys-wide.branch [
+                  | goal.else-keys-wide-via-then-keys-wide+else-not-heads_differ v ↦ heads-differ _ _ _ _ v.heads_differ.ensures (ap not v.if-not-heads_differ.false)
+                  | goal.else-keys-wide-via-else-keys-wide v ↦ key-differs _ _ _ _ _ own.key key v.if-keys-wide.false
+                ]
           ]) c.wide-in-rows-2.ensures.0,
     )

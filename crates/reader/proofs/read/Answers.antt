@@ -1,22 +1,21 @@
 -- `reader::read` meets its contract: the lines 1 to 3 of the table, and then the rest. Assumes nothing.
-use borrow.Author.Rules.{rules}
 use Rattle.reader.proofs.Verdict.{says-short, says-count, counts-kept, says-offset, header-kept, says-body}
 use Rattle.reader.proofs.read.Goals as goal
 
 pub returns-then-book : goal.returns-then-book
-returns-then-book c = search says-short
+returns-then-book c = says-short _ c.if-book.true
 
-pub returns-then-count-lt-SECTIONS : goal.returns-then-count-lt-SECTIONS
-returns-then-count-lt-SECTIONS c = search says-count
+pub returns-in-Some : goal.returns-in-Some
+returns-in-Some c = says-count _ c.if-book.false _ c.in-Some.ensures
 
-pub offsets-offset-requires : goal.offsets-offset-requires
-offsets-offset-requires c = search (counts-kept, rules)
+pub offsets-requires : goal.offsets-requires
+offsets-requires c = (c.if-book.false, counts-kept _ c.if-book.false c.in_default.ensures)
 
-pub returns-then-offset-le-SECTIONS : goal.returns-then-offset-le-SECTIONS
-returns-then-offset-le-SECTIONS c = search says-offset
+pub returns-in-Some-offsets : goal.returns-in-Some-offsets
+returns-in-Some-offsets c = says-offset _ c.if-book.false c.in_default.ensures _ c.in-Some-offsets.ensures _ c.min.ensures
 
 pub read_rows-requires : goal.read_rows-requires
-read_rows-requires c = search header-kept
+read_rows-requires c = header-kept _ c.if-book.false c.in_default.ensures c.in_default-offsets.ensures
 
 pub returns : goal.returns
-returns c = search says-body
+returns c = says-body _ c.if-book.false c.in_default.ensures c.in_default-offsets.ensures _ c.read_rows.ensures

@@ -1,31 +1,36 @@
 -- `reader::read_rows` meets its contract: the lines 4 to 6 of the table, and then the rest. Assumes nothing.
-use borrow.Author.Rules.{rules}
-use Rattle.reader.proofs.Verdict.{says_row, says-size, says-repeat, says-rest, rows-kept, rows-counted}
+use Rattle.std.proofs.Common.{◌≡◌, ℕ, Ok, Err, rules}
+use Rattle.book.specs.declared.Refusal.TheVariants.{Row}
+use Rattle.book.specs.Layout.{rows, rows_before}
+use Rattle.book.specs.Rules.{row_breaks}
+use Rattle.rows.specs.Scanned.{Scanned}
+use Rattle.reader.proofs.Verdict.{says_row, says-size, says-repeat, says-rest, rows-kept}
 use Rattle.reader.proofs.read_rows.Goals as goal
+use Rattle.reader.proofs.read_rows.Goals.{In_ok-parts}
 
-pub returns-then-row-rows : goal.returns-then-row-rows
-returns-then-row-rows c = search says_row
+-- where `?` goes on, the scan found nothing
+parts : (c : In_ok-parts)
+    → Scanned c.args.book.now (row_breaks c.args.book.now) (rows_before c.args.book.now) (rows c.args.book.now) (Ok c.in_ok-parts.parts)
+parts c = let scanned : c.scan_rows.result ≡ Ok c.in_ok-parts.parts = search rules in rw scanned at c.scan_rows.ensures
 
-pub returns-then-large-rows : goal.returns-then-large-rows
-returns-then-large-rows c = search says-size
+-- where it returns, the refusal is that of the place found
+pub returns-in_err-parts : goal.returns-in_err-parts
+returns-in_err-parts c = let (row, scanned, refused) : (k : ℕ) × (c.scan_rows.result ≡ Err k) × (c.from_residual.result ≡ Err (Row k)) = search rules in
+    let (found, inside) = rw scanned at c.scan_rows.ensures in
+    rw refused (says_row _ row found)
 
-pub returns-then-again-rows : goal.returns-then-again-rows
-returns-then-again-rows c = search says-repeat
+-- the rows keep their rules
+pub oversize-requires : goal.oversize-requires
+oversize-requires c = (c.requires, rows-kept _ (parts (goal.at.oversize-requires c).In_ok-parts).0)
 
--- behind the first test the rows keep their rules: the scan found none that breaks its own
-pub oversize-large-requires : goal.oversize-large-requires
-oversize-large-requires c = (search rules, rows-kept _ _ _ c.scan_rows-row.ensures.stopped c.rows.ensures c.if-row-rows.false)
+pub returns-in-Some : goal.returns-in-Some
+returns-in-Some c = says-size _ (parts (goal.at.returns-in-Some c).In_ok-parts).0 _ c.in-Some.ensures
 
-pub repeated-again-requires : goal.repeated-again-requires
-repeated-again-requires c = (search rules, rows-kept _ _ _ c.scan_rows-row.ensures.stopped c.rows.ensures c.if-row-rows.false)
+pub repeated-requires : goal.repeated-requires
+repeated-requires c = (c.requires, rows-kept _ (parts (goal.at.repeated-requires c).In_ok-parts).0)
 
--- and the scan's sum is that of all rows' counts
-pub read_parties-requires : goal.read_parties-requires
-read_parties-requires c = let scanned = c.scan_rows-row.ensures in (
-  search rules,
-  rows-counted _ _ _ scanned.stopped c.rows.ensures c.if-row-rows.false _ scanned.summed,
-  scanned.inside,
-)
+pub returns-in-Some-repeated : goal.returns-in-Some-repeated
+returns-in-Some-repeated c = says-repeat _ (parts (goal.at.returns-in-Some-repeated c).In_ok-parts).0 c.in_default.ensures _ c.in-Some-repeated.ensures
 
 pub returns : goal.returns
-returns c = search says-rest
+returns c = says-rest _ (parts (goal.at.returns c).In_ok-parts).0 c.in_default.ensures c.in_default-repeated.ensures _ c.read_parties.ensures

@@ -1,18 +1,19 @@
 // Whether two things that words spell are the same: terms and effects by their words, effects as multisets by counting, types and
 // environments up to the order of effects; and the names of terms and effects, and the entries of environments. `count_where` and
-// `every_effect` ask a test of each of several effects.
+// `every_effect` ask a test of each of several effects, and `same_type_where` one of the effects of two nonces.
 #![tactic(auto)]
 
-ghost use Rattle.std.specs.Prelude.{◌≡◌, ℕ, Bool, ◌+◌, ◌≤◌, ◌<◌, length, drop, get_or};
+ghost use Rattle.std.specs.Prelude.{◌≡◌, ℕ, Bool, List, ◌+◌, ◌≤◌, ◌<◌, length, drop, get_or};
 ghost use Rattle.std.proofs.Math.Option.{some};
 ghost use Rattle.words.specs.Run.{run, same_words};
 ghost use Rattle.std.specs.List.{list_all, count_by};
 ghost use Rattle.typing.specs.Term.{Effect, same_term, closed, occurs, mentions};
 ghost use Rattle.typing.specs.Bag.{bag, count};
-ghost use Rattle.typing.specs.Types.{same_type, same_effects, same_environment, same_entry, ◌⦂◌};
+ghost use Rattle.typing.specs.Types.{Ty, same_type, same_effects, same_environment, same_entry, ◌⦂◌};
 ghost use Rattle.typing.specs.Check.{stands};
 ghost use Rattle.typing.specs.Reading.{term, effect_of, effects, type_at, environment_at};
 ghost use Rattle.spans.specs.Behind.{At, rest_of, type_own};
+ghost use Rattle.alike.specs.Same.Types.{Makes};
 ghost use Rattle.alike.specs.Same.Each.{AskedOfEach, Tells};
 ghost use Rattle.alike.specs.Same.{term_in, effect_in, effects_in, type_in, environment_in, test, own_effects, any_leaf, TellsLeaf};
 
@@ -73,28 +74,21 @@ pub fn same_bag(
         })
 }
 
-// The types that begin at i and at j, with the same word, have the same effects of their own.
-fn same_own(u: &[u32], i: usize, own: usize, v: &[u32], j: usize, other: usize) -> bool
-    requires { (i < length u.now) × (j < length v.now) × At u.now (i + 1) (type_own (drop i u.now)) own × At v.now (j + 1) (type_own (drop j v.now)) other × (get_or u.now i 0 ≡ get_or v.now j 0) }
-    ensures { result ≡ test (same_effects (own_effects (drop i u.now)) (own_effects (drop j v.now))) }
-{
-    u[i] != 5
-        || same_bag(
-            u,
-            i + 2,
-            wide(u[i + 1]),
-            own,
-            v,
-            j + 2,
-            wide(v[j + 1]),
-            other,
-        )
-}
-
-// The types from a to e and from b to f are the same. `due` types are still to come.
-pub fn same_type(u: &[u32], a: usize, e: usize, v: &[u32], b: usize, f: usize) -> bool
-    requires { At u.now a (rest_of (type_at (drop a u.now))) e × At v.now b (rest_of (type_at (drop b v.now))) f }
-    ensures { result ≡ test (same_type (type_in u.now a) (type_in v.now b)) }
+// The type from a to e is what a change makes of the type from b to f, where a test says whether the effects of a nonce are what it makes
+// of another's: it is asked of the k effects from one place to an end, and of the l effects from another to theirs. `due` types are still
+// to come.
+pub fn same_type_where<F: Fn(usize, usize, usize, usize, usize, usize) -> bool>(
+    u: &[u32],
+    a: usize,
+    e: usize,
+    v: &[u32],
+    b: usize,
+    f: usize,
+    holds: F,
+) -> bool
+    requires reads { At u.now a (rest_of (type_at (drop a u.now))) e × At v.now b (rest_of (type_at (drop b v.now))) f }
+    requires asked { (a k end b l last : ℕ) → rest_of (effects k (drop a u.now)) ≡ some (drop end u.now) → rest_of (effects l (drop b v.now)) ≡ some (drop last v.now) → F.pre holds a k end b l last }
+    ensures { (ch : Ty → Ty) (g : List Effect → List Effect) → Makes u.now v.now (F.post holds) ch g → result ≡ test (same_type (type_in u.now a) (ch (type_in v.now b))) }
 {
     let mut i = a;
     let mut j = b;
@@ -102,7 +96,10 @@ pub fn same_type(u: &[u32], a: usize, e: usize, v: &[u32], b: usize, f: usize) -
     while 0 < due {
         let own = type_own(u, i).unwrap();
         let other = type_own(v, j).unwrap();
-        if u[i] != v[j] || !same_own(u, i, own, v, j, other) {
+        if u[i] != v[j] {
+            return false;
+        }
+        if u[i] == 5 && !holds(i + 2, wide(u[i + 1]), own, j + 2, wide(v[j + 1]), other) {
             return false;
         }
         due = due + type_parts(u[i]) - 1;
@@ -110,6 +107,16 @@ pub fn same_type(u: &[u32], a: usize, e: usize, v: &[u32], b: usize, f: usize) -
         j = other;
     }
     true
+}
+
+// The types from a to e and from b to f are the same.
+pub fn same_type(u: &[u32], a: usize, e: usize, v: &[u32], b: usize, f: usize) -> bool
+    requires { At u.now a (rest_of (type_at (drop a u.now))) e × At v.now b (rest_of (type_at (drop b v.now))) f }
+    ensures { result ≡ test (same_type (type_in u.now a) (type_in v.now b)) }
+{
+    same_type_where(u, a, e, v, b, f, |a, k, end, b, l, last| {
+        same_bag(u, a, k, end, v, b, l, last)
+    })
 }
 
 // The environments from a to e and from b to f are the same.

@@ -13,9 +13,8 @@ ghost use Rattle.alike.specs.Same.{term_in, effect_in, effects_in, type_in, own_
 ghost use Rattle.changed.specs.Put.{Stood, There, change_by, leaf_term, step_words, changed_effects};
 ghost use Rattle.changed.specs.Put.Types.{changed_own};
 
-use alike::{count_effect, count_where, every_effect};
-use spans::{term_own, term_parts, type_own, type_parts};
-use words::wide;
+use alike::{count_effect, count_where, every_effect, same_type_where};
+use spans::{term_own, term_parts};
 
 // What happens to names and variables: the name x is bound, or the term from a place to its end is put for the own variable.
 #[derive(Clone, Copy)]
@@ -123,41 +122,12 @@ fn same_changed_bag(
         })
 }
 
-// The type that begins at i has the effects of its own that the one at j has, with the same word, changed.
-fn same_changed_own(w: &[u32], i: usize, own: usize, j: usize, other: usize, by: By) -> bool
-    requires { (i < length w.now) × (j < length w.now) × At w.now (i + 1) (type_own (drop i w.now)) own × At w.now (j + 1) (type_own (drop j w.now)) other × (get_or w.now i 0 ≡ get_or w.now j 0) × There w.now by }
-    ensures { result ≡ test (same_effects (own_effects (drop i w.now)) (changed_own (change_by w.now by) (own_effects (drop j w.now)))) }
-{
-    w[i] != 5
-        || same_changed_bag(
-            w,
-            i + 2,
-            wide(w[i + 1]),
-            own,
-            j + 2,
-            wide(w[j + 1]),
-            other,
-            by,
-        )
-}
-
-// The type from a to e is the one from b to f, changed. `due` types are still to come.
+// The type from a to e is the one from b to f, changed.
 pub fn same_changed(w: &[u32], a: usize, e: usize, b: usize, f: usize, by: By) -> bool
     requires { At w.now a (rest_of (type_at (drop a w.now))) e × At w.now b (rest_of (type_at (drop b w.now))) f × There w.now by }
     ensures { result ≡ test (same_type (type_in w.now a) (change_type (change_by w.now by) (type_in w.now b))) }
 {
-    let mut i = a;
-    let mut j = b;
-    let mut due = 1;
-    while 0 < due {
-        let own = type_own(w, i).unwrap();
-        let other = type_own(w, j).unwrap();
-        if w[i] != w[j] || !same_changed_own(w, i, own, j, other, by) {
-            return false;
-        }
-        due = due + type_parts(w[i]) - 1;
-        i = own;
-        j = other;
-    }
-    true
+    same_type_where(w, a, e, w, b, f, |a, k, end, b, m, last| {
+        same_changed_bag(w, a, k, end, b, m, last, by)
+    })
 }

@@ -1,35 +1,8 @@
--- `alike::same_type` meets its contract: what is still to come is the same exactly if the types are. Assumes
--- nothing.
-use Rattle.spans.specs.Behind.Laws.{ends_at}
-use Rattle.alike.specs.Same.Types.{pairing-begin, pairing-left, pairing-right, pairing-words, pairing-effects, pairing-again, pairing-done}
+-- `alike::same_type` meets its contract: no change is made, and the effects are compared as multisets. Assumes nothing.
+use Rattle.std.proofs.Common.{rules}
+use Rattle.alike.specs.Same.Types.{Makes_same}
 use Rattle.alike.proofs.same_type.Goals as goal
-use Rattle.alike.proofs.same_type.Goals.{then-u-i-via-then-u-i, then-u-i-via-else-u-i+then-not-same_own}
-
-pub loop-due-init : goal.loop-due-init
-loop-due-init c = search pairing-begin
-
-pub unwrap-own-requires : goal.unwrap-own-requires
-unwrap-own-requires c = search pairing-left
-
-pub unwrap-other-requires : goal.unwrap-other-requires
-unwrap-other-requires c = search pairing-right
-
-pub returns-then-u-i : goal.returns-then-u-i
-returns-then-u-i c =
-    let own = ends_at _ _ _ _ _ c.type_own.ensures c.unwrap-own.ensures in
-    let other = ends_at _ _ _ _ _ c.type_own-in-loop-due.ensures c.unwrap-other.ensures in
-    elim c.then-u-i.branch [
-      | then-u-i-via-then-u-i w ↦ pairing-words _ _ _ _ _ _ _ _ _ c.loop-due.invariant c.loop-due-test.true _ own _ other w.if-u-i.true
-      | then-u-i-via-else-u-i+then-not-same_own w ↦
-          pairing-effects _ _ _ _ _ _ _ _ _ c.loop-due.invariant c.loop-due-test.true _ own _ other w.if-u-i.false w.if-not-same_own.ensures
-    ]
-
-pub loop-due-preserved : goal.loop-due-preserved
-loop-due-preserved c =
-    pairing-again _ _ _ _ _ _ _ _ _ c.loop-due.invariant c.loop-due-test.true
-    _ (ends_at _ _ _ _ _ c.type_own.ensures c.unwrap-own.ensures)
-    _ (ends_at _ _ _ _ _ c.type_own-in-loop-due.ensures c.unwrap-other.ensures) c.if-u-i.false c.if-not-same_own.ensures
-    _ c.type_parts.ensures.0 c.type_parts.ensures.1
 
 pub returns : goal.returns
-returns c = search pairing-done
+returns c =
+    c.same_type_where.ensures (λ T. T) (λ es. es) (Makes_same _ _ _ (λ a k end b l last r p q t. search rules))

@@ -1,7 +1,8 @@
 -- Types compared word by word, and nonces' effects as multisets. Assumes nothing.
 use Prim.Native.Nat.{ℕ, zero, suc, ◌+◌, ◌-◌, ◌≤◌, ◌<◌}
 use Rattle.std.specs.Prelude.{Bool, true, false, ◌≡◌, eqb, length, get_or, Option as Answer, None, Some, IsSome}
-use mathlib.Core.List.{List, [], ◌∷◌}
+use mathlib.Core.List.{List, [], ◌∷◌, map}
+use Rattle.std.proofs.lemmas.List.{length-map, map-id}
 use Rattle.std.proofs.Common.{◌∙◌, subst, length-drop, drop_of_length-le, eq-eqb, ne_eqb}
 use Rattle.std.proofs.Math.Option.{Option, none, some}
 use Rattle.std.proofs.Math.Path.{refl, sym, ap}
@@ -277,100 +278,144 @@ own-not w i d = elim (dec_lt i (length w)) [
   | no l ↦ ap own_effects (drop_of_length-le w {i = i} (omega arith)) ∙ own-past
 ]
 
--- ---- two types: what is still to come is the same exactly if they are
-pub record Pairing (u : List ℕ) (a e : ℕ) (v : List ℕ) (b f i j due : ℕ) : Type 0 where
+-- ---- two types, the second with a change made: what is still to come is the same exactly if they are
+-- what a test told of two lists of effects, the first from a to end, the second from b to last
+abbrev pub Told : Type 1
+Told = ℕ → ℕ → ℕ → ℕ → ℕ → ℕ → Bool → Type 0
+
+-- a change of types makes of each the type that is formed alike, of what it makes of the parts and of the effects; the test tells whether
+-- a list is what it makes of another
+pub record Makes (u v : List ℕ) (told : Told) (ch : Ty → Ty) (g : List Effect → List Effect) : Type 0 where
+  pub forms : (c : ℕ) (es : List Effect) (l : List Ty) → map ch (form c es l) ≡ form c (g es) (map ch l)
+  pub none : g [] ≡ []
+  pub tells : (a k end b l last : ℕ) (r : Bool) → rest_of (effects k (drop a u)) ≡ some (drop end u)
+      → rest_of (effects l (drop b v)) ≡ some (drop last v)
+      → told a k end b l last r → r ≡ test (same_effects (bag (effects_in u a k)) (g (bag (effects_in v b l))))
+
+-- whether a type's own effects are what the change makes of another's
+abbrev pub Agree : List ℕ → List ℕ → Told → ℕ → ℕ → Bool → Type 0
+Agree u v told i j r = (ch : Ty → Ty) (g : List Effect → List Effect) → Makes u v told ch g
+    → r ≡ test (same_effects (own_effects (drop i u)) (g (own_effects (drop j v))))
+
+pub record Pairing (u v : List ℕ) (told : Told) (a e b f i j due : ℕ) : Type 0 where
   pub left : Along u e i due
   pub right : Along v f j due
-  pub to : type_in u a ≡ type_in v b → list_of u e i due left ≡ list_of v f j due right
-  pub from : list_of u e i due left ≡ list_of v f j due right → type_in u a ≡ type_in v b
+  pub to : (ch : Ty → Ty) (g : List Effect → List Effect) → Makes u v told ch g → type_in u a ≡ ch (type_in v b)
+      → list_of u e i due left ≡ map ch (list_of v f j due right)
+  pub from : (ch : Ty → Ty) (g : List Effect → List Effect) → Makes u v told ch g → list_of u e i due left ≡ map ch (list_of v f j due right)
+      → type_in u a ≡ ch (type_in v b)
   pub left-inside : 0 < due → i < length u
   pub right-inside : 0 < due → j < length v
 
-pub pairing-begin : (u : List ℕ) (a e : ℕ) (v : List ℕ) (b f : ℕ) → At u a (rest_of (type_at (drop a u))) e → At v b (rest_of (type_at (drop b v))) f
-    → Pairing u a e v b f a b 1
-pairing-begin u a e v b f s t =
-    let p = begin-list u a e s in
-    let q = begin-list v b f t in
-    record {
-      left = along-begin u a e s;
-      right = along-begin v b f t;
-      to = λ h. p ∙ ap (λ (T : Ty). T ∷ []) h ∙ sym q;
-      from = λ h. heads (sym p ∙ h ∙ q);
-      left-inside = along-inside u e a 1 (along-begin u a e s);
-      right-inside = along-inside v f b 1 (along-begin v b f t);
-    }
-  where
-    heads : type_in u a ∷ [] ≡ type_in v b ∷ [] → type_in u a ≡ type_in v b
-    heads h = cc
-
-module _ (u : List ℕ) (a e : ℕ) (v : List ℕ) (b f i j due : ℕ) (t : Pairing u a e v b f i j due) where
-  pub pairing-left : 0 < due → (o : Answer ℕ) → Ends u (i + 1) (type_own (drop i u)) o → IsSome o
-  pairing-left h o q = along-found u e i due t.left h o q
-
-  pub pairing-right : 0 < due → (o : Answer ℕ) → Ends v (j + 1) (type_own (drop j v)) o → IsSome o
-  pairing-right h o q = along-found v f j due t.right h o q
-
-  unequal : (list_of u e i due t.left ≡ list_of v f j due t.right → ⊥) → false ≡ test (same_type (type_in u a) (type_in v b))
-  unequal d = sym (test-no (same_type (type_in u a) (type_in v b)) (λ h. d (t.to h)))
-
-  pub pairing-words : 0 < due → (r : ℕ) → At u (i + 1) (type_own (drop i u)) r → (s : ℕ) → At v (j + 1) (type_own (drop j v)) s
-      → (get_or u i 0 ≡ get_or v j 0 → ⊥) → false ≡ test (same_type (type_in u a) (type_in v b))
-  pairing-words h r q s p d =
-      let x = along-turn u e i due t.left h r q (type_parts (get_or u i 0)) refl (parts-small (get_or u i 0)) in
-      let y = along-turn v f j due t.right h s p (type_parts (get_or v j 0)) refl (parts-small (get_or v j 0)) in
-      unequal (λ g. d (sym (form-code (get_or u i 0) _ _ x.begins x.long) ∙ ap head_code (sym x.list ∙ g ∙ y.list)
-      ∙ form-code (get_or v j 0) _ _ y.begins y.long))
-
-  pub pairing-effects : 0 < due → (r : ℕ) → At u (i + 1) (type_own (drop i u)) r → (s : ℕ) → At v (j + 1) (type_own (drop j v)) s
-      → get_or u i 0 ≡ get_or v j 0 → false ≡ test (same_effects (own_effects (drop i u)) (own_effects (drop j v)))
-      → false ≡ test (same_type (type_in u a) (type_in v b))
-  pairing-effects h r q s p same d =
-      let x = along-turn u e i due t.left h r q (type_parts (get_or u i 0)) refl (parts-small (get_or u i 0)) in
-      let y = along-turn v f j due t.right h s p (type_parts (get_or v j 0)) refl (parts-small (get_or v j 0)) in
-      unequal (λ k. effects-clash _ _ (sym x.list ∙ k ∙ y.list
-      ∙ ap (λ (m : ℕ). form m (own_effects (drop j v)) (list_of v f s (due + type_parts (get_or v j 0) - 1) y.next)) (sym same)))
-    where
-      effects-clash : (l m : List Ty) → form (get_or u i 0) (own_effects (drop i u)) l ≡ form (get_or u i 0) (own_effects (drop j v)) m → ⊥
-      effects-clash l m k =
-          let differ : own_effects (drop i u) ≡ own_effects (drop j v)
-          → ⊥ = λ z. clash (test-yes (same_effects (own_effects (drop i u)) (own_effects (drop j v))) z) (sym d) in
-          elim (ℕ_discrete (get_or u i 0) 5) [
-            | yes five ↦
-                differ (form-effects (own_effects (drop i u)) (own_effects (drop j v)) l m
-                (ap (λ (y : ℕ). form y (own_effects (drop i u)) l) (sym five) ∙ k ∙ ap (λ (y : ℕ). form y (own_effects (drop j v)) m) five))
-            | no other ↦ differ (own-not u i other ∙ sym (own-not v j (λ five. other (same ∙ five))))
-          ]
-
-  pub pairing-again : 0 < due → (r : ℕ) → At u (i + 1) (type_own (drop i u)) r → (s : ℕ) → At v (j + 1) (type_own (drop j v)) s
-      → get_or u i 0 ≡ get_or v j 0 → true ≡ test (same_effects (own_effects (drop i u)) (own_effects (drop j v)))
-      → (n : ℕ) → n ≡ type_parts (get_or u i 0) → n ≤ 2 → Pairing u a e v b f r s (due + n - 1)
-  pairing-again h r q s p same d n k l =
-      let x = along-turn u e i due t.left h r q n k l in
-      let y = along-turn v f j due t.right h s p n (k ∙ ap type_parts same) l in
-      let es : own_effects (drop i u) ≡ own_effects (drop j v) = test-true (same_effects (own_effects (drop i u)) (own_effects (drop j v))) (sym d) in
-      let to-form = ap (λ (m : ℕ). form m (own_effects (drop j v)) (list_of v f s (due + n - 1) y.next)) (sym same)
-      ∙ ap (λ (fs : List Effect). form (get_or u i 0) fs (list_of v f s (due + n - 1) y.next)) (sym es) in
+module _ (u v : List ℕ) (told : Told) (a e b f : ℕ) where
+  pub pairing-begin : At u a (rest_of (type_at (drop a u))) e → At v b (rest_of (type_at (drop b v))) f → Pairing u v told a e b f a b 1
+  pairing-begin s t =
+      let p = begin-list u a e s in
+      let q = begin-list v b f t in
       record {
-        left = x.next;
-        right = y.next;
-        to = λ z. form-rest (get_or u i 0) _ _ _ _ x.begins x.long
-            (subst (λ (m : ℕ). type_parts m ≤ length (list_of v f s (due + n - 1) y.next)) (sym same) y.long) (sym x.list ∙ t.to z ∙ y.list
-            ∙ to-form);
-        left-inside = along-inside u e r (due + n - 1) x.next;
-        right-inside = along-inside v f s (due + n - 1) y.next;
-        from = λ z. t.from (x.list ∙ ap (form (get_or u i 0) (own_effects (drop i u))) z ∙ sym to-form ∙ sym y.list);
+        left = along-begin u a e s;
+        right = along-begin v b f t;
+        to = λ ch g m h. p ∙ ap (λ (T : Ty). T ∷ []) h ∙ sym (ap (map ch) q);
+        from = λ ch g m h. heads (sym p ∙ h ∙ ap (map ch) q);
+        left-inside = along-inside u e a 1 (along-begin u a e s);
+        right-inside = along-inside v f b 1 (along-begin v b f t);
       }
+    where
+      heads : {T U : Ty} → T ∷ [] ≡ U ∷ [] → T ≡ U
+      heads h = cc
 
-  pub pairing-done : due ≤ 0 → true ≡ test (same_type (type_in u a) (type_in v b))
-  pairing-done h =
-      sym (test-yes (same_type (type_in u a) (type_in v b)) (t.from (along-none u e i due t.left h ∙ sym (along-none v f j due t.right h))))
+  module _ (i j due : ℕ) (t : Pairing u v told a e b f i j due) where
+    pub pairing-left : 0 < due → (o : Answer ℕ) → Ends u (i + 1) (type_own (drop i u)) o → IsSome o
+    pairing-left h o q = along-found u e i due t.left h o q
+
+    pub pairing-right : 0 < due → (o : Answer ℕ) → Ends v (j + 1) (type_own (drop j v)) o → IsSome o
+    pairing-right h o q = along-found v f j due t.right h o q
+
+    module _ (h : 0 < due) (r : ℕ) (q : At u (i + 1) (type_own (drop i u)) r) (s : ℕ) (p : At v (j + 1) (type_own (drop j v)) s) where
+      first-turn : (n : ℕ) → n ≡ type_parts (get_or u i 0) → Turn u e i due t.left r n
+      first-turn n k = along-turn u e i due t.left h r q n k (rw k (parts-small (get_or u i 0)))
+
+      second-turn : (n : ℕ) → n ≡ type_parts (get_or v j 0) → Turn v f j due t.right s n
+      second-turn n k = along-turn v f j due t.right h s p n k (rw k (parts-small (get_or v j 0)))
+
+      module _ (ch : Ty → Ty) (g : List Effect → List Effect) (m : Makes u v told ch g) where
+        unequal : (list_of u e i due t.left ≡ map ch (list_of v f j due t.right) → ⊥) → false ≡ test (same_type (type_in u a) (ch (type_in v b)))
+        unequal d = sym (test-no (same_type (type_in u a) (ch (type_in v b))) (λ z. d (t.to ch g m z)))
+
+        -- the second list, one turn on
+        right-list : (n : ℕ) (y : Turn v f j due t.right s n) → map ch (list_of v f j due t.right)
+            ≡ form (get_or v j 0) (g (own_effects (drop j v))) (map ch (list_of v f s (due + n - 1) y.next))
+        right-list n y = ap (map ch) y.list ∙ m.forms (get_or v j 0) (own_effects (drop j v)) (list_of v f s (due + n - 1) y.next)
+
+        right-long : (n : ℕ) (y : Turn v f j due t.right s n)
+            → type_parts (get_or v j 0) ≤ length (map ch (list_of v f s (due + n - 1) y.next))
+        right-long n y = omega (arith, y.long, length-map (list_of v f s (due + n - 1) y.next) ch)
+
+        pub pairing-words : (get_or u i 0 ≡ get_or v j 0 → ⊥) → false ≡ test (same_type (type_in u a) (ch (type_in v b)))
+        pairing-words d =
+            let n = type_parts (get_or v j 0) in
+            let x = first-turn (type_parts (get_or u i 0)) refl in
+            let y = second-turn (type_parts (get_or v j 0)) refl in
+            unequal (λ z. d (sym (form-code (get_or u i 0) _ _ x.begins x.long)
+            ∙ ap head_code (sym x.list ∙ z ∙ right-list (type_parts (get_or v j 0)) y)
+            ∙ form-code (get_or v j 0) _ _ y.begins (right-long (type_parts (get_or v j 0)) y)))
+
+        module _ (same : get_or u i 0 ≡ get_or v j 0) where
+          -- the second list is formed by the first's word
+          formed : (fs : List Effect) (l : List Ty) → form (get_or v j 0) fs l ≡ form (get_or u i 0) fs l
+          formed fs l = ap (λ (c : ℕ). form c fs l) (sym same)
+
+          pub pairing-effects : Agree u v told i j false → false ≡ test (same_type (type_in u a) (ch (type_in v b)))
+          pairing-effects d =
+              let x = first-turn (type_parts (get_or u i 0)) refl in
+              let y = second-turn (type_parts (get_or v j 0)) refl in
+              unequal (λ z. effects-clash _ _ (sym x.list ∙ z ∙ right-list (type_parts (get_or v j 0)) y ∙ formed _ _))
+            where
+              differ : own_effects (drop i u) ≡ g (own_effects (drop j v)) → ⊥
+              differ z = clash (test-yes (same_effects (own_effects (drop i u)) (g (own_effects (drop j v)))) z) (sym (d ch g m))
+
+              effects-clash : (l k : List Ty) → form (get_or u i 0) (own_effects (drop i u)) l ≡ form (get_or u i 0) (g (own_effects (drop j v))) k → ⊥
+              effects-clash l k z = elim (ℕ_discrete (get_or u i 0) 5) [
+                | yes five ↦
+                    differ (form-effects (own_effects (drop i u)) (g (own_effects (drop j v))) l k
+                    (ap (λ (c : ℕ). form c (own_effects (drop i u)) l) (sym five) ∙ z ∙ ap (λ (c : ℕ). form c (g (own_effects (drop j v))) k) five))
+                | no other ↦ differ (own-not u i other ∙ sym (ap g (own-not v j (λ five. other (same ∙ five))) ∙ m.none))
+              ]
+
+          -- one turn on, in both lists
+          turned : Agree u v told i j true → (n : ℕ) (k : n ≡ type_parts (get_or u i 0))
+              → (l : n ≡ type_parts (get_or v j 0)) → map ch (list_of v f j due t.right)
+              ≡ form (get_or u i 0) (own_effects (drop i u)) (map ch (list_of v f s (due + n - 1) (second-turn n l).next))
+          turned d n k l =
+              right-list n (second-turn n l) ∙ formed _ _
+              ∙ ap (λ (fs : List Effect). form (get_or u i 0) fs (map ch (list_of v f s (due + n - 1) (second-turn n l).next)))
+              (sym (test-true (same_effects (own_effects (drop i u)) (g (own_effects (drop j v)))) (sym (d ch g m))))
+
+      pub pairing-again : get_or u i 0 ≡ get_or v j 0 → Agree u v told i j true → (n : ℕ) → n ≡ type_parts (get_or u i 0)
+          → Pairing u v told a e b f r s (due + n - 1)
+      pairing-again same d n k =
+          let l : n ≡ type_parts (get_or v j 0) = k ∙ ap type_parts same in
+          let x = first-turn n k in
+          let y = second-turn n l in
+          record {
+            left = x.next;
+            right = y.next;
+            left-inside = along-inside u e r (due + n - 1) x.next;
+            right-inside = along-inside v f s (due + n - 1) y.next;
+            to = λ ch g m z. form-rest (get_or u i 0) _ _ _ _ x.begins x.long
+                (subst (λ (c : ℕ). type_parts c ≤ length (map ch (list_of v f s (due + n - 1) y.next))) (sym same) (right-long ch g m n y))
+                (sym x.list ∙ t.to ch g m z ∙ turned ch g m same d n k l);
+            from = λ ch g m z. t.from ch g m
+                (x.list ∙ ap (form (get_or u i 0) (own_effects (drop i u))) z ∙ sym (turned ch g m same d n k l));
+          }
+
+    pub pairing-done : due ≤ 0 → (ch : Ty → Ty) (g : List Effect → List Effect) → Makes u v told ch g
+        → true ≡ test (same_type (type_in u a) (ch (type_in v b)))
+    pairing-done h ch g m =
+        sym (test-yes (same_type (type_in u a) (ch (type_in v b)))
+        (t.from ch g m (along-none u e i due t.left h ∙ sym (ap (map ch) (along-none v f j due t.right h)))))
 
 -- ---- a nonce's own effects
-pub own-no-nonce : (u v : List ℕ) (i j : ℕ) → get_or u i 0 ≡ get_or v j 0 → (get_or u i 0 ≡ 5 → ⊥)
-    → true ≡ test (same_effects (own_effects (drop i u)) (own_effects (drop j v)))
-own-no-nonce u v i j same d =
-    sym (test-yes (same_effects (own_effects (drop i u)) (own_effects (drop j v))) (own-not u i d ∙ sym (own-not v j (λ e. d (same ∙ e)))))
-
 own-cut : (c : ℕ) (x v : List ℕ) → c ≡ 5 → type_own (c ∷ x) ≡ some v → 0 < length x
 unfolding type_own
 own-cut c [] v e o = absurd (let q : none ≡ some v = rw e at o in let z : ◌≡◌ {A = ℕ} 0 1 = cc in omega arith)
@@ -405,11 +450,25 @@ module _ (w : List ℕ) (i own : ℕ) (l : i < length w) (b : At w (i + 1) (type
       ap (λ (k : ℕ). bag (value_or [] (effects k (drop (i + 2) w)))) e
       ∙ sym (ap own_effects words ∙ (own-list (get_or w i 0) (get_or w (i + 1) 0) (drop (i + 2) w) five).1)
 
-pub own-nonces : (u v : List ℕ) (i own j other : ℕ) (l : i < length u) (k : j < length v) (s : At u (i + 1) (type_own (drop i u)) own)
-    (t : At v (j + 1) (type_own (drop j v)) other) → get_or u i 0 ≡ get_or v j 0 → get_or u i 0 ≡ 5 → (n m : ℕ) → n ≡ get_or u (i + 1) 0
-    → m ≡ get_or v (j + 1) 0
-    → (r : Bool) → r ≡ test (same_effects (bag (effects_in u (i + 2) n)) (bag (effects_in v (j + 2) m)))
-    → r ≡ test (same_effects (own_effects (drop i u)) (own_effects (drop j v)))
-own-nonces u v i own j other l k s t same five n m e f r d =
-    d ∙ ap (λ (es : List Effect). test (same_effects es (bag (effects_in v (j + 2) m)))) (nonce-effects u i own l s five n e)
-    ∙ ap (λ (fs : List Effect). test (same_effects (own_effects (drop i u)) fs)) (nonce-effects v j other k t (sym same ∙ five) m f)
+module _ (u v : List ℕ) (told : Told) (i j : ℕ) (same : get_or u i 0 ≡ get_or v j 0) where
+  pub agree-none : (get_or u i 0 ≡ 5 → ⊥) → Agree u v told i j true
+  agree-none d ch g m =
+      sym (test-yes (same_effects (own_effects (drop i u)) (g (own_effects (drop j v))))
+      (own-not u i d ∙ sym (ap g (own-not v j (λ e. d (same ∙ e))) ∙ m.none)))
+
+  pub agree-nonces : (own other : ℕ) (l : i < length u) (k : j < length v) (s : At u (i + 1) (type_own (drop i u)) own)
+      (t : At v (j + 1) (type_own (drop j v)) other) → get_or u i 0 ≡ 5 → (n m : ℕ) → n ≡ get_or u (i + 1) 0 → m ≡ get_or v (j + 1) 0
+      → (r : Bool) → told (i + 2) n own (j + 2) m other r → Agree u v told i j r
+  agree-nonces own other l k s t five n m e f r d ch g makes =
+      let five2 = sym same ∙ five in
+      makes.tells (i + 2) n own (j + 2) m other r (nonce-reads u i own l s five n e) (nonce-reads v j other k t five2 m f) d
+      ∙ ap (λ (es : List Effect). test (same_effects es (g (bag (effects_in v (j + 2) m))))) (nonce-effects u i own l s five n e)
+      ∙ ap (λ (fs : List Effect). test (same_effects (own_effects (drop i u)) (g fs))) (nonce-effects v j other k t five2 m f)
+
+-- ---- no change
+pub Makes_same : (u v : List ℕ) (told : Told) → ((a k end b l last : ℕ) (r : Bool) → rest_of (effects k (drop a u)) ≡ some (drop end u)
+    → rest_of (effects l (drop b v)) ≡ some (drop last v)
+    → told a k end b l last r → r ≡ test (same_effects (bag (effects_in u a k)) (bag (effects_in v b l))))
+    → Makes u v told (λ T. T) (λ es. es)
+Makes_same u v told tells =
+    record { forms = λ c es l. map-id (form c es l) ∙ ap (form c es) (sym (map-id l)); none = refl; tells = tells }

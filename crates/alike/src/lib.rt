@@ -1,6 +1,7 @@
 // Whether two things that words spell are the same: terms and effects by their words, effects as multisets by counting, types and
 // environments up to the order of effects; and the names of terms and effects, and the entries of environments. `count_where` and
-// `every_effect` ask a test of each of several effects, and `same_type_where` one of the effects of two nonces.
+// `every_effect` ask a test of each of several effects, `some_leaf` of each leaf of a term, and `same_type_where` of the effects of two
+// nonces.
 #![tactic(auto)]
 
 ghost use Rattle.std.specs.Prelude.{◌≡◌, ℕ, Bool, List, ◌+◌, ◌≤◌, ◌<◌, length, drop, get_or};

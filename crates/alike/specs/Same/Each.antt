@@ -52,9 +52,6 @@ module _ (w : List ℕ) (told : ℕ → ℕ → Bool → Type 0) (a k end : ℕ)
   pub counting-begin : rest_of (effects k (drop a w)) ≡ some (drop end w) → Counting w told a k end a 0 0
   counting-begin h = record { along = record { reads = rw (sub-zero k) h }; sum = λ p t. rw (sub-zero k) (omega arith); few = omega arith }
 
-  pub each-begin : rest_of (effects k (drop a w)) ≡ some (drop end w) → Each w told a k end a 0
-  each-begin h = record { along = record { reads = rw (sub-zero k) h }; same = λ p t. rw (sub-zero k) refl }
-
   module _ (i j : ℕ) (h : j < k) where
     due : 0 < k - j
     due = omega arith

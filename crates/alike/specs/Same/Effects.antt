@@ -1,5 +1,5 @@
 -- Effects and multisets of effects, compared by their words. Assumes nothing.
-use Rattle.std.specs.Prelude.{ℕ, zero, suc, ◌+◌, ◌-◌, ◌≤◌, ◌<◌, Bool, ◌≡◌, eqb, length, drop, take, get_or, Option as Answer, IsSome}
+use Rattle.std.specs.Prelude.{ℕ, zero, suc, ◌+◌, ◌-◌, ◌<◌, Bool, ◌≡◌, eqb, length, drop, take, get_or, Option as Answer, IsSome}
 use Rattle.std.specs.Cmp.Lexicographic.{pointwise}
 use mathlib.Core.List.{List, [], ◌∷◌, ◌++◌}
 use Rattle.std.proofs.Common.{◌∙◌, arith, add-one, length-drop, length-append, drop-cons, take_at}
@@ -14,13 +14,13 @@ use Rattle.typing.proofs.Derivation.Laws.{then-came}
 use Rattle.spans.specs.Behind.{rest_of, At, Ends}
 use Rattle.spans.specs.Behind.Laws.{rest-after, ends_some}
 use Rattle.alike.specs.Same.{value_or, effect_in, effects_in, test}
-use Rattle.alike.specs.Same.Laws.{read-value, spelled-same, term-spelled}
+use Rattle.alike.specs.Same.Laws.{read-value, lengths, spelled-same, term-spelled}
 
 -- ---- an effect is spelled by its words
 effect-spelled : (u : List ℕ) (e : Effect) (v : List ℕ) → effect_of u ≡ some (e, v) → u ≡ effect_words e ++ v
 unfolding effect_of effect_words after
-effect-spelled [] e v h = absurd (let z : ◌≡◌ {A = ℕ} 0 1 = cc in omega arith)
-effect-spelled (zero ∷ u) e v h = absurd (let z : ◌≡◌ {A = ℕ} 0 1 = cc in omega arith)
+effect-spelled [] e v h = cc
+effect-spelled (zero ∷ u) e v h = cc
 effect-spelled (suc zero ∷ u) e v h =
     let ((M, x), p, d) = then-came (term u) _ (e, v) h in
     let q : ◌≡◌ {A = Effect × List ℕ} (Effect.end M, x) (e, v) = cc in
@@ -29,10 +29,7 @@ effect-spelled (suc (suc zero) ∷ u) e v h =
     let ((M, x), p, d) = then-came (term u) _ (e, v) h in
     let q : ◌≡◌ {A = Effect × List ℕ} (Effect.check M, x) (e, v) = cc in
     ap (λ (l : List ℕ). 2 ∷ l) (term-spelled u M x p) ∙ ap (λ (z : Effect × List ℕ). effect_words z.0 ++ z.1) q
-effect-spelled (suc (suc (suc c)) ∷ u) e v h = absurd (let z : ◌≡◌ {A = ℕ} 0 1 = cc in omega arith)
-
-lengths : (n a e x y k : ℕ) → x ≡ n - a → y ≡ n - e → x ≡ k + y → a ≤ e → e ≤ n → k ≡ e - a
-lengths n a e x y k p q r s t = omega arith
+effect-spelled (suc (suc (suc c)) ∷ u) e v h = cc
 
 -- the words from an effect's place to its end are its words
 effect-taken : (w : List ℕ) (a e : ℕ) → At w a (rest_of (effect_of (drop a w))) e → take (e - a) (drop a w) ≡ effect_words (effect_in w a)
@@ -62,7 +59,7 @@ pub record First (m : ℕ) (u z : List ℕ) : Type 0 where
 list-ahead : (e : Effect) (r : Read (List Effect)) (z : List ℕ) → rest_of (ahead e r) ≡ some z
     → (rest_of r ≡ some z) × (value_or [] (ahead e r) ≡ e ∷ value_or [] r)
 unfolding rest_of ahead then value_or
-list-ahead e none z h = absurd (let y : ◌≡◌ {A = ℕ} 0 1 = cc in omega arith)
+list-ahead e none z h = cc
 list-ahead e (some p) z h = (h, refl)
 
 first_of : (m : ℕ) (u z : List ℕ) → rest_of (effects (suc m) u) ≡ some z → First m u z
@@ -70,7 +67,7 @@ unfolding effects then rest_of
 first_of m u z e = go (effect_of u) refl e
   where
     go : (o : Read Effect) → effect_of u ≡ o → rest_of (then o (λ p. ahead p.0 (effects m p.1))) ≡ some z → First m u z
-    go none d h = absurd (let y : ◌≡◌ {A = ℕ} 0 1 = cc in omega arith)
+    go none d h = cc
     go (some p) d h =
         let (r, l) = list-ahead p.0 (effects m p.1) z h in
         record {
@@ -91,11 +88,11 @@ pub record Word (u v : List ℕ) : Type 0 where
 
 word_of : (u : List ℕ) (v : List ℕ) → rest_of (effect_of u) ≡ some v → Word u v
 unfolding effect_of rest_of
-word_of [] v e = absurd (let z : ◌≡◌ {A = ℕ} 0 1 = cc in omega arith)
-word_of (zero ∷ u) v e = absurd (let z : ◌≡◌ {A = ℕ} 0 1 = cc in omega arith)
+word_of [] v e = cc
+word_of (zero ∷ u) v e = cc
 word_of (suc zero ∷ u) v e = record { word = 1; more = u; words = refl; term-behind = sym (rest-after Effect.end (term u)) ∙ e }
 word_of (suc (suc zero) ∷ u) v e = record { word = 2; more = u; words = refl; term-behind = sym (rest-after Effect.check (term u)) ∙ e }
-word_of (suc (suc (suc c)) ∷ u) v e = absurd (let z : ◌≡◌ {A = ℕ} 0 1 = cc in omega arith)
+word_of (suc (suc (suc c)) ∷ u) v e = cc
 
 -- ---- along k effects: at the place i, m of them are still to come; they end at `end`
 pub record Along (w : List ℕ) (end m i : ℕ) : Type 0 where

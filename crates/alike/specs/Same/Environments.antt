@@ -13,7 +13,7 @@ use Rattle.typing.specs.Reading.{Read, after, type_at, entries, environment_at}
 use Rattle.spans.specs.Behind.{rest_of, At, Ends}
 use Rattle.spans.specs.Behind.Environments.{entries-empty, entries-other, entries-cut, entries-no-type, entries-type}
 use Rattle.alike.specs.Same.{value_or, type_in, environment_in, test}
-use Rattle.alike.specs.Same.Laws.{test-yes, test-no, test-true}
+use Rattle.alike.specs.Same.Laws.{some-not, test-yes, test-no, test-true}
 
 -- ---- the entries that were read
 value-last : (f c : ℕ) (u : List ℕ) → c ≡ 1 → value_or [] (entries (suc f) (c ∷ u)) ≡ []
@@ -23,7 +23,7 @@ value-last f c u e = rw e
 value_after : (a : Entry) (r : Read Environment) (z : List ℕ) → rest_of r ≡ some z
     → value_or [] (after (λ (E : Environment). a ∷ E) r) ≡ a ∷ value_or [] r
 unfolding rest_of after then value_or
-value_after a none z h = absurd (let y : ◌≡◌ {A = ℕ} 0 1 = cc in omega arith)
+value_after a none z h = cc
 value_after a (some p) z h = refl
 
 value-entry : (f c x : ℕ) (u v z : List ℕ) → c ≡ 2 → rest_of (type_at u) ≡ some v → rest_of (entries f v) ≡ some z
@@ -34,7 +34,7 @@ value-entry f c x u v z e h r = rw e (go (type_at u) h)
     go : (o : Read Ty) → rest_of o ≡ some v
         → value_or [] (then o (λ q. after (λ (E : Environment). (x ⦂ q.0) ∷ E) (entries f q.1))) ≡ (x ⦂ value_or Ty.Un o) ∷ value_or []
         (entries f v)
-    go none k = absurd (let y : ◌≡◌ {A = ℕ} 0 1 = cc in omega arith)
+    go none k = cc
     go (some q) k =
         let s : v ≡ q.1 = cc in
         subst (λ (l : List ℕ). value_or [] (after (λ (E : Environment). (x ⦂ q.0) ∷ E) (entries f l)) ≡ (x ⦂ q.0) ∷ value_or [] (entries f v)) s
@@ -42,17 +42,11 @@ value-entry f c x u v z e h r = rw e (go (type_at u) h)
 
 -- ---- along an environment's words: the older entries begin at the place i, and end at `end`
 module _ (w : List ℕ) (end i fuel : ℕ) (enough : length w ≤ i + fuel) (reads : rest_of (entries fuel (drop i w)) ≡ some (drop end w)) where
-  some-not : (o : Option (List ℕ)) → o ≡ some (drop end w) → o ≡ none → ⊥
-  some-not o d e =
-      let c : none ≡ some (drop end w) = sym e ∙ d in
-      let z : ◌≡◌ {A = ℕ} 0 1 = cc in
-      omega arith
-
   older-inside : i < length w
   older-inside = elim (dec_lt i (length w)) [
     | yes l ↦ l
     | no l ↦
-        absurd (some-not _ reads
+        absurd (some-not _ _ reads
         (ap (λ (u : List ℕ). rest_of (entries fuel u)) (drop_of_length-le w {i = i} (omega arith)) ∙ entries-empty fuel))
   ]
 
@@ -66,7 +60,7 @@ module _ (w : List ℕ) (end i fuel : ℕ) (enough : length w ≤ i + fuel) (rea
   older-word : (get_or w i 0 ≡ 2 → ⊥) → get_or w i 0 ≡ 1
   older-word d = elim (ℕ_discrete (get_or w i 0) 1) [
     | yes e ↦ e
-    | no e ↦ absurd (some-not _ reads (ap rest_of reading ∙ entries-other (fuel - 1) _ (drop (suc i) w) e d))
+    | no e ↦ absurd (some-not _ _ reads (ap rest_of reading ∙ entries-other (fuel - 1) _ (drop (suc i) w) e d))
   ]
 
   older-last : get_or w i 0 ≡ 1 → value_or [] (entries fuel (drop i w)) ≡ []
@@ -79,7 +73,7 @@ module _ (w : List ℕ) (end i fuel : ℕ) (enough : length w ≤ i + fuel) (rea
       | yes l ↦ l
       | no l ↦
           let f : drop (suc i) w ≡ [] = drop_of_length-le w {i = suc i} (omega arith) in
-          absurd (some-not _ reads (ap rest_of reading ∙ ap (λ (u : List ℕ). rest_of (entries (suc (fuel - 1)) (get_or w i 0 ∷ u))) f
+          absurd (some-not _ _ reads (ap rest_of reading ∙ ap (λ (u : List ℕ). rest_of (entries (suc (fuel - 1)) (get_or w i 0 ∷ u))) f
           ∙ entries-cut (fuel - 1) _ e))
     ]
 
@@ -92,7 +86,7 @@ module _ (w : List ℕ) (end i fuel : ℕ) (enough : length w ≤ i + fuel) (rea
         (ap (λ (k : ℕ). drop k w) one ∙ drop-cons w (i + 1) 0 older-name ∙ ap (λ (k : ℕ). get_or w (i + 1) 0 ∷ drop k w) two)
 
     older-type : (o : Answer ℕ) → Ends w (i + 2) (rest_of (type_at (drop (i + 2) w))) o → IsSome o
-    older-type None q = absurd (some-not _ reads (ap rest_of entry ∙ entries-no-type (fuel - 1) _ _ (drop (i + 2) w) e q))
+    older-type None q = absurd (some-not _ _ reads (ap rest_of entry ∙ entries-no-type (fuel - 1) _ _ (drop (i + 2) w) e q))
     older-type (Some r) q = refl
 
     older-on : (r : ℕ) → At w (i + 2) (rest_of (type_at (drop (i + 2) w))) r → rest_of (entries (fuel - 1) (drop r w)) ≡ some (drop end w)
@@ -109,12 +103,11 @@ module _ (w : List ℕ) (end i fuel : ℕ) (enough : length w ≤ i + fuel) (rea
     older-cons h = go (rest_of (type_at (drop (i + 2) w))) refl
       where
         go : (o : Option (List ℕ)) → rest_of (type_at (drop (i + 2) w)) ≡ o → ⊥
-        go none d = some-not _ reads (ap rest_of entry ∙ entries-no-type (fuel - 1) _ _ (drop (i + 2) w) e d)
+        go none d = some-not _ _ reads (ap rest_of entry ∙ entries-no-type (fuel - 1) _ _ (drop (i + 2) w) e d)
         go (some x) d =
             let r = sym (entries-type (fuel - 1) _ (get_or w (i + 1) 0) (drop (i + 2) w) x e d) ∙ sym (ap rest_of entry) ∙ reads in
             let l = sym h ∙ ap (value_or []) entry ∙ value-entry (fuel - 1) _ _ (drop (i + 2) w) x (drop end w) e d r in
-            let z : ◌≡◌ {A = ℕ} 0 1 = cc in
-            omega arith
+            cc
 
 pub record Along (w : List ℕ) (end i : ℕ) : Type 0 where
   pub fuel : ℕ

@@ -4,7 +4,7 @@ use Rattle.std.specs.Cmp.Lexicographic.{pointwise}
 use Rattle.std.proofs.Common.{true≢false, append_assoc, ◌∙◌, ap₂, length-drop, length-append, take_at}
 use Rattle.std.proofs.lemmas.Bool.Decides.{Decides-eqb, same_from_decides}
 use Rattle.std.proofs.lemmas.Slice.Eq.{slice_eq-Decides}
-use Rattle.std.proofs.Math.Option.{none, some}
+use Rattle.std.proofs.Math.Option.{Option, none, some}
 use Rattle.std.proofs.Math.Path.{sym, ap}
 use native.Mathlib.Omega.{arith}
 use Rattle.words.specs.Choice.{choose, then}
@@ -21,10 +21,14 @@ use Rattle.alike.specs.Same.{value_or, term_in, test, all_term_words}
 -- ---- what was read, from what is behind it
 pub read-value : {A : Type 0} (a : A) (r : Read A) (v : List ℕ) → rest_of r ≡ some v → r ≡ some (value_or a r, v)
 unfolding rest_of value_or
-read-value a none v e = absurd (let z : ◌≡◌ {A = ℕ} 0 1 = cc in omega arith)
+read-value a none v e = cc
 read-value {A} a (some q) v e =
     let s : q.1 ≡ v = cc in
     ap {B = Read A} (λ (u : List ℕ). some (q.0, u)) s
+
+-- what was read is not nothing
+pub some-not : (v : List ℕ) (o : Option (List ℕ)) → o ≡ some v → o ≡ none → ⊥
+some-not v o d e = cc
 
 -- ---- test
 pub test-yes : {P : Type 0} (d : Dec P) → P → test d ≡ true
@@ -59,7 +63,7 @@ seconds k l u v e =
 
 spelled-ahead : (M : Term) (ws u : List ℕ) (r : Read (List Term)) → term_words M ≡ ws → Spelled r u → Spelled (ahead M r) (ws ++ u)
 unfolding Spelled ahead then all_term_words
-spelled-ahead M ws u none e h l v d = absurd (let z : ◌≡◌ {A = ℕ} 0 1 = cc in omega arith)
+spelled-ahead M ws u none e h l v d = cc
 spelled-ahead M ws u (some p) e h l v d =
     rw (firsts (M ∷ p.0) l p.1 v d, seconds (M ∷ p.0) l p.1 v d)
     (ap (λ (k : List ℕ). k ++ u) (sym e) ∙ ap (λ (k : List ℕ). term_words M ++ k) (h p.0 p.1 refl)
@@ -69,7 +73,7 @@ spelled-joined : (c : ℕ) (f : Term → Term → Term) (m : ℕ) (u : List ℕ)
     → ((A B : Term) → term_words (f A B) ≡ c ∷ (term_words A ++ term_words B))
     → Counted (suc (suc m)) r → Spelled r u → Spelled (after (joined f) r) (c ∷ u)
 unfolding Spelled after then joined all_term_words
-spelled-joined c f m u none g k h l v d = absurd (let z : ◌≡◌ {A = ℕ} 0 1 = cc in omega arith)
+spelled-joined c f m u none g k h l v d = cc
 spelled-joined c f m u (some p) g k h l v d =
     rw (firsts (joined f p.0) l p.1 v d, seconds (joined f p.0) l p.1 v d) (go p.0 (k p.0 p.1 refl) (h p.0 p.1 refl))
   where
@@ -82,7 +86,7 @@ spelled-joined c f m u (some p) g k h l v d =
 
 none-spelled : (u : List ℕ) → Spelled none u
 unfolding Spelled
-none-spelled u l v e = absurd (let z : ◌≡◌ {A = ℕ} 0 1 = cc in omega arith)
+none-spelled u l v e = cc
 
 zero-spelled : (u : List ℕ) → Spelled (some ([], u)) u
 unfolding Spelled all_term_words
@@ -107,7 +111,7 @@ terms-spelled (suc (suc (suc (suc (suc c)))) ∷ u) (suc m) = none-spelled (suc 
 one-spelled : (u : List ℕ) (r : Read (List Term)) → Counted 1 r → Spelled r u → (M : Term) (v : List ℕ) → only r ≡ some (M, v)
     → u ≡ term_words M ++ v
 unfolding Spelled only then all_term_words
-one-spelled u none c h M v e = absurd (let z : ◌≡◌ {A = ℕ} 0 1 = cc in omega arith)
+one-spelled u none c h M v e = cc
 one-spelled u (some q) c h M v e = go q.0 q.1 (c q.0 q.1 refl) (h q.0 q.1 refl) e
   where
     go : (l : List Term) (x : List ℕ) → length l ≡ 1 → u ≡ all_term_words l ++ x
@@ -122,7 +126,7 @@ pub term-spelled : (u : List ℕ) (M : Term) (v : List ℕ) → term u ≡ some 
 unfolding term
 term-spelled u M v e = one-spelled u (terms u 1) (terms-counted u 1) (terms-spelled u 1) M v e
 
-lengths : (n a e x y k : ℕ) → x ≡ n - a → y ≡ n - e → x ≡ k + y → a ≤ e → e ≤ n → k ≡ e - a
+pub lengths : (n a e x y k : ℕ) → x ≡ n - a → y ≡ n - e → x ≡ k + y → a ≤ e → e ≤ n → k ≡ e - a
 lengths n a e x y k p q r s t = omega arith
 
 -- the words between a term's place and its end are its words

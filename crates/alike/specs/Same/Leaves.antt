@@ -3,7 +3,7 @@ use Prim.Native.Nat.{ℕ, zero, suc, ◌+◌, ◌-◌, ◌≤◌, ◌<◌}
 use Rattle.std.specs.Prelude.{Bool, true, ◌&&◌, ◌||◌, drop, get_or}
 use Rattle.std.proofs.Math.Bool.{false, not, or_assoc, or-false}
 use mathlib.Core.List.{List, [], ◌∷◌}
-use Rattle.std.proofs.Math.Option.{Option, none, some}
+use Rattle.std.proofs.Math.Option.{none, some}
 use Rattle.std.proofs.Math.Path.{◌≡◌, refl, sym, ap}
 use Rattle.std.proofs.Common.{◌∙◌, drop_of_length-le, drop-cons}
 use native.Mathlib.Omega.{arith}
@@ -15,6 +15,7 @@ use Rattle.typing.specs.Reading.{Read, ahead, joined, after, terms, only, term}
 use Rattle.spans.specs.Behind.{rest_of, At, term_turn}
 use Rattle.spans.specs.Behind.Laws.{Counted, terms-counted, rest-term, terms-nothing, terms-two, terms-one, terms-cut, terms-empty}
 use Rattle.alike.specs.Same.{value_or, term_in, any_leaf, any_leaves, is_name, is_bound, TellsLeaf}
+use Rattle.alike.specs.Same.Laws.{some-not}
 
 -- ---- what the tests are about
 pub leaf-occurs : (x : ℕ) (M : Term) → any_leaf (is_name x) M ≡ occurs x M
@@ -44,13 +45,13 @@ module _ (p : ℕ → ℕ → Bool) where
   leaves-ahead : (M : Term) (r : Read (List Term)) (z : List ℕ) → rest_of r ≡ some z
       → any_leaves p (value_or [] (ahead M r)) ≡ (any_leaf p M || any_leaves p (value_or [] r))
   unfolding rest_of ahead then value_or any_leaves
-  leaves-ahead M none z h = absurd (let y : ◌≡◌ {A = ℕ} 0 1 = cc in omega arith)
+  leaves-ahead M none z h = cc
   leaves-ahead M (some q) z h = refl
 
   leaves-joined : (f : Term → Term → Term) → ((M N : Term) → any_leaf p (f M N) ≡ (any_leaf p M || any_leaf p N)) → (m : ℕ) (r : Read (List Term))
       → Counted (suc (suc m)) r → (z : List ℕ) → rest_of r ≡ some z → any_leaves p (value_or [] (after (joined f) r)) ≡ any_leaves p (value_or [] r)
   unfolding rest_of after then joined value_or any_leaves
-  leaves-joined f g m none c z h = absurd (let y : ◌≡◌ {A = ℕ} 0 1 = cc in omega arith)
+  leaves-joined f g m none c z h = cc
   leaves-joined f g m (some q) c z h = go q.0 (c q.0 q.1 refl)
     where
       go : (l : List Term) → length l ≡ suc (suc m) → any_leaves p (joined f l) ≡ any_leaves p l
@@ -82,7 +83,7 @@ module _ (p : ℕ → ℕ → Bool) where
   one-term : (r : Read (List Term)) → Counted 1 r → (z : List ℕ) → rest_of r ≡ some z
       → any_leaf p (value_or (Term.bound 0) (only r)) ≡ any_leaves p (value_or [] r)
   unfolding rest_of value_or only then any_leaves
-  one-term none c z e = absurd (let y : ◌≡◌ {A = ℕ} 0 1 = cc in omega arith)
+  one-term none c z e = cc
   one-term (some q) c z e = go q.0 q.1 (c q.0 q.1 refl)
     where
       go : (l : List Term) (x : List ℕ) → length l ≡ 1
@@ -121,17 +122,11 @@ module _ (w : List ℕ) (end i due : ℕ) (reads : Due w end i due) (h : 0 < due
   one_more : due ≡ suc (due - 1)
   one_more = omega arith
 
-  some-not : (o : Option (List ℕ)) → o ≡ some (drop end w) → o ≡ none → ⊥
-  some-not o d e =
-      let c : none ≡ some (drop end w) = sym e ∙ d in
-      let z : ◌≡◌ {A = ℕ} 0 1 = cc in
-      omega arith
-
   due-inside : i < length w
   due-inside = elim (dec_lt i (length w)) [
     | yes l ↦ l
     | no l ↦
-        absurd (some-not _ reads
+        absurd (some-not _ _ reads
         (ap (λ (m : ℕ). rest_of (terms (drop i w) m)) one_more
         ∙ ap (λ (u : List ℕ). rest_of (terms u (suc (due - 1)))) (drop_of_length-le w {i = i} (omega arith)) ∙ terms-empty (due - 1)))
   ]
@@ -150,14 +145,14 @@ module _ (w : List ℕ) (end i due : ℕ) (reads : Due w end i due) (h : 0 < due
   module _ (d : Leaf (get_or w i 0)) where
     one : term_turn (get_or w i 0) ≡ 1
     one =
-        turn-one (get_or w i 0) d (λ z. some-not _ reads (ap rest_of due-word ∙ terms-nothing (get_or w i 0) (due - 1) (drop (suc i) w) z))
+        turn-one (get_or w i 0) d (λ z. some-not _ _ reads (ap rest_of due-word ∙ terms-nothing (get_or w i 0) (due - 1) (drop (suc i) w) z))
 
     due-leaf : i + 1 < length w
     due-leaf = elim (dec_lt (i + 1) (length w)) [
       | yes l ↦ l
       | no l ↦
           let f : drop (suc i) w ≡ [] = drop_of_length-le w {i = suc i} (omega arith) in
-          absurd (some-not _ reads
+          absurd (some-not _ _ reads
           (ap rest_of due-word ∙ ap (λ (u : List ℕ). rest_of (terms (get_or w i 0 ∷ u) (suc (due - 1)))) f ∙ terms-cut (get_or w i 0) (due - 1) one))
     ]
 

@@ -19,16 +19,16 @@ use Rattle.alike.specs.Same.Each.{EffectAt}
 about-after : (f : Term → Effect) → ((M : Term) → about (f M) ≡ M) → (r : Read Term) (v : List ℕ) → rest_of r ≡ some v
     → about (value_or (Effect.end (Term.bound 0)) (after f r)) ≡ value_or (Term.bound 0) r
 unfolding rest_of after then value_or
-about-after f g none v e = absurd (let z : ◌≡◌ {A = ℕ} 0 1 = cc in omega arith)
+about-after f g none v e = cc
 about-after f g (some p) v e = g p.0
 
 about-word : (c : ℕ) (u v : List ℕ) → rest_of (effect_of (c ∷ u)) ≡ some v → rest_of (term u) ≡ some v
     → about (value_or (Effect.end (Term.bound 0)) (effect_of (c ∷ u))) ≡ value_or (Term.bound 0) (term u)
 unfolding effect_of about rest_of
-about-word zero u v e h = absurd (let z : ◌≡◌ {A = ℕ} 0 1 = cc in omega arith)
+about-word zero u v e h = cc
 about-word (suc zero) u v e h = about-after Effect.end (λ M. refl) (term u) v h
 about-word (suc (suc zero)) u v e h = about-after Effect.check (λ M. refl) (term u) v h
-about-word (suc (suc (suc c))) u v e h = absurd (let z : ◌≡◌ {A = ℕ} 0 1 = cc in omega arith)
+about-word (suc (suc (suc c))) u v e h = cc
 
 about-term : (w : List ℕ) (i r : ℕ) → i < length w → rest_of (effect_of (drop i w)) ≡ some (drop r w)
     → rest_of (term (drop (i + 1) w)) ≡ some (drop r w)

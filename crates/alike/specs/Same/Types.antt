@@ -20,24 +20,24 @@ use Rattle.spans.specs.Behind.{rest_of, At, Ends, type_own, type_parts}
 use Rattle.spans.specs.Behind.Laws.{Counted}
 use Rattle.spans.specs.Behind.Types.{types-counted, types-go, types-stop, rest-type, empty}
 use Rattle.alike.specs.Same.{value_or, effects_in, type_in, test, own_effects, form}
-use Rattle.alike.specs.Same.Laws.{read-value, test-yes, test-no, test-true}
+use Rattle.alike.specs.Same.Laws.{read-value, some-not, test-yes, test-no, test-true}
 use Rattle.words.specs.First.Laws.{clash}
 
 -- ---- what was read, with one in front and with the first put together
 value-ahead : {A : Type 0} (a : A) (r : Read (List A)) (z : List ℕ) → rest_of r ≡ some z → value_or [] (ahead a r) ≡ a ∷ value_or [] r
 unfolding rest_of ahead then value_or
-value-ahead a none z h = absurd (let y : ◌≡◌ {A = ℕ} 0 1 = cc in omega arith)
+value-ahead a none z h = cc
 value-ahead a (some p) z h = refl
 
 value_after : {A : Type 0} (f : List A → List A) (r : Read (List A)) (z : List ℕ) → rest_of r ≡ some z → value_or [] (after f r) ≡ f (value_or [] r)
 unfolding rest_of after then value_or
-value_after f none z h = absurd (let y : ◌≡◌ {A = ℕ} 0 1 = cc in omega arith)
+value_after f none z h = cc
 value_after f (some p) z h = refl
 
 value-then : {A B : Type 0} (r : Read A) (a : A) (k : A → List ℕ → Read (List B)) (v : List ℕ) → rest_of r ≡ some v
     → value_or [] (then r (λ p. k p.0 p.1)) ≡ value_or [] (k (value_or a r) v)
 unfolding rest_of then value_or
-value-then none a k v h = absurd (let y : ◌≡◌ {A = ℕ} 0 1 = cc in omega arith)
+value-then none a k v h = cc
 value-then (some p) a k v h =
     let s : p.1 ≡ v = cc in
     ap (λ (u : List ℕ). value_or [] (k p.0 u)) s
@@ -58,7 +58,7 @@ plus-two t = omega arith
 types-form : (f t c : ℕ) (u v z : List ℕ) → type_own (c ∷ u) ≡ some v → rest_of (types f (t + type_parts c) v) ≡ some z
     → value_or [] (types (suc f) (suc t) (c ∷ u)) ≡ form c (own_effects (c ∷ u)) (value_or [] (types f (t + type_parts c) v))
 unfolding types type_own type_parts with_effects form own_effects pick
-types-form f t zero u v z o r = absurd (let y : ◌≡◌ {A = ℕ} 0 1 = cc in omega arith)
+types-form f t zero u v z o r = cc
 types-form f t (suc zero) u v z o r =
     let q = rw (plus-zero t, ← one_of o) at r in
     rw (plus-zero t, ← one_of o) (value-ahead Ty.Un (types f t u) z q)
@@ -71,13 +71,13 @@ types-form f t (suc (suc (suc zero))) u v z o r =
 types-form f t (suc (suc (suc (suc zero)))) u v z o r =
     let q = rw (plus_one t, ← one_of o) at r in
     rw (plus_one t, ← one_of o) (value_after (altered Ty.symkey) (types f (suc t) u) z q)
-types-form f t (suc (suc (suc (suc (suc zero))))) [] v z o r = absurd (let y : ◌≡◌ {A = ℕ} 0 1 = cc in omega arith)
+types-form f t (suc (suc (suc (suc (suc zero))))) [] v z o r = cc
 types-form f t (suc (suc (suc (suc (suc zero))))) (n ∷ u) v z o r =
     let q = rw (plus-zero t) at r in
     rw (plus-zero t)
     (value-then (effects n u) [] (λ es w. ahead (Ty.nonce (bag es)) (types f t w)) v o
     ∙ value-ahead (Ty.nonce (bag (value_or [] (effects n u)))) (types f t v) z q)
-types-form f t (suc (suc (suc (suc (suc (suc c)))))) u v z o r = absurd (let y : ◌≡◌ {A = ℕ} 0 1 = cc in omega arith)
+types-form f t (suc (suc (suc (suc (suc (suc c)))))) u v z o r = cc
 
 -- ---- forms
 pub code_of : Ty → ℕ
@@ -134,13 +134,13 @@ form-effects es fs l m e = cc
 
 own-begins : (c : ℕ) (u v : List ℕ) → type_own (c ∷ u) ≡ some v → Begins c
 unfolding type_own
-own-begins zero u v o = absurd (let z : ◌≡◌ {A = ℕ} 0 1 = cc in omega arith)
+own-begins zero u v o = cc
 own-begins (suc zero) u v o = (omega arith, omega arith)
 own-begins (suc (suc zero)) u v o = (omega arith, omega arith)
 own-begins (suc (suc (suc zero))) u v o = (omega arith, omega arith)
 own-begins (suc (suc (suc (suc zero)))) u v o = (omega arith, omega arith)
 own-begins (suc (suc (suc (suc (suc zero))))) u v o = (omega arith, omega arith)
-own-begins (suc (suc (suc (suc (suc (suc c)))))) u v o = absurd (let z : ◌≡◌ {A = ℕ} 0 1 = cc in omega arith)
+own-begins (suc (suc (suc (suc (suc (suc c)))))) u v o = cc
 
 -- ---- along a type's words: at the place i, `due` types are still to come, which end at `end`
 pub record Along (w : List ℕ) (end i due : ℕ) : Type 0 where
@@ -159,7 +159,7 @@ along-begin w a end h =
 
 one_list : (r : Read (List Ty)) → Counted 1 r → (z : List ℕ) → rest_of r ≡ some z → value_or [] r ≡ value_or Ty.Un (only r) ∷ []
 unfolding rest_of value_or only then
-one_list none c z e = absurd (let y : ◌≡◌ {A = ℕ} 0 1 = cc in omega arith)
+one_list none c z e = cc
 one_list (some p) c z e = go p.0 p.1 (c p.0 p.1 refl)
   where
     go : (l : List Ty) (x : List ℕ) → length l ≡ 1 → l ≡ value_or Ty.Un (elim l as (λ _. Read Ty) [ [] ↦ none | a ∷ k ↦ some (a, x) ]) ∷ []
@@ -206,17 +206,11 @@ module _ (w : List ℕ) (end i due : ℕ) (t : Along w end i due) where
   one_more : 0 < due → due ≡ suc (due - 1)
   one_more h = omega arith
 
-  some-not : (o : Option (List ℕ)) → o ≡ some (drop end w) → o ≡ none → ⊥
-  some-not o d e =
-      let c : none ≡ some (drop end w) = sym e ∙ d in
-      let z : ◌≡◌ {A = ℕ} 0 1 = cc in
-      omega arith
-
   pub along-inside : 0 < due → i < length w
   along-inside h = elim (dec_lt i (length w)) [
     | yes l ↦ l
     | no l ↦
-        absurd (some-not _ t.reads
+        absurd (some-not _ _ t.reads
         (ap (λ (m : ℕ). rest_of (types t.fuel m (drop i w))) (one_more h)
         ∙ ap (λ (u : List ℕ). rest_of (types t.fuel (suc (due - 1)) u)) (drop_of_length-le w {i = i} (omega arith)) ∙ empty t.fuel (due - 1)))
   ]
@@ -228,7 +222,7 @@ module _ (w : List ℕ) (end i due : ℕ) (t : Along w end i due) where
   reading h = ap (λ (f : ℕ). types f due (drop i w)) (more-fuel h) ∙ ap (λ (m : ℕ). types (suc (t.fuel - 1)) m (drop i w)) (one_more h)
 
   pub along-found : 0 < due → (o : Answer ℕ) → Ends w (i + 1) (type_own (drop i w)) o → IsSome o
-  along-found h None n = absurd (some-not _ t.reads (ap rest_of (reading h) ∙ types-stop (t.fuel - 1) (due - 1) (drop i w) n))
+  along-found h None n = absurd (some-not _ _ t.reads (ap rest_of (reading h) ∙ types-stop (t.fuel - 1) (due - 1) (drop i w) n))
   along-found h (Some r) b = refl
 
   pub along-turn : 0 < due → (r : ℕ) → At w (i + 1) (type_own (drop i w)) r → (n : ℕ) → n ≡ type_parts (get_or w i 0) → n ≤ 2
@@ -418,7 +412,7 @@ module _ (u v : List ℕ) (told : Told) (a e b f : ℕ) where
 -- ---- a nonce's own effects
 own-cut : (c : ℕ) (x v : List ℕ) → c ≡ 5 → type_own (c ∷ x) ≡ some v → 0 < length x
 unfolding type_own
-own-cut c [] v e o = absurd (let q : none ≡ some v = rw e at o in let z : ◌≡◌ {A = ℕ} 0 1 = cc in omega arith)
+own-cut c [] v e o = let q : none ≡ some v = rw e at o in cc
 own-cut c (n ∷ x) v e o = omega arith
 
 pub own-list : (c n : ℕ) (x : List ℕ) → c ≡ 5 → (type_own (c ∷ n ∷ x) ≡ rest_of (effects n x)) ×

@@ -2,8 +2,7 @@
 use borrow.Author.Rules.{rules}
 use native.Mathlib.Omega.{arith}
 use Rattle.spans.specs.Behind.Laws.{ends_at}
-use Rattle.parts.specs.Place.Laws.{spelled-word, found-names, found-terms-some, found-terms-inside, found-types-some}
-use Rattle.parts.specs.Place.Laws.{places-no-list, found-list-some, places-list}
+use Rattle.parts.specs.Place.Laws.{spelled-word, found-names, found-terms-some, found-types-some, places-no-list, found-list-some, places-list}
 use Rattle.parts.proofs.parts_of.Goals as goal
 
 pub offset_bounds-w-i : goal.offset_bounds-w-i
@@ -24,19 +23,26 @@ several_end-requires c = found-names _ _ c.requires _ _ _ c.counts_of-counts.ens
 pub unwrap-types-requires : goal.unwrap-types-requires
 unwrap-types-requires c = found-terms-some _ _ c.requires _ _ _ c.counts_of-counts.ensures _ c.several_end.ensures
 
-pub several_end-requires-2 : goal.several_end-requires-2
-several_end-requires-2 c = found-terms-inside _ _ c.requires _ _ _ c.counts_of-counts.ensures _ (ends_at _ _ _ _ _ c.several_end.ensures c.unwrap-types.ensures)
-
 pub unwrap-list-requires : goal.unwrap-list-requires
-unwrap-list-requires c = found-types-some _ _ c.requires _ _ _ c.counts_of-counts.ensures _ (ends_at _ _ _ _ _ c.several_end.ensures c.unwrap-types.ensures) _ c.several_end-2.ensures
+unwrap-list-requires c =
+    let types = ends_at _ _ _ _ _ c.several_end.ensures c.unwrap-types.ensures in
+    found-types-some _ _ c.requires _ _ _ c.counts_of-counts.ensures _ types _ c.several_end-2.ensures
 
 pub unwrap-next-requires : goal.unwrap-next-requires
-unwrap-next-requires c = found-list-some _ _ c.requires _ _ _ c.counts_of-counts.ensures _ (ends_at _ _ _ _ _ c.several_end.ensures c.unwrap-types.ensures) _ (ends_at _ _ _ _ _ c.several_end-2.ensures c.unwrap-list.ensures) c.if-c-eq11.true _ c.list_end.ensures
+unwrap-next-requires c =
+    let types = ends_at _ _ _ _ _ c.several_end.ensures c.unwrap-types.ensures in
+    let list = ends_at _ _ _ _ _ c.several_end-2.ensures c.unwrap-list.ensures in
+    found-list-some _ _ c.requires _ _ _ c.counts_of-counts.ensures _ types _ list c.if-c-eq11.true _ c.list_end.ensures
 
 pub returns-then-c-eq11 : goal.returns-then-c-eq11
 returns-then-c-eq11 c =
-    places-list _ _ c.requires _ _ _ c.counts_of-counts.ensures _ (ends_at _ _ _ _ _ c.several_end.ensures c.unwrap-types.ensures) _ (ends_at _ _ _ _ _ c.several_end-2.ensures c.unwrap-list.ensures)
-    c.if-c-eq11.true _ (ends_at _ _ _ _ _ c.list_end.ensures c.unwrap-next.ensures)
+    let types = ends_at _ _ _ _ _ c.several_end.ensures c.unwrap-types.ensures in
+    let list = ends_at _ _ _ _ _ c.several_end-2.ensures c.unwrap-list.ensures in
+    let next = ends_at _ _ _ _ _ c.list_end.ensures c.unwrap-next.ensures in
+    places-list _ _ c.requires _ _ _ c.counts_of-counts.ensures _ types _ list c.if-c-eq11.true _ next
 
 pub returns-else-c-eq11 : goal.returns-else-c-eq11
-returns-else-c-eq11 c = places-no-list _ _ c.requires _ _ _ c.counts_of-counts.ensures _ (ends_at _ _ _ _ _ c.several_end.ensures c.unwrap-types.ensures) _ (ends_at _ _ _ _ _ c.several_end-2.ensures c.unwrap-list.ensures) c.if-c-eq11.false
+returns-else-c-eq11 c =
+    let types = ends_at _ _ _ _ _ c.several_end.ensures c.unwrap-types.ensures in
+    let list = ends_at _ _ _ _ _ c.several_end-2.ensures c.unwrap-list.ensures in
+    places-no-list _ _ c.requires _ _ _ c.counts_of-counts.ensures _ types _ list c.if-c-eq11.false

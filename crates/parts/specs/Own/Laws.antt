@@ -240,7 +240,7 @@ Coded c r = (o : Own) (v : List ℕ) → r ≡ some (o, v) → o.code ≡ c
 
 coded-then : {A : Type 0} (c : ℕ) (r : Read A) (f : A × List ℕ → Read Own) → ((p : A × List ℕ) → Coded c (f p)) → Coded c (then r f)
 unfolding then
-coded-then c none f h o v e = absurd (let z : ◌≡◌ {A = ℕ} 0 1 = cc in omega arith)
+coded-then c none f h o v e = cc
 coded-then c (some p) f h o v e = h p o v e
 
 coded-some : (c : ℕ) (o : Own) (v : List ℕ) → o.code ≡ c → Coded c (some (o, v))
@@ -266,8 +266,7 @@ own_code c u o v e = elim (dec_lt 0 c) [
     not_there : (0 < c → c ≤ 12 → ⊥) → ⊥
     not_there h =
         let d : ◌≡◌ {A = Read Own} none (some (o, v)) = sym (own-nothing c u h) ∙ e in
-        let z : ◌≡◌ {A = ℕ} 0 1 = cc in
-        omega arith
+        cc
 
 -- ---- several processes, of which the first is formed
 more : {A : Type 0} → (List ℕ → Read A) → ℕ → A × List ℕ → Read (List A)

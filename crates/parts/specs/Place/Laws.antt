@@ -26,7 +26,7 @@ use Rattle.parts.specs.Place.{list_in, Spelled, own_in, Places}
 pub rest-came : {A B : Type 0} (r : Read A) (f : A × List ℕ → Read B) (v : List ℕ) → rest_of (then r f) ≡ some v
     → (a : A) × (x : List ℕ) × (r ≡ some (a, x)) × (rest_of (f (a, x)) ≡ some v)
 unfolding then rest_of
-rest-came none f v e = absurd (let z : ◌≡◌ {A = ℕ} 0 1 = cc in omega arith)
+rest-came none f v e = cc
 rest-came (some p) f v e = (p.0, p.1, refl, e)
 
 pub rest_some : {A : Type 0} (r : Read A) (a : A) (v : List ℕ) → r ≡ some (a, v) → rest_of r ≡ some v
@@ -35,7 +35,7 @@ rest_some r a v e = ap rest_of e
 
 pub no-rest : {A : Type 0} (r : Read A) (v : List ℕ) → r ≡ none → rest_of r ≡ some v → ⊥
 unfolding rest_of
-no-rest r v d e = let q : none ≡ some v = sym (ap rest_of d) ∙ e in let z : ◌≡◌ {A = ℕ} 0 1 = cc in omega arith
+no-rest r v d e = let q : none ≡ some v = sym (ap rest_of d) ∙ e in cc
 
 -- ---- several
 pub several-times : {A : Type 0} (r : List ℕ → Read A) (k : ℕ) (u : List ℕ) → rest_of (several r k u) ≡ times (λ v. rest_of (r v)) k u
@@ -55,13 +55,13 @@ several-length r zero u v e = refl
 several-length {A} r (suc k) u v e = go (several-length r k) (r u) e
   where
     rest : (a : A) (o : Read (List A)) → length (value_or [] o) ≡ k → rest_of (ahead a o) ≡ some v → length (value_or [] (ahead a o)) ≡ suc k
-    rest a none h d = absurd (let z : ◌≡◌ {A = ℕ} 0 1 = cc in omega arith)
+    rest a none h d = cc
     rest a (some q) h d = ap suc h
 
     go : ((x y : List ℕ) → rest_of (several r k x) ≡ some y → length (value_or [] (several r k x)) ≡ k) → (o : Read A)
         → rest_of (then o (λ p. ahead p.0 (several r k p.1))) ≡ some v
         → length (value_or [] (then o (λ p. ahead p.0 (several r k p.1)))) ≡ suc k
-    go h none d = absurd (let z : ◌≡◌ {A = ℕ} 0 1 = cc in omega arith)
+    go h none d = cc
     go h (some p) d = rest p.0 (several r k p.1) (h p.1 v (sym (rest-ahead p.0 (several r k p.1)) ∙ d)) d
 
 -- ---- effects
@@ -263,18 +263,12 @@ module _ (w : List ℕ) (i : ℕ) (s : Spelled w i) (n m t : ℕ) (k : Counted (
     found-terms : At w (i + 1 + n) (rest_of (several term (terms_of (get_or w i 0)) (drop (i + 1 + n) w))) e
     found-terms = terms-at w i s (i + 1 + n) names-place e (rw k.terms at q)
 
-    pub found-terms-inside : (0 < e) × (e ≤ length w)
-    found-terms-inside = (found-terms.some_word, found-terms.inside)
-
     pub found-types-some : (o : Answer ℕ) → Ends w e (times skip_type t (drop e w)) o → IsSome o
     found-types-some o x = types-found w i s (i + 1 + n) names-place e found-terms o (rw k.types at x)
 
     module _ (f : ℕ) (x : At w e (times skip_type t (drop e w)) f) where
       found-types : At w e (rest_of (several type_at (types_of (get_or w i 0)) (drop e w))) f
       found-types = types-at w i s (i + 1 + n) names-place e found-terms f (rw k.types at x)
-
-      pub found-types-inside : (0 < f) × (f ≤ length w)
-      found-types-inside = (found-types.some_word, found-types.inside)
 
       pub places-no-list : (get_or w i 0 ≡ 11 → ⊥) → Places w i (record { terms = i + 1 + n; types = e; list = f; next = f })
       places-no-list d =

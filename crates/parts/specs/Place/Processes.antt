@@ -35,7 +35,7 @@ one-rest (some p) = refl
 one_value : (o : Read Process) (v : List ℕ) → rest_of o ≡ some v
     → value_or [] (then o (λ p. ahead p.0 (some ([], p.1)))) ≡ value_or Process.stop o ∷ []
 unfolding then ahead rest_of value_or
-one_value none v e = absurd (let z : ◌≡◌ {A = ℕ} 0 1 = cc in omega arith)
+one_value none v e = cc
 one_value (some p) v e = refl
 
 along-begin : (w : List ℕ) (a end : ℕ) → At w a (rest_of (process_at (drop a w))) end → Along w end a 1
@@ -48,7 +48,7 @@ begin-list w a end b = one_value (process_at (drop a w)) (drop end w) b.rest
 
 value_after : {A : Type 0} (f : List A → List A) (r : Read (List A)) (z : List ℕ) → rest_of r ≡ some z → value_or [] (after f r) ≡ f (value_or [] r)
 unfolding rest_of after then value_or
-value_after f none z h = absurd (let y : ◌≡◌ {A = ℕ} 0 1 = cc in omega arith)
+value_after f none z h = cc
 value_after f (some p) z h = refl
 
 several-empty : (t : ℕ) → several process_at (suc t) [] ≡ none
@@ -83,7 +83,7 @@ module _ (w : List ℕ) (end i due : ℕ) (t : Along w end i due) (h : 0 < due) 
     | no l ↦
         let c : none ≡ some (drop end w) =
         sym (ap rest_of (ap (several process_at (suc (due - 1))) (drop_of_length-le w {i = i} (omega arith)) ∙ several-empty (due - 1))) ∙ reads_more in
-        absurd (let z : ◌≡◌ {A = ℕ} 0 1 = cc in omega arith)
+        cc
   ]
 
   turn-of : (q : ℕ) → q ≡ due - 1 + process_parts (get_or w i 0)

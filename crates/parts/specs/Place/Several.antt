@@ -16,10 +16,6 @@ use Rattle.parts.specs.Place.{list_in}
 use Rattle.parts.specs.Place.Laws.{rest_some}
 
 module _ {A : Type 0} (r : List ℕ → Read A) (d : A) (same : (x y : A) → Dec (x ≡ y)) where
-  -- what is read at a place
-  abbrev pub item : List ℕ → ℕ → A
-  item w a = value_or d (r (drop a w))
-
   -- the first of several, and the others
   pub first_of : (k : ℕ) (u z : List ℕ) → rest_of (several r (suc k) u) ≡ some z
       → (v : List ℕ) × (r u ≡ some (value_or d (r u), v)) × (rest_of (several r k v) ≡ some z)
@@ -28,13 +24,13 @@ module _ {A : Type 0} (r : List ℕ → Read A) (d : A) (same : (x y : A) → De
   first_of k u z e = go (r u) e
     where
       others : (a : A) (o : Read (List A)) → rest_of (ahead a o) ≡ some z → value_or [] (ahead a o) ≡ a ∷ value_or [] o
-      others a none h = absurd (let y : ◌≡◌ {A = ℕ} 0 1 = cc in omega arith)
+      others a none h = cc
       others a (some q) h = refl
 
       go : (o : Read A) → rest_of (then o (λ p. ahead p.0 (several r k p.1))) ≡ some z
           → (v : List ℕ) × (o ≡ some (value_or d o, v)) × (rest_of (several r k v) ≡ some z)
           × (value_or [] (then o (λ p. ahead p.0 (several r k p.1))) ≡ value_or d o ∷ value_or [] (several r k v))
-      go none h = absurd (let y : ◌≡◌ {A = ℕ} 0 1 = cc in omega arith)
+      go none h = cc
       go (some p) h = (p.1, refl, sym (rest-ahead p.0 (several r k p.1)) ∙ h, others p.0 (several r k p.1) h)
 
 -- ---- two lists of things

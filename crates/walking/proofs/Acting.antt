@@ -1,6 +1,6 @@
 -- Laws of `Acting`: a party's part in one step, by who it is in the step. Of the step, code has read f and n, where its messages
 -- stand and how many they are, z, its sender, and y, its receiver. Assumes nothing.
-use Prim.Native.Nat.{ℕ, ◌+◌, ◌-◌, ◌*◌, ◌/◌, ◌≤◌, ◌<◌}
+use Prim.Native.Nat.{ℕ, ◌+◌, ◌-◌, ◌*◌, ◌/◌, ◌≤◌}
 use native.Mathlib.Nat.{add-zero}
 use native.Mathlib.Omega.{arith}
 use mathlib.Core.List.{List, [], ◌∷◌, map}
@@ -14,7 +14,7 @@ use Rattle.words.specs.Overlay.Laws.{wrote_none, wrote_as}
 use Rattle.terms.specs.Term.{count, listed}
 use Rattle.terms.specs.Term.Laws.{count-gathered, count-listed}
 use Rattle.terms.specs.Table.{term, terms}
-use Rattle.book.specs.Layout.{table, rows, parties, mark, sender, receiver, step_first, step_count, messages, list_at}
+use Rattle.book.specs.Layout.{table, rows, mark, sender, receiver, step_first, step_count, messages, list_at}
 use Rattle.book.specs.Span.Laws.{span-step, messages-at}
 use Rattle.book.specs.Headed.Laws.{few-steps}
 use Rattle.translation.specs.Build.{build_all}
@@ -38,10 +38,6 @@ use Rattle.walking.specs.Stops.{stops_in}
 use Rattle.walking.specs.Walking.{act_did, ActReady, Acting}
 
 -- ---- the party sends the step
--- its mark can be asked for, as a sender is a party
-pub sender-party : {b ps : List ℕ} {p s z : ℕ} {x : Received} → ActReady b ps p s x → z ≡ sender b s → z ≡ p → p < parties b
-sender-party {s = s} ready dz e = let few = (ready.valid.steps_keep s ready.step).sends in omega arith
-
 module _ {b ps : List ℕ} {p s : ℕ} {x : Received} {f n : ℕ} (ready : ActReady b ps p s x) (df : f ≡ step_first b s) (dn : n ≡ step_count b s) where
   -- a step makes few atoms
   pub send-ready : SendReady b s f n x.dictionary.entries x.at

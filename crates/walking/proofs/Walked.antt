@@ -5,7 +5,6 @@ use mathlib.Core.List.{List}
 use mathlib.Core.Path.{◌≡◌, refl, sym, ap, ◌∙◌}
 use lib.ListN.{length, length-append}
 use Rattle.words.specs.Choice.{pick}
-use Rattle.words.specs.Overlay.Laws.{wrote-length}
 use Rattle.book.specs.Layout.{steps, sender, receiver}
 use Rattle.book.specs.Headed.Laws.{few-steps}
 use Rattle.std.specs.Prelude.{Option, None, Some}
@@ -26,7 +25,7 @@ use Rattle.walking.specs.Stops.{stop_of, StopsBefore}
 use Rattle.walking.specs.Stops.Laws.{stops-exact, stops-here, unrefused-on, unrefused-skip}
 use Rattle.walking.specs.Placed.Laws.{send-place, receive-place, few-events}
 use Rattle.walking.specs.Noted.{NotedStep, StepsNoted}
-use Rattle.walking.specs.Noted.Laws.{noted-lengths, noted-start, noted-on, noted-skip}
+use Rattle.walking.specs.Noted.Laws.{noted-start, noted-on, noted-skip}
 use Rattle.walking.specs.Walking.{act_did, ActReady, Acting, WalkReady, Started, Along, Walking}
 use Rattle.walking.specs.Walking.Laws.{along-fits, along-more, along-on}
 use Rattle.walking.proofs.Lengths.{ends_at, ends-kept}
@@ -174,26 +173,6 @@ module _ {b l ps : List ℕ} {p upto i a e : ℕ} {log₀ log out₀ out sends�
             noted = noted;
             unrefused = unrefused-on b p i t exact g.unrefused z;
           }
-
--- ---- what was lent keeps its length
-module _ {b l : List ℕ} {p i a e : ℕ} {log₀ log log_after out₀ out out_after sends₀ sends receives₀ receives : List ℕ}
-    {x y : Received} {ahead more : ℕ} {t : Option Stop} (g : Walked b p i log₀ log a out₀ out x e sends₀ sends receives₀ receives)
-    (w : Acting b l p i x log log_after out out_after y ahead more t) where
-  pub acted-log : length log_after ≡ length log₀
-  acted-log = wrote-length w.doing.keeps ∙ wrote-length g.along.keeps
-
-  pub acted-out : length out_after ≡ length out₀
-  acted-out = wrote-length w.doing.wrote ∙ wrote-length g.along.wrote
-
-module _ {b : List ℕ} {p i a e : ℕ} {log₀ log out₀ out sends₀ sends sends_after receives₀ receives receives_after : List ℕ}
-    {x : Received} {k : ℕ}
-    (g : Walked b p i log₀ log a out₀ out x e sends₀ sends receives₀ receives)
-    (n : NotedStep b p i k sends sends_after receives receives_after) where
-  pub noted-sends : length sends_after ≡ length sends₀
-  noted-sends = (noted-lengths n).0 ∙ g.noted.sends.size
-
-  pub noted-receives : length receives_after ≡ length receives₀
-  noted-receives = (noted-lengths n).1 ∙ g.noted.receives.size
 
 -- ---- it stopped nowhere
 pub walked-ends : {b : List ℕ} {p upto i a e : ℕ} {log₀ log out₀ out sends₀ sends receives₀ receives : List ℕ} {x : Received}

@@ -215,8 +215,6 @@ pub fn measure(
     ensures { Measures book.now party upto sends.old sends.new receives.old receives.new result }
 {
     let mut entries = start(book, party);
-    let mut log = [0u32; 1];
-    let mut out = [0u32; 1];
     let passed = walk(
         book,
         since,
@@ -224,8 +222,8 @@ pub fn measure(
         &mut entries,
         party,
         upto,
-        &mut log[0..0],
-        &mut out[0..0],
+        &mut [],
+        &mut [],
         0,
         sends,
         receives,
@@ -252,8 +250,6 @@ pub fn write_program(
 {
     let mut entries = start(book, party);
     let mut log = [0u32; Triple::ALL];
-    let mut sends = [0u32; 1];
-    let mut receives = [0u32; 1];
     let events = walk(
         book,
         since,
@@ -264,8 +260,8 @@ pub fn write_program(
         &mut log,
         out,
         at,
-        &mut sends[0..0],
-        &mut receives[0..0],
+        &mut [],
+        &mut [],
     );
     let stored = events.kept;
     let triples = put_each(out, events.at, [Code::END, narrow(stored / Triple::WORDS)]);
@@ -278,10 +274,6 @@ pub fn hold(book: &[u32], since: &ByRow, partners: &ByRow, party: u32) -> ByRow
     ensures { Holding book.now party result }
 {
     let mut entries = start(book, party);
-    let mut log = [0u32; 1];
-    let mut out = [0u32; 1];
-    let mut sends = [0u32; 1];
-    let mut receives = [0u32; 1];
     walk(
         book,
         since,
@@ -289,11 +281,11 @@ pub fn hold(book: &[u32], since: &ByRow, partners: &ByRow, party: u32) -> ByRow
         &mut entries,
         party,
         steps(book),
-        &mut log[0..0],
-        &mut out[0..0],
+        &mut [],
+        &mut [],
         0,
-        &mut sends[0..0],
-        &mut receives[0..0],
+        &mut [],
+        &mut [],
     );
     entries
 }

@@ -24,7 +24,6 @@ module _ (c : After-receive_messages-there) where
       c.step_sender.ensures c.if-step_sender-party.false c.step_receiver.ensures
       c.if-step_receiver-party.true c.receive_messages-there.ensures
 
--- the party sends the step, so that it is one of the book's
 -- a step makes few atoms
 pub send-sent-requires : goal.send-sent-requires
 send-sent-requires c = send-ready c.requires c.step_first-first.ensures.0 c.step_count-n.ensures.0

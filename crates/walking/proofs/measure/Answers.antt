@@ -1,7 +1,6 @@
 -- `walking::measure` meets its contract: nothing is lent, so that the places at which the walk ends are lengths.
 -- Assumes nothing.
 use native.Mathlib.Omega.{arith}
-use borrow.Author.Rules.{rules}
 use Rattle.walking.proofs.Lengths.{FewPlaces, few-places}
 use Rattle.walking.proofs.Whole.{measured}
 use Rattle.walking.proofs.measure.Goals as goal
@@ -10,13 +9,6 @@ use Rattle.walking.proofs.measure.Goals.{After-walk-passed}
 -- the places are few, wherever the walk has ended
 few : (c : After-walk-passed) → FewPlaces c.walk-passed.result
 few c = search few-places
-
--- what the party knows is entered
-pub walk-passed-requires : goal.walk-passed-requires
-walk-passed-requires c = (c.requires, record { holds = c.start-entries.ensures; size = search rules })
-
-pub overflow_add-result : goal.overflow_add-result
-overflow_add-result c = omega (arith, few (goal.at.overflow_add-result c).After-walk-passed)
 
 pub overflow_add-result-2 : goal.overflow_add-result-2
 overflow_add-result-2 c = omega (arith, few (goal.at.overflow_add-result-2 c).After-walk-passed)

@@ -4,7 +4,6 @@ use Prim.Native.Nat.{ℕ, ◌≤◌}
 use Rattle.std.proofs.lemmas.List.{length-take}
 use mathlib.Core.Path.{refl}
 use native.Mathlib.Omega.{arith}
-use borrow.Author.Rules.{rules}
 use Rattle.words.specs.Overlay.Laws.{wrote-length}
 use Rattle.walking.proofs.Lengths.{few-triples}
 use Rattle.walking.proofs.Whole.{programmed}
@@ -14,11 +13,6 @@ use Rattle.walking.proofs.write_program.Goals.{After-walk-events}
 -- the triples are few, wherever the walk has ended
 few : (c : After-walk-events) → c.walk-events.result.kept ≤ 3072
 few c = search few-triples
-
--- the steps are the book's
-pub walk-events-requires : goal.walk-events-requires
-walk-events-requires c = let known = c.start-entries.ensures in
-    (rw c.steps.ensures c.requires.0, record { holds = known; size = search rules })
 
 pub narrow-requires : goal.narrow-requires
 narrow-requires c = omega (arith, few (goal.at.narrow-requires c).After-walk-events)

@@ -100,6 +100,7 @@ pub fn same_type_where<F: Fn(usize, usize, usize, usize, usize, usize) -> bool>(
         if u[i] != v[j] {
             return false;
         }
+        // Kept: the words and a nonce's effects are two questions; one test would mix `||` and `&&`.
         if u[i] == 5 && !holds(i + 2, wide(u[i + 1]), own, j + 2, wide(v[j + 1]), other) {
             return false;
         }

@@ -1,6 +1,6 @@
 -- Which rows open: ciphers only, and a cipher by the partner of its key. Assumes nothing.
 use Prim.Native.Nat.{ℕ, ◌<◌}
-use mathlib.Core.Bool.{Bool, true}
+use mathlib.Core.Bool.{Bool}
 use mathlib.Core.List.{List}
 use mathlib.Core.Path.{◌≡◌, sym, ap, ◌∙◌}
 use lib.Dec.{eqb}
@@ -13,7 +13,7 @@ use Rattle.book.specs.Span.{entry}
 use Rattle.translation.specs.Dictionary.{buildable}
 use Rattle.translation.specs.Receive.{can_open}
 use Rattle.holding.specs.View.{view}
-use Rattle.receiving.specs.Turn.Laws.{opens_not, opens-cipher, cipher-row}
+use Rattle.receiving.specs.Turn.Laws.{opens_not, cipher-row}
 
 module _ (b e : List ℕ) (v : Valid b) (r k : ℕ) (h : r < rows b) (d : k ≡ kind b r) where
   pub no-cipher : (k ≡ 2 → ⊥) → eqb k 2 ≡ can_open (view b e) (term (table b) r)
@@ -25,7 +25,3 @@ module _ (b e : List ℕ) (v : Valid b) (r k : ℕ) (h : r < rows b) (d : k ≡ 
   by_key x y z q p =
       p ∙ ap (λ (i : ℕ). buildable (view b e) (partner (term (table b) i))) q
       ∙ sym (ap (can_open (view b e)) (cipher-row b v r h (sym d ∙ z)))
-
-pub opens-kind : (b e : List ℕ) (r : ℕ) (u : Bool) → Valid b → r < rows b
-    → u ≡ can_open (view b e) (term (table b) r) → u ≡ true → kind b r ≡ 2
-opens-kind b e r u v h d y = opens-cipher b v r h (view b e) (sym d ∙ y)

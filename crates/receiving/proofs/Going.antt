@@ -35,21 +35,6 @@ pub fresh-brought : (r p : ℕ) {b : List ℕ} {i n k a : ℕ} {e l m o s : List
 fresh-brought r p f brought = let w = rw f at brought in record { led = w.led; size = w.size; same = refl }
 
 -- ---- at the start
--- nothing is received yet
-pub going-all : {b ps : List ℕ} {bound i k p : ℕ} {x : Received} {l o : List ℕ} → RestReady b ps bound i k p x
-    → Going b bound (rest_did b i k p x) x l o i k p x l o
-going-all ready =
-    record {
-      span = ready.span;
-      low = ready.low;
-      size = ready.size;
-      same = refl;
-      fits = ready.fits;
-      rest = λ m s y w. w;
-      logs = refl;
-      outs = refl;
-    }
-
 -- the list's placeholders are handed out
 pub going_start : {b ps : List ℕ} {bound f c q s : ℕ} {e : List ℕ} {n k a j : ℕ} {l o : List ℕ}
     → ListReady b ps bound f c (standing s e n k a) → q ≡ c → j ≡ n + q
@@ -76,6 +61,16 @@ going_start {b} {ps} {bound} {f} {c} {q} {s} {e} {n} {k} {a} {j} ready d g =
       logs = refl;
       outs = refl;
     }
+
+-- as a loop counts
+pub going_begin : {b ps : List ℕ} {bound f c q s : ℕ} {e : List ℕ} {n k a j : ℕ} {l o : List ℕ}
+    → ListReady b ps bound f c (standing s e n k a) → q ≡ c → j ≡ n + q
+    → Going b bound (list_did b f c (standing s e n k a)) (standing s e n k a) l o (f + 0) (c - 0) (n + 0) (standing s e j k a) l o
+going_begin {f = f} {c = c} {n = n} ready d g =
+    let first : f + 0 ≡ f = omega arith in
+    let left : c - 0 ≡ c = omega arith in
+    let place : n + 0 ≡ n = omega arith in
+    rw (first, left, place) (going_start ready d g)
 
 -- ---- one row more: the row r at i is received, and then the rest
 module _ (b : List ℕ) (i k p r : ℕ) (x : Received) (h : 0 < k) (d : r ≡ entry b i) where
@@ -135,9 +130,6 @@ module _ {b : List ℕ} {bound : ℕ} {d : Did} {whole : Received} {log₀ out�
   going-ready t v ps h =
       record { valid = v; partners = ps; bounded = h; span = g.span; low = g.low; timely = rw g.same t; size = g.size; fits = g.fits }
 
-  pub going-rest : {m s : List ℕ} {y : Received} → Brought b (rest_did b i k p x) x l m o s y → Brought b d whole log₀ m out₀ s y
-  going-rest {y = y} w = record { led = g.rest _ _ y w.led; size = w.size; same = w.same ∙ g.same }
-
   -- ---- at the end nothing is left
   pub going_end : k ≤ 0 → Brought b d whole log₀ l out₀ o x
   going_end z =
@@ -163,6 +155,21 @@ module _ {b : List ℕ} {bound : ℕ} {d : Did} {whole : Received} {log₀ out�
         logs = g.logs ∙ a;
         outs = g.outs ∙ c;
       }
+
+-- ---- as loops count: j of the n rows from f on are received, and the next gets the placeholder q + m, where m was read as j
+module _ {b : List ℕ} {bound : ℕ} {d : Did} {whole : Received} {log₀ out₀ : List ℕ} (f n q j : ℕ) {x : Received} {l o : List ℕ}
+    (g : Going b bound d whole log₀ out₀ (f + j) (n - j) (q + j) x l o) (h : j < n) {r m : ℕ} (e : r ≡ entry b (f + j)) (t : m ≡ j) where
+  pub next-fits : Fits x (row_did b r (q + m) x)
+  next-fits = rw t (going-fits g r (omega arith) e)
+
+  pub going_next : {y : Received} {l' o' : List ℕ} → Brought b (row_did b r (q + m) x) x l l' o o' y
+      → Going b bound d whole log₀ out₀ (f + (j + 1)) (n - (j + 1)) (q + (j + 1)) y l' o'
+  going_next {y} {l'} {o'} w =
+      let brought : Brought b (row_did b r (q + j) x) x l l' o o' y = rw (← t) w in
+      let here : f + (j + 1) ≡ f + j + 1 = omega arith in
+      let left : n - (j + 1) ≡ n - j - 1 = omega arith in
+      let place : q + (j + 1) ≡ q + j + 1 = omega arith in
+      rw (here, left, place) (going_on g (omega arith) e brought)
 
 -- ---- a doing that is done, with nothing left
 followed-nothing : (d : Did) → followed d (nothing d.dictionary) ≡ d

@@ -29,6 +29,7 @@ pub struct Dictionary {
 }
 
 // How far receiving got: the dictionary, and the place of the next word.
+// Kept: the dictionary goes by value into a level and back, so that a level has one.
 #[derive(Drop)]
 pub struct Received {
     pub dictionary: Dictionary,
@@ -164,16 +165,14 @@ fn settle_run(
 {
     let mut stored = kept;
     let mut last = at;
-    let mut place = from;
-    let mut i = first;
-    let mut k = left;
-    while 0 < k {
-        let row = entry(book, i, k, bound);
+    for j in 0..left {
+        let row = entry(book, first + j, left - j, bound);
+        let place = from + narrow(j);
         if opens(book, partners, entries, row) {
             return Begun {
                 next,
-                first: i,
-                left: k,
+                first: first + j,
+                left: left - j,
                 place,
                 kept: stored,
                 at: last,
@@ -184,15 +183,12 @@ fn settle_run(
         );
         stored = settled.kept;
         last = settled.at;
-        place += 1;
-        i += 1;
-        k -= 1;
     }
     Begun {
         next,
-        first: i,
-        left: k,
-        place,
+        first: 0,
+        left: 0,
+        place: next,
         kept: stored,
         at: last,
     }
@@ -312,22 +308,16 @@ fn receive_list(
     requires { RestReady book.now partners.now bound first left from here }
     ensures { Brought book.now (rest_did book.now first left from here) here log.old log.new out.old out.new result }
 {
-    let mut place = from;
-    let mut i = first;
-    let mut k = left;
-    while 0 < k {
+    for j in 0..left {
         here = receive(
             book,
             partners,
             here,
-            entry(book, i, k, bound),
-            place,
+            entry(book, first + j, left - j, bound),
+            from + narrow(j),
             log,
             out,
         );
-        place += 1;
-        i += 1;
-        k -= 1;
     }
     here
 }
@@ -351,16 +341,14 @@ pub fn receive_messages(
     requires { ListReady book.now partners.now bound first left (standing step entries.old next kept at) }
     ensures { Brought book.now (list_did book.now first left (standing step entries.old next kept at)) (standing step entries.old next kept at) log.old log.new out.old out.new (standing step entries.new result.next result.kept result.at) }
 {
-    let mut place = next;
     let mut reached = Reached {
         next: next + narrow(left),
         kept,
         at,
     };
-    let mut i = first;
-    let mut k = left;
-    while 0 < k {
-        let row = entry(book, i, k, bound);
+    for j in 0..left {
+        let row = entry(book, first + j, left - j, bound);
+        let place = next + narrow(j);
         if opens(book, partners, entries, row) {
             let held = *entries;
             let dictionary = Dictionary::new(held, step, reached.next, reached.kept);
@@ -393,9 +381,6 @@ pub fn receive_messages(
             reached.kept = settled.kept;
             reached.at = settled.at;
         }
-        place += 1;
-        i += 1;
-        k -= 1;
     }
     reached
 }

@@ -1,8 +1,7 @@
 -- `receiving::begin` meets its contract: a row that is opened goes on with what its contents leave, and a row that is
 -- settled leaves nothing. Assumes nothing.
-use mathlib.Core.Path.{sym, ◌∙◌}
 use native.Mathlib.Omega.{arith}
-use Rattle.receiving.proofs.Beginning.{begun-cipher, begun-key, begun-low, begun-ready, begun_opened, begun-settled}
+use Rattle.receiving.proofs.Beginning.{begun-cipher, begun-key, begun-ready, begun_opened, begun-settled}
 use Rattle.receiving.proofs.begin.Goals as goal
 use Rattle.receiving.proofs.begin.Goals.{After-opens}
 
@@ -15,12 +14,6 @@ put_open-last-requires c = let ready = c.requires in
 pub overflow_sub-left : goal.overflow_sub-left
 overflow_sub-left c = begun-key c.requires c.opens.ensures c.if-opens.true c.row_count-left.ensures.0
 
--- there is room for its contents' placeholders
-pub overflow_add-next : goal.overflow_add-next
-overflow_add-next c = let low = begun-low c.requires c.opens.ensures c.if-opens.true
-    c.row_first-first.ensures.0 c.row_count-left.ensures.0 c.narrow.ensures in
-    omega (arith, low)
-
 pub settle_run-requires : goal.settle_run-requires
 settle_run-requires c = begun-ready c.requires c.opens.ensures c.if-opens.true c.row_first-first.ensures.0
     c.row_count-left.ensures.0 c.narrow.ensures c.put_open-last.result
@@ -30,18 +23,6 @@ pub returns-then-opens : goal.returns-then-opens
 returns-then-opens c = begun_opened c.requires c.opens.ensures c.if-opens.true
     c.row_first-first.ensures.0 c.row_count-left.ensures.0 c.narrow.ensures
     c.put_open-last.ensures c.settle_run.ensures
-
--- it doesn't open
-pub settle-settled-requires : goal.settle-settled-requires
-settle-settled-requires c = let ready = c.requires in
-    record {
-      valid = ready.valid;
-      row = ready.row;
-      low = ready.low;
-      timely = ready.timely;
-      shut = sym c.opens.ensures ∙ c.if-opens.false;
-      size = ready.size;
-    }
 
 -- and nothing is left
 pub returns : goal.returns

@@ -1,11 +1,7 @@
 -- `receiving::put_open` meets its contract: the event's first words, then the image of the key's partner; a cipher
 -- has a key, so that its contents are one part less. Assumes nothing.
-use Rattle.receiving.proofs.Bounds.{some_key}
 use Rattle.receiving.proofs.EventWords.{open-wrote}
 use Rattle.receiving.proofs.put_open.Goals as goal
-
-pub overflow_sub-row_count : goal.overflow_sub-row_count
-overflow_sub-row_count c = search some_key
 
 pub returns : goal.returns
 returns c = search open-wrote

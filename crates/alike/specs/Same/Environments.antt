@@ -13,18 +13,12 @@ use Rattle.typing.specs.Reading.{Read, after, type_at, entries, environment_at}
 use Rattle.spans.specs.Behind.{rest_of, At, Ends}
 use Rattle.spans.specs.Behind.Environments.{entries-empty, entries-other, entries-cut, entries-no-type, entries-type}
 use Rattle.alike.specs.Same.{value_or, type_in, environment_in, test}
-use Rattle.alike.specs.Same.Laws.{some-not, test-yes, test-no, test-true}
+use Rattle.alike.specs.Same.Laws.{value_after, some-not, test-yes, test-no, test-true}
 
 -- ---- the entries that were read
 value-last : (f c : ℕ) (u : List ℕ) → c ≡ 1 → value_or [] (entries (suc f) (c ∷ u)) ≡ []
 unfolding entries value_or
 value-last f c u e = rw e
-
-value_after : (a : Entry) (r : Read Environment) (z : List ℕ) → rest_of r ≡ some z
-    → value_or [] (after (λ (E : Environment). a ∷ E) r) ≡ a ∷ value_or [] r
-unfolding rest_of after then value_or
-value_after a none z h = cc
-value_after a (some p) z h = refl
 
 value-entry : (f c x : ℕ) (u v z : List ℕ) → c ≡ 2 → rest_of (type_at u) ≡ some v → rest_of (entries f v) ≡ some z
     → value_or [] (entries (suc f) (c ∷ x ∷ u)) ≡ (x ⦂ value_or Ty.Un (type_at u)) ∷ value_or [] (entries f v)
@@ -38,7 +32,7 @@ value-entry f c x u v z e h r = rw e (go (type_at u) h)
     go (some q) k =
         let s : v ≡ q.1 = cc in
         subst (λ (l : List ℕ). value_or [] (after (λ (E : Environment). (x ⦂ q.0) ∷ E) (entries f l)) ≡ (x ⦂ q.0) ∷ value_or [] (entries f v)) s
-        (value_after (x ⦂ q.0) (entries f v) z r)
+        (value_after (λ (E : Environment). (x ⦂ q.0) ∷ E) [] [] (entries f v) z r)
 
 -- ---- along an environment's words: the older entries begin at the place i, and end at `end`
 module _ (w : List ℕ) (end i fuel : ℕ) (enough : length w ≤ i + fuel) (reads : rest_of (entries fuel (drop i w)) ≡ some (drop end w)) where

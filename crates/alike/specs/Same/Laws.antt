@@ -26,6 +26,18 @@ read-value {A} a (some q) v e =
     let s : q.1 ≡ v = cc in
     ap {B = Read A} (λ (u : List ℕ). some (q.0, u)) s
 
+-- with one in front, and with what is made of it
+pub value-ahead : {A : Type 0} (a : A) (r : Read (List A)) (z : List ℕ) → rest_of r ≡ some z → value_or [] (ahead a r) ≡ a ∷ value_or [] r
+unfolding rest_of ahead then value_or
+value-ahead a none z h = cc
+value-ahead a (some p) z h = refl
+
+pub value_after : {A B : Type 0} (f : A → B) (a : A) (b : B) (r : Read A) (z : List ℕ) → rest_of r ≡ some z
+    → value_or b (after f r) ≡ f (value_or a r)
+unfolding rest_of after then value_or
+value_after f a b none z h = cc
+value_after f a b (some p) z h = refl
+
 -- what was read is not nothing
 pub some-not : (v : List ℕ) (o : Option (List ℕ)) → o ≡ some v → o ≡ none → ⊥
 some-not v o d e = cc

@@ -2,25 +2,24 @@
 use Rattle.std.specs.Prelude.{ℕ, zero, suc, ◌+◌, ◌<◌, Bool, true, false, not, ◌&&◌, ◌||◌, List, [], ◌∷◌, ◌≡◌, refl, length, drop, get_or}
 use Rattle.std.specs.List.{list_all}
 use Rattle.std.proofs.Math.Bool.{or_assoc, or-false}
-use Rattle.std.proofs.Math.Option.{none, some}
+use Rattle.std.proofs.Math.Option.{some}
 use Rattle.std.proofs.Math.Path.{sym, ap}
 use Rattle.std.proofs.Common.{◌∙◌, add-one, drop-cons}
 use native.Mathlib.Omega.{arith}
-use Rattle.words.specs.Choice.{then}
 use Rattle.words.specs.Choice.Laws.{pick_ind}
 use Rattle.typing.specs.Term.{Term, Effect, about, occurs, mentions, effect_words}
 use Rattle.typing.specs.Bag.{up_to, insert, plus, bag}
 use Rattle.typing.specs.Reading.{Read, after, term, effect_of}
 use Rattle.spans.specs.Behind.{rest_of}
 use Rattle.alike.specs.Same.{value_or, term_in, effect_in}
+use Rattle.alike.specs.Same.Laws.{value_after}
 use Rattle.alike.specs.Same.Each.{EffectAt}
 
 -- an effect is about the term behind its word
 about-after : (f : Term → Effect) → ((M : Term) → about (f M) ≡ M) → (r : Read Term) (v : List ℕ) → rest_of r ≡ some v
     → about (value_or (Effect.end (Term.bound 0)) (after f r)) ≡ value_or (Term.bound 0) r
-unfolding rest_of after then value_or
-about-after f g none v e = cc
-about-after f g (some p) v e = g p.0
+about-after f g r v e =
+    ap about (value_after f (Term.bound 0) (Effect.end (Term.bound 0)) r v e) ∙ g (value_or (Term.bound 0) r)
 
 about-word : (c : ℕ) (u v : List ℕ) → rest_of (effect_of (c ∷ u)) ≡ some v → rest_of (term u) ≡ some v
     → about (value_or (Effect.end (Term.bound 0)) (effect_of (c ∷ u))) ≡ value_or (Term.bound 0) (term u)

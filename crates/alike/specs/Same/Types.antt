@@ -15,25 +15,15 @@ use Rattle.words.specs.Choice.Laws.{pick_true, pick-false}
 use Rattle.typing.specs.Term.{Effect}
 use Rattle.typing.specs.Bag.{bag}
 use Rattle.typing.specs.Types.{Ty, same_type, same_effects}
-use Rattle.typing.specs.Reading.{Read, ahead, joined, altered, after, only, effects, with_effects, types, type_at}
+use Rattle.typing.specs.Reading.{Read, ahead, joined, altered, only, effects, with_effects, types, type_at}
 use Rattle.spans.specs.Behind.{rest_of, At, Ends, type_own, type_parts}
 use Rattle.spans.specs.Behind.Laws.{Counted}
 use Rattle.spans.specs.Behind.Types.{types-counted, types-go, types-stop, rest-type, empty}
 use Rattle.alike.specs.Same.{value_or, effects_in, type_in, test, own_effects, form}
-use Rattle.alike.specs.Same.Laws.{read-value, some-not, test-yes, test-no, test-true}
+use Rattle.alike.specs.Same.Laws.{read-value, value-ahead, value_after, some-not, test-yes, test-no, test-true}
 use Rattle.words.specs.First.Laws.{clash}
 
 -- ---- what was read, with one in front and with the first put together
-value-ahead : {A : Type 0} (a : A) (r : Read (List A)) (z : List ℕ) → rest_of r ≡ some z → value_or [] (ahead a r) ≡ a ∷ value_or [] r
-unfolding rest_of ahead then value_or
-value-ahead a none z h = cc
-value-ahead a (some p) z h = refl
-
-value_after : {A : Type 0} (f : List A → List A) (r : Read (List A)) (z : List ℕ) → rest_of r ≡ some z → value_or [] (after f r) ≡ f (value_or [] r)
-unfolding rest_of after then value_or
-value_after f none z h = cc
-value_after f (some p) z h = refl
-
 value-then : {A B : Type 0} (r : Read A) (a : A) (k : A → List ℕ → Read (List B)) (v : List ℕ) → rest_of r ≡ some v
     → value_or [] (then r (λ p. k p.0 p.1)) ≡ value_or [] (k (value_or a r) v)
 unfolding rest_of then value_or
@@ -64,13 +54,13 @@ types-form f t (suc zero) u v z o r =
     rw (plus-zero t, ← one_of o) (value-ahead Ty.Un (types f t u) z q)
 types-form f t (suc (suc zero)) u v z o r =
     let q = rw (plus-two t, ← one_of o) at r in
-    rw (plus-two t, ← one_of o) (value_after (joined Ty.pair) (types f (suc (suc t)) u) z q)
+    rw (plus-two t, ← one_of o) (value_after (joined Ty.pair) [] [] (types f (suc (suc t)) u) z q)
 types-form f t (suc (suc (suc zero))) u v z o r =
     let q = rw (plus_one t, ← one_of o) at r in
-    rw (plus_one t, ← one_of o) (value_after (altered Ty.channel) (types f (suc t) u) z q)
+    rw (plus_one t, ← one_of o) (value_after (altered Ty.channel) [] [] (types f (suc t) u) z q)
 types-form f t (suc (suc (suc (suc zero)))) u v z o r =
     let q = rw (plus_one t, ← one_of o) at r in
-    rw (plus_one t, ← one_of o) (value_after (altered Ty.symkey) (types f (suc t) u) z q)
+    rw (plus_one t, ← one_of o) (value_after (altered Ty.symkey) [] [] (types f (suc t) u) z q)
 types-form f t (suc (suc (suc (suc (suc zero))))) [] v z o r = cc
 types-form f t (suc (suc (suc (suc (suc zero))))) (n ∷ u) v z o r =
     let q = rw (plus-zero t) at r in

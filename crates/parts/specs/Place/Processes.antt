@@ -13,7 +13,7 @@ use Rattle.typing.proofs.Derivation.Laws.{then-goes}
 use Rattle.spans.specs.Behind.{rest_of, At, process_parts}
 use Rattle.spans.specs.Behind.Laws.{rest-after}
 use Rattle.alike.specs.Same.{value_or, test}
-use Rattle.alike.specs.Same.Laws.{test-yes, test-no}
+use Rattle.alike.specs.Same.Laws.{value_after, test-yes, test-no}
 use Rattle.parts.specs.Own.{own_of, formed}
 use Rattle.parts.specs.Own.Laws.{several-own}
 use Rattle.parts.specs.Own.Same.{Parted, codes_same, parts_same, same-formed}
@@ -45,11 +45,6 @@ along-begin w a end b = record { reads = one-rest (process_at (drop a w)) ∙ b.
 begin-list : (w : List ℕ) (a end : ℕ) → At w a (rest_of (process_at (drop a w))) end → list_in process_at w a 1 ≡ process_in w a ∷ []
 unfolding several list_in process_in
 begin-list w a end b = one_value (process_at (drop a w)) (drop end w) b.rest
-
-value_after : {A : Type 0} (f : List A → List A) (r : Read (List A)) (z : List ℕ) → rest_of r ≡ some z → value_or [] (after f r) ≡ f (value_or [] r)
-unfolding rest_of after then value_or
-value_after f none z h = cc
-value_after f (some p) z h = refl
 
 several-empty : (t : ℕ) → several process_at (suc t) [] ≡ none
 unfolding several process_at processes only then
@@ -108,7 +103,7 @@ module _ (w : List ℕ) (end i due : ℕ) (t : Along w end i due) (h : 0 < due) 
       let (b, l) = places-after w i r p in
       record {
         next = record { reads = there; few = omega (arith, t.few) };
-        list = ap (value_or []) whole ∙ value_after (formed (own_in w i r)) (several process_at (due + n - 1) (drop r.next w)) (drop end w) there;
+        list = ap (value_or []) whole ∙ value_after (formed (own_in w i r)) [] [] (several process_at (due + n - 1) (drop r.next w)) (drop end w) there;
         long = omega (arith, several-length process_at (due + n - 1) (drop r.next w) (drop end w) there);
       }
 

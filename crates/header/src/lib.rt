@@ -12,6 +12,7 @@ use book::{Layout, Section};
 use words::wide;
 
 // x is below lo or above hi.
+#[tactic(auto, unfolding(book::specs::Rules::outside))]
 fn outside(lo: u32, hi: u32, x: u32) -> bool
     ensures { result ≡ outside_of lo hi x }
 {

@@ -45,6 +45,7 @@ fn entry_falls(book: &[u32], first: usize, n: usize) -> bool
 }
 
 // The party's name is no atom's row, or an earlier party's name.
+#[tactic(auto, unfolding(book::specs::Rules::name_breaks, book::specs::Rules::one_of, book::specs::Rules::differs, words::specs::Choice::pick))]
 fn name_breaks(book: &[u32], party: u32) -> bool
     requires { Headed book.now × (party < parties_of book.now) }
     ensures { result ≡ name_breaks book.now party }
@@ -73,6 +74,7 @@ impl Records for Parties {
         parties(book)
     }
 
+    #[tactic(auto, unfolding(book::specs::Rules::party_breaks, book::specs::Rules::one_of, words::specs::Choice::pick))]
     fn breaks(book: &[u32], party: u32, passed: usize) -> bool {
         if name_breaks(book, party) || Mark::MAKES < party_mark(book, party) {
             return true;
@@ -113,6 +115,7 @@ impl Records for Steps {
         steps(book)
     }
 
+    #[tactic(auto, unfolding(book::specs::Rules::step_breaks, book::specs::Rules::one_of, words::specs::Choice::pick))]
     fn breaks(book: &[u32], step: u32, passed: usize) -> bool {
         let from = step_sender(book, step);
         let to = step_receiver(book, step);

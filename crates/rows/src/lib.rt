@@ -29,6 +29,7 @@ fn entry_breaks(book: &[u32], first: usize, n: usize, bound: u32) -> bool
 }
 
 // A row's, a party's or a step's list breaks its rule: lo to hi entries below the bound, `passed` words before them.
+#[tactic(auto, unfolding(book::specs::Rules::list_breaks, book::specs::Rules::one_of, book::specs::Rules::outside, book::specs::Rules::differs, words::specs::Choice::pick))]
 pub fn list_breaks(
     book: &[u32],
     lo: usize,
@@ -107,6 +108,7 @@ impl Records for Rows {
         rows(book)
     }
 
+    #[tactic(auto, unfolding(book::specs::Rules::row_breaks, book::specs::Rules::one_of, words::specs::Choice::pick))]
     fn breaks(book: &[u32], row: u32, passed: usize) -> bool {
         let kind = row_kind(book, row);
         let tag = row_tag(book, row);

@@ -1,2 +1,0 @@
-pub mod PartyTests
-pub mod StepTests

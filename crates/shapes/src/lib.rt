@@ -1,5 +1,6 @@
-// Whether things that a line names are what a rule asks for: the same things, types that are made of others, environments with an entry
-// more. Things at one place are the same; else they are compared.
+// Whether things that a line names are what a rule asks for: the same things (`same_at`, of any sort), types that are made of others
+// (`same_as`), environments with an entry more (`extended`). Things at one place are the same; else they are compared. `behind` is where a
+// thing that is there ends.
 #![tactic(auto)]
 
 ghost use Rattle.std.specs.Prelude.{◌≡◌, ◌∷◌, ◌+◌, ◌-◌, ◌≤◌, ◌<◌, length, drop, get_or};
@@ -10,15 +11,15 @@ ghost use Rattle.typing.specs.Types.{Ty, same_type, same_environment, ◌⦂◌}
 ghost use Rattle.typing.specs.Process.{same_process};
 ghost use Rattle.typing.specs.Rule.{binding};
 ghost use Rattle.typing.specs.Reading.{term, effects, type_at, environment_at, process_at};
-ghost use Rattle.spans.specs.Behind.{rest_of};
+ghost use Rattle.spans.specs.Behind.{At, rest_of};
 ghost use Rattle.alike.specs.Same.{term_in, effects_in, type_in, environment_in, test};
 ghost use Rattle.parts.specs.Place.{process_in};
 ghost use Rattle.shapes.specs.Shape.{Reads, made_type, There, wrapped};
 
-use alike::{same_bag, same_environment, same_term, same_type};
+use alike::same_bag;
 use changed::{By, same_changed};
-use parts::same_process;
-use spans::{environment_end, process_end, term_end, type_end};
+use parts::Same;
+use spans::{Environment, Type};
 use words::wide;
 
 // A type that a rule makes: of types by their places, or of effects by their place, their number and their end. A pair's second type is
@@ -33,56 +34,20 @@ pub enum Made {
     Pair(usize, usize, u32),
 }
 
-// The terms at a and at b are the same.
-pub fn terms_alike(w: &[u32], a: usize, b: usize) -> bool
-    requires { Reads term w.now a × Reads term w.now b }
-    ensures { result ≡ test (same_term (term_in w.now a) (term_in w.now b)) }
+// The place behind the thing of a sort that begins at a.
+pub fn behind<T: Same>(w: &[u32], a: usize) -> usize
+    requires { Reads T.read w.now a }
+    ensures { At w.now a (rest_of (T.read (drop a w.now))) result }
 {
-    if a == b {
-        return true;
-    }
-    let e = term_end(w, a);
-    let f = term_end(w, b);
-    same_term(w, a, e, w, b, f)
+    T::end(w, a).unwrap()
 }
 
-// The types at a and at b are the same.
-pub fn types_alike(w: &[u32], a: usize, b: usize) -> bool
-    requires { Reads type_at w.now a × Reads type_at w.now b }
-    ensures { result ≡ test (same_type (type_in w.now a) (type_in w.now b)) }
+// The things of a sort that begin at a and at b are the same.
+pub fn same_at<T: Same>(w: &[u32], a: usize, b: usize) -> bool
+    requires { Reads T.read w.now a × Reads T.read w.now b }
+    ensures { result ≡ test (T.same (T.value w.now a) (T.value w.now b)) }
 {
-    if a == b {
-        return true;
-    }
-    let e = type_end(w, a);
-    let f = type_end(w, b);
-    same_type(w, a, e, w, b, f)
-}
-
-// The environments at a and at b are the same.
-pub fn environments_alike(w: &[u32], a: usize, b: usize) -> bool
-    requires { Reads environment_at w.now a × Reads environment_at w.now b }
-    ensures { result ≡ test (same_environment (environment_in w.now a) (environment_in w.now b)) }
-{
-    if a == b {
-        return true;
-    }
-    let e = environment_end(w, a);
-    let f = environment_end(w, b);
-    same_environment(w, a, e, w, b, f)
-}
-
-// The processes at a and at b are the same.
-pub fn processes_alike(w: &[u32], a: usize, b: usize) -> bool
-    requires { Reads process_at w.now a × Reads process_at w.now b }
-    ensures { result ≡ test (same_process (process_in w.now a) (process_in w.now b)) }
-{
-    if a == b {
-        return true;
-    }
-    let e = process_end(w, a);
-    let f = process_end(w, b);
-    same_process(w, a, e, w, b, f)
+    a == b || T::same(w, a, behind::<T>(w, a), w, b, behind::<T>(w, b))
 }
 
 // The type at a is the one at b, in brackets behind the word c: 3 is ch, 4 is symkey.
@@ -90,10 +55,7 @@ fn wraps(w: &[u32], a: usize, c: u32, b: usize) -> bool
     requires { Reads type_at w.now a × Reads type_at w.now b × (3 ≤ c) × (c ≤ 4) }
     ensures { result ≡ test (same_type (type_in w.now a) (wrapped c (type_in w.now b))) }
 {
-    if w[a] != c {
-        return false;
-    }
-    types_alike(w, a + 1, b)
+    w[a] == c && same_at::<Type>(w, a + 1, b)
 }
 
 // The type at a is a nonce with the k effects from b to e.
@@ -101,11 +63,7 @@ fn is_nonce(w: &[u32], a: usize, b: usize, k: usize, e: usize) -> bool
     requires { Reads type_at w.now a × (rest_of (effects k (drop b w.now)) ≡ some (drop e w.now)) }
     ensures { result ≡ test (same_type (type_in w.now a) (Ty.nonce (bag (effects_in w.now b k)))) }
 {
-    if w[a] != 5 {
-        return false;
-    }
-    let end = type_end(w, a);
-    same_bag(w, a + 2, wide(w[a + 1]), end, w, b, k, e)
+    w[a] == 5 && same_bag(w, a + 2, wide(w[a + 1]), behind::<Type>(w, a), w, b, k, e)
 }
 
 // The type at a is a pair of the type at t and of the one at u with the name x bound.
@@ -113,15 +71,12 @@ fn is_pair(w: &[u32], a: usize, t: usize, u: usize, x: u32) -> bool
     requires { Reads type_at w.now a × Reads type_at w.now t × Reads type_at w.now u }
     ensures { result ≡ test (same_type (type_in w.now a) (Ty.pair (type_in w.now t) (binding x (type_in w.now u)))) }
 {
-    if w[a] != 2 {
+    if w[a] != 2 || !same_at::<Type>(w, a + 1, t) {
         return false;
     }
-    if !types_alike(w, a + 1, t) {
-        return false;
-    }
-    let second = type_end(w, a + 1);
-    let e = type_end(w, second);
-    let f = type_end(w, u);
+    let second = behind::<Type>(w, a + 1);
+    let e = behind::<Type>(w, second);
+    let f = behind::<Type>(w, u);
     same_changed(w, second, e, u, f, By::Bind(x))
 }
 
@@ -132,7 +87,7 @@ pub fn same_as(w: &[u32], a: usize, made: Made) -> bool
 {
     match made {
         Made::Un => w[a] == 1,
-        Made::Same(t) => types_alike(w, a, t),
+        Made::Same(t) => same_at::<Type>(w, a, t),
         Made::Channel(t) => wraps(w, a, 3, t),
         Made::Symkey(t) => wraps(w, a, 4, t),
         Made::Nonce(b, k, e) => is_nonce(w, a, b, k, e),
@@ -145,15 +100,9 @@ pub fn extended(w: &[u32], a: usize, x: u32, made: Made, b: usize) -> bool
     requires { Reads environment_at w.now a × There w.now made × Reads environment_at w.now b }
     ensures { result ≡ test (same_environment (environment_in w.now a) ((x ⦂ made_type w.now made) ∷ environment_in w.now b)) }
 {
-    if w[a] != 2 {
+    if w[a] != 2 || w[a + 1] != x || !same_as(w, a + 2, made) {
         return false;
     }
-    if w[a + 1] != x {
-        return false;
-    }
-    if !same_as(w, a + 2, made) {
-        return false;
-    }
-    let older = type_end(w, a + 2);
-    environments_alike(w, older, b)
+    let older = behind::<Type>(w, a + 2);
+    same_at::<Environment>(w, older, b)
 }

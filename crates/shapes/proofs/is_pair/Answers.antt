@@ -1,50 +1,33 @@
 -- `shapes::is_pair` meets its contract: the word, the first type, and the second with the name bound. Assumes nothing.
-use Rattle.std.proofs.Common.{ap, not}
-use Prim.Native.Nat.{◌<◌}
-use lib.ListN.{length}
-use borrow.Author.Rules.{rules}
-use native.Mathlib.Omega.{arith}
-use Rattle.typing.specs.Reading.{type_at}
+use Rattle.std.proofs.Common.{rules, arith}
 use Rattle.changed.specs.Put.{change_by}
-use Rattle.shapes.specs.Shape.Laws.{reads_at, type-inside, pair-other, pair-first, pair-second, pair-second-same, pair-first-other}
+use Rattle.shapes.specs.Shape.Laws.{type-inside, pair-other, pair-first, pair-second, pair-second-same, pair-first-other}
 use Rattle.shapes.proofs.is_pair.Goals as goal
-use Rattle.shapes.proofs.is_pair.Goals.{Start}
-
-inside : (c : Start) → c.args.a < length c.args.w.now
-inside c = type-inside _ _ c.requires.0
+use Rattle.shapes.proofs.is_pair.Goals.{then-w-a-ne2-via-then-w-a-ne2, then-w-a-ne2-via-else-w-a-ne2+then-not-same_at}
 
 pub offset_bounds-w-a : goal.offset_bounds-w-a
-offset_bounds-w-a c = let l = inside (goal.at.offset_bounds-w-a c).Start in search rules
+offset_bounds-w-a c = let l = type-inside _ _ c.requires.0 in search rules
 
 pub bounds-w-a : goal.bounds-w-a
-bounds-w-a c = omega (arith, inside (goal.at.bounds-w-a c).Start)
+bounds-w-a c = omega (arith, type-inside _ _ c.requires.0)
+
+pub same_at-requires : goal.same_at-requires
+same_at-requires c = (pair-first _ _ c.requires.0 c.if-w-a-ne2.false, c.requires.1)
 
 pub returns-then-w-a-ne2 : goal.returns-then-w-a-ne2
-returns-then-w-a-ne2 c = pair-other _ _ c.requires.0 _ _ c.if-w-a-ne2.true
+returns-then-w-a-ne2 c =
+    elim c.then-w-a-ne2.branch [
+      | then-w-a-ne2-via-then-w-a-ne2 w ↦ pair-other _ _ c.requires.0 _ _ w.if-w-a-ne2.true
+      | then-w-a-ne2-via-else-w-a-ne2+then-not-same_at w ↦
+          pair-first-other _ _ c.requires.0 w.if-w-a-ne2.false _ _ w.if-not-same_at.ensures
+    ]
 
-pub overflow_add-a : goal.overflow_add-a
-overflow_add-a c = omega (arith, inside (goal.at.overflow_add-a c).Start)
+pub behind-second-requires : goal.behind-second-requires
+behind-second-requires c = pair-first _ _ c.requires.0 c.if-w-a-ne2.false
 
-pub types_alike-requires : goal.types_alike-requires
-types_alike-requires c = let (own, first, second) = c.requires in
-    (pair-first _ _ own c.if-w-a-ne2.false, first)
-
-pub returns-then-not-types_alike : goal.returns-then-not-types_alike
-returns-then-not-types_alike c = pair-first-other _ _ c.requires.0 c.if-w-a-ne2.false _ _ _ c.types_alike.ensures
-    (ap not c.if-not-types_alike.true)
-
-pub overflow_add-a-2 : goal.overflow_add-a-2
-overflow_add-a-2 c = omega (arith, inside (goal.at.overflow_add-a-2 c).Start)
-
-pub same_changed-requires : goal.same_changed-requires
-same_changed-requires c = let (own, first, second) = c.requires in (
-  reads_at type_at _ _ _ (pair-second _ _ own c.if-w-a-ne2.false _ c.type_end-second.ensures)
-      c.type_end-e.ensures,
-  reads_at type_at _ _ _ second c.type_end-f.ensures,
-  Prim.tt,
-)
+pub behind-e-requires : goal.behind-e-requires
+behind-e-requires c = pair-second _ _ c.requires.0 c.if-w-a-ne2.false _ c.behind-second.ensures
 
 pub returns : goal.returns
 unfolding change_by
-returns c = pair-second-same _ _ c.requires.0 c.if-w-a-ne2.false _ c.type_end-second.ensures _ _ _
-    c.types_alike.ensures (ap not c.if-not-types_alike.false) _ c.same_changed.ensures
+returns c = pair-second-same _ _ c.requires.0 c.if-w-a-ne2.false _ c.behind-second.ensures _ _ c.if-not-same_at.ensures _ c.same_changed.ensures

@@ -1,6 +1,6 @@
 -- Laws of the things that a line names. Assumes nothing.
 use Rattle.std.specs.Prelude.{ℕ, zero, suc, ◌+◌, ◌≤◌, ◌<◌, Bool, true, false, not, length, get_or}
-use Rattle.std.proofs.Common.{inl, inr, ◌∙◌, subst, add-one, drop_of_length-le, drop-cons}
+use Rattle.std.proofs.Common.{◌∙◌, subst, add-one, drop_of_length-le, drop-cons}
 use mathlib.Core.List.{List, [], ◌∷◌}
 use Rattle.std.proofs.Math.Option.{none, some}
 use Rattle.std.proofs.Math.Path.{◌≡◌, refl, sym, ap}
@@ -18,20 +18,14 @@ use Rattle.typing.specs.Types.{Ty, Entry, Environment, ◌⦂◌, same_type, sam
 use Rattle.typing.specs.Rule.{binding}
 use Rattle.typing.specs.Reading.{Read, after, only, types, type_at, effects, with_effects, entries, environment_at}
 use Rattle.typing.specs.Reading.Laws.{type-Un, type-pair, type-channel, type-symkey, type-nonce, environment-entry}
-use Rattle.spans.specs.Behind.{rest_of, At, Ends}
+use Rattle.spans.specs.Behind.{rest_of, At}
 use Rattle.alike.specs.Same.{value_or, effects_in, type_in, environment_in, test}
 use Rattle.alike.specs.Same.Laws.{test-yes, test-no, test-true}
 use Rattle.shapes.specs.Shape.{Reads, wrapped, made_type, There}
 use Rattle.shapes.specs.declared.Made.{Made}
 use Rattle.shapes.specs.declared.Made.TheVariants.{Un, Same, Channel, Symkey, Nonce, Pair}
 
--- ---- what is read is there, where its end is found
-pub reads_at : {A : Type 0} (r : List ℕ → Read A) (w : List ℕ) (a e : ℕ) → Reads r w a → Ends w a (rest_of (r (drop a w))) e
-    → At w a (rest_of (r (drop a w))) e
-reads_at r w a e t (inl n) =
-    absurd (let q : none ≡ some t.behind = sym n.none ∙ t.reads in let z : ◌≡◌ {A = ℕ} 0 1 = cc in omega arith)
-reads_at r w a e t (inr b) = b
-
+-- ---- what is read, and has an end, is there
 pub at_reads : {A : Type 0} (r : List ℕ → Read A) (w : List ℕ) (a e : ℕ) → At w a (rest_of (r (drop a w))) e → Reads r w a
 at_reads r w a e b = record { behind = drop e w; reads = b.rest }
 
@@ -207,10 +201,10 @@ module _ (w : List ℕ) (a : ℕ) (t : Reads type_at w a) where
     pub pair-first : Reads type_at w (a + 1)
     pair-first = record { behind = pair_is.0; reads = pair_is.1 }
 
-    module _ (e : ℕ) (q : Ends w (a + 1) (rest_of (type_at (drop (a + 1) w))) e) where
+    module _ (e : ℕ) (q : At w (a + 1) (rest_of (type_at (drop (a + 1) w))) e) where
       behind-is : pair_is.0 ≡ drop e w
       behind-is =
-          let z : some pair_is.0 ≡ some (drop e w) = sym pair_is.1 ∙ (reads_at type_at w (a + 1) e pair-first q).rest in
+          let z : some pair_is.0 ≡ some (drop e w) = sym pair_is.1 ∙ q.rest in
           cc
 
       pub pair-second : Reads type_at w e
@@ -220,26 +214,24 @@ module _ (w : List ℕ) (a : ℕ) (t : Reads type_at w a) where
       unfolding type_in
       pair_parts = pair_is.3 ∙ ap (λ (u : List ℕ). Ty.pair (type_in w (a + 1)) (value_or Ty.Un (type_at u))) behind-is
 
-      pub pair-second-same : (T U : Ty) (b : Bool) → b ≡ test (same_type (type_in w (a + 1)) T) → not b ≡ false → (c : Bool)
-          → c ≡ test (same_type (type_in w e) U)
+      pub pair-second-same : (T U : Ty) → true ≡ test (same_type (type_in w (a + 1)) T) → (c : Bool) → c ≡ test (same_type (type_in w e) U)
           → c ≡ test (same_type (type_in w a) (Ty.pair T U))
-      pair-second-same T U b d n true f =
-          let x : type_in w (a + 1) ≡ T = test-true (same_type (type_in w (a + 1)) T) (sym d ∙ not-false b n) in
+      pair-second-same T U d true f =
+          let x : type_in w (a + 1) ≡ T = test-true (same_type (type_in w (a + 1)) T) (sym d) in
           let y : type_in w e ≡ U = test-true (same_type (type_in w e) U) (sym f) in
           let g = pair_parts in
           sym (test-yes (same_type (type_in w a) (Ty.pair T U)) (cc))
-      pair-second-same T U b d n false f =
+      pair-second-same T U d false f =
           sym (test-no (same_type (type_in w a) (Ty.pair T U)) (λ z.
           clash (test-yes (same_type (type_in w e) U) (seconds (sym pair_parts ∙ z))) (sym f)))
         where
           seconds : Ty.pair (type_in w (a + 1)) (type_in w e) ≡ Ty.pair T U → type_in w e ≡ U
           seconds z = cc
 
-    pub pair-first-other : (T U : Ty) (b : Bool) → b ≡ test (same_type (type_in w (a + 1)) T) → not b ≡ true
-        → false ≡ test (same_type (type_in w a) (Ty.pair T U))
-    pair-first-other T U b d n =
+    pub pair-first-other : (T U : Ty) → false ≡ test (same_type (type_in w (a + 1)) T) → false ≡ test (same_type (type_in w a) (Ty.pair T U))
+    pair-first-other T U d =
         sym (test-no (same_type (type_in w a) (Ty.pair T U)) (λ z.
-        clash (d ∙ test-yes (same_type (type_in w (a + 1)) T) (firsts (sym pair_is.3 ∙ z))) (not-true b n)))
+        clash (test-yes (same_type (type_in w (a + 1)) T) (firsts (sym pair_is.3 ∙ z))) (sym d)))
       where
         firsts : {S : Ty} → Ty.pair (type_in w (a + 1)) S ≡ Ty.pair T U → type_in w (a + 1) ≡ T
         firsts z = cc
@@ -285,10 +277,10 @@ module _ (w : List ℕ) (a : ℕ) (t : Reads type_at w a) where
     pub nonce-is : (n : ℕ) → n ≡ get_or w (a + 1) 0 → type_in w a ≡ Ty.nonce (bag (effects_in w (a + 2) n))
     nonce-is n e = nonce-after.1 ∙ ap (λ (k : ℕ). Ty.nonce (bag (effects_in w (a + 2) k))) (sym e)
 
-    pub nonce-reads : (n : ℕ) → n ≡ get_or w (a + 1) 0 → (e : ℕ) → Ends w a (rest_of (type_at (drop a w))) e
+    pub nonce-reads : (n : ℕ) → n ≡ get_or w (a + 1) 0 → (e : ℕ) → At w a (rest_of (type_at (drop a w))) e
         → rest_of (effects n (drop (a + 2) w)) ≡ some (drop e w)
     nonce-reads n d e q =
-        ap (λ (k : ℕ). rest_of (effects k (drop (a + 2) w))) d ∙ nonce-after.0 ∙ sym t.reads ∙ (reads_at type_at w a e t q).rest
+        ap (λ (k : ℕ). rest_of (effects k (drop (a + 2) w))) d ∙ nonce-after.0 ∙ sym t.reads ∙ q.rest
 
     pub nonce-same : (n : ℕ) → n ≡ get_or w (a + 1) 0 → (es : List Effect) (b : Bool) → b ≡ test (same_effects (bag (effects_in w (a + 2) n)) es)
         → b ≡ test (same_type (type_in w a) (Ty.nonce es))
@@ -402,10 +394,10 @@ module _ (w : List ℕ) (a : ℕ) (t : Reads environment_at w a) where
         own-types : {F : Environment} → (get_or w (a + 1) 0 ⦂ type_in w (a + 2)) ∷ F ≡ (x ⦂ T) ∷ E → type_in w (a + 2) ≡ T
         own-types z = cc
 
-    module _ (e : ℕ) (q : Ends w (a + 2) (rest_of (type_at (drop (a + 2) w))) e) where
+    module _ (e : ℕ) (q : At w (a + 2) (rest_of (type_at (drop (a + 2) w))) e) where
       older-is : entry-is.0 ≡ drop e w
       older-is =
-          let z : some entry-is.0 ≡ some (drop e w) = sym entry-is.1 ∙ (reads_at type_at w (a + 2) e entry-type q).rest in
+          let z : some entry-is.0 ≡ some (drop e w) = sym entry-is.1 ∙ q.rest in
           cc
 
       pub entry-older : Reads environment_at w e

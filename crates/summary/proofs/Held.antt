@@ -5,7 +5,7 @@ use native.Mathlib.Numerals.{add-one}
 use native.Mathlib.Omega.{arith}
 use mathlib.Core.List.{List, [], ◌∷◌, ◌++◌, append-nil, append_assoc}
 use mathlib.Core.Path.{◌≡◌, refl, sym, ap, ap₂, ◌∙◌}
-use lib.ListN.{length, get_or}
+use Rattle.std.proofs.Common.{length, get_or, take, length-take-le, get_or-take, Ok, Err}
 use Rattle.words.specs.Overlay.{Wrote}
 use Rattle.words.specs.Overlay.Laws.{wrote_none, wrote_then, wrote_as}
 use Rattle.words.specs.Run.{values}
@@ -19,40 +19,26 @@ use Rattle.translation.proofs.Steps.Laws.{before-holds}
 use Rattle.holding.specs.Entry.{held_of}
 use Rattle.holding.specs.View.Laws.{view-row}
 use Rattle.walking.specs.Walking.{Holding}
-use Rattle.translator.specs.Ready.{Writable}
 use Rattle.book.specs.declared.Refusal.TheVariants.{Room}
 use Rattle.translation.specs.Outcome.{came, Plays}
-use Rattle.translation.specs.declared.Answer.TheVariants.{Written, Refused}
 use Rattle.summary.specs.Summary.{held_from, held_words, held_to, summary_words, summary, summarized}
 use Rattle.summary.proofs.Summary.Written.{summary-room-came, summary-written-came}
 use Rattle.summary.proofs.Summary.Laws.{held_from-source}
-use Rattle.summary.specs.Writing.{since_words, PartyReady}
+use Rattle.summary.specs.Writing.{since_words}
 
 -- ---- one party
--- the first i rows' words were written
-pub record Dated (e : List ℕ) (z n i : ℕ) (old : List ℕ) (at : ℕ) (new : List ℕ) (next : ℕ) : Type 0 where
-  pub few : i ≤ n
-  pub wrote : Wrote (since_words e z i) old at new next
-
-pub dated-start : {e : List ℕ} {z n : ℕ} {old : List ℕ} {at : ℕ} → Dated e z n 0 old at old at
+pub dated-none : (e : List ℕ) (z : ℕ) {old : List ℕ} {at : ℕ} → Wrote (since_words e z 0) old at old at
 unfolding values
-dated-start = record { few = omega arith; wrote = wrote_none }
+dated-none e z = wrote_none
 
--- the row's entry is read at w, and x is written
-pub dated-on : {e : List ℕ} {z n i : ℕ} {old new later : List ℕ} {at next r w x : ℕ} → i < n → Dated e z n i old at new next
-    → w ≡ i → x ≡ since_of z (held_of (get_or e w 0)) → Wrote (x ∷ []) new next later r → Dated e z n (i + 1) old at later r
-dated-on {e} {z} {i = i} {w = w} l g dw dx put =
+-- a row more, by its entry
+pub dated-on : (e : List ℕ) (z i : ℕ) {old new later : List ℕ} {at next r x : ℕ} → Wrote (since_words e z i) old at new next
+    → x ≡ since_of z (held_of (get_or e i 0)) → Wrote (x ∷ []) new next later r → Wrote (since_words e z (i + 1)) old at later r
+dated-on e z i g dx put =
     let f : ℕ → ℕ = λ r. since_of z (held_of (get_or e r 0)) in
-    record {
-      few = omega arith;
-      wrote = wrote_as (wrote_then g.wrote put)
-          (ap (values f 0) (add-one i) ∙ values-last f 0 i
-          ∙ ap (λ y. since_words e z i ++ y ∷ []) (sym (dx ∙ (let k : w ≡ 0 + i = omega arith in ap f k))));
-    }
-
-pub dated-end : {e : List ℕ} {z n i : ℕ} {old new : List ℕ} {at next : ℕ} → n ≤ i → Dated e z n i old at new next
-    → Wrote (since_words e z n) old at new next
-dated-end {n = n} {i = i} l g = let few = g.few in let k : i ≡ n = omega arith in rw k at g.wrote
+    wrote_as (wrote_then g put)
+    (ap (values f 0) (add-one i) ∙ values-last f 0 i
+    ∙ ap (λ y. since_words e z i ++ y ∷ []) (sym (dx ∙ (let k : i ≡ 0 + i = omega arith in ap f k))))
 
 -- what the party holds in the end tells its words
 same-values : (f g : ℕ → ℕ) (i n : ℕ) → ((r : ℕ) → r < n → f (i + r) ≡ g (i + r)) → values f i n ≡ values g i n
@@ -64,10 +50,15 @@ same-values f g i (suc n) h =
     (same-values f g (suc i) n (λ r l. (let z : i + suc r ≡ suc i + r = omega arith in rw z at (h (suc r) (omega arith)))))
 
 pub held-wrote : {b e out out_after : List ℕ} {p n z at next : ℕ} → Valid b → p < parties b → Holding b p e → n ≡ rows b → z ≡ steps b + 1
-    → Wrote (since_words e z n) out at out_after next → Wrote (held_words b p) out at out_after next
+    → n ≤ length e → Wrote (since_words (take n e) z (length (take n e))) out at out_after next → Wrote (held_words b p) out at out_after next
 unfolding source_of
-held-wrote {b} {e} {p = p} {n = n} {z = z} v h g dn dz w = wrote_as w (sym (rw (dn, dz) same))
+held-wrote {b} {e} {p = p} {n = n} {z = z} v h g dn dz few w =
+    wrote_as w (sym (ap (since_words (take n e) z) (length-take-le n e few) ∙ front ∙ rw (dn, dz) same))
   where
+    front : since_words (take n e) z n ≡ since_words e z n
+    front = same-values _ _ 0 n (λ r l. let k : r ≡ 0 + r = omega arith in
+        rw (← k) (ap (λ x. since_of z (held_of x)) (get_or-take n e r 0 l)))
+
     each : (r : ℕ) → r < rows b → since_of (steps b + 1) (held_of (get_or e (0 + r) 0)) ≡ held_from b p (0 + r)
     each r l =
         let k : r ≡ 0 + r = omega arith in
@@ -88,33 +79,13 @@ held_more b q =
     ap (held_to b) (add-one q) ∙ ap joined (values-last (held_words b) 0 q)
     ∙ joined-append (values (held_words b) 0 q) (held_words b (0 + q)) ∙ (let z : 0 + q ≡ q = omega arith in ap (λ k. held_to b q ++ held_words b k) z)
 
--- the words of the first q of n parties were written
-pub record Told (b : List ℕ) (n q : ℕ) (old : List ℕ) (at : ℕ) (new : List ℕ) (next : ℕ) : Type 0 where
-  pub few : q ≤ n
-  pub wrote : Wrote (held_to b q) old at new next
-
-pub told-start : {b : List ℕ} {n : ℕ} {old : List ℕ} {at : ℕ} → Told b n 0 old at old at
+pub told-none : (b : List ℕ) {old : List ℕ} {at : ℕ} → Wrote (held_to b 0) old at old at
 unfolding joined values
-told-start = record { few = omega arith; wrote = wrote_none }
+told-none b = wrote_none
 
-pub told-on : {b : List ℕ} {n q : ℕ} {old new later : List ℕ} {at next r : ℕ} → q < n → Told b n q old at new next
-    → Wrote (held_words b q) new next later r → Told b n (q + 1) old at later r
-told-on {b} {q = q} l h w = record { few = omega arith; wrote = wrote_as (wrote_then h.wrote w) (held_more b q) }
-
-pub told-end : {b : List ℕ} {n q : ℕ} {old new : List ℕ} {at next : ℕ} → n ≡ parties b → n ≤ q → Told b n q old at new next
-    → Wrote (held_to b (parties b)) old at new next
-told-end {b} {q = q} e l h =
-    let f = h.few in
-    let z : q ≡ parties b = omega arith in
-    rw z at h.wrote
-
--- this party is asked about all steps, and no step is refused for anybody
-pub party-ready : {b since ps : List ℕ} {p : ℕ} → Writable b since ps → p < parties b → PartyReady b since ps p
-party-ready {p = p} w h =
-    record {
-      ready = record { valid = w.valid; claims = w.claims; partners = w.partners; party = h; within = omega arith; low = omega arith };
-      unrefused = w.nobody p h;
-    }
+pub told-on : (b : List ℕ) (q : ℕ) {old new later : List ℕ} {at next r : ℕ} → Wrote (held_to b q) old at new next
+    → Wrote (held_words b q) new next later r → Wrote (held_to b (q + 1)) old at later r
+told-on b q h w = wrote_as (wrote_then h w) (held_more b q)
 
 -- ---- the whole
 pub summary-wrote : (b : List ℕ) {old middle new : List ℕ} {q t l p r : ℕ} → q ≡ parties b → t ≡ rows b → l ≡ steps b
@@ -127,8 +98,8 @@ module _ {b : List ℕ} (out : List ℕ) {q t n : ℕ} (plays : Plays b) (dq : q
   as_many : n ≡ summary_words b
   as_many = dn ∙ ap₂ (λ i j. 3 + i * j) dq dt
 
-  pub short-came : length out < n → came (Refused (Room n)) out ≡ summarized b out
-  short-came h = let m = as_many in ap (λ k. came (Refused (Room k)) out) m ∙ summary-room-came b out plays (omega arith)
+  pub short-came : length out < n → came (Err (Room n)) out ≡ summarized b out
+  short-came h = let m = as_many in ap (λ k. came (Err (Room k)) out) m ∙ summary-room-came b out plays (omega arith)
 
-  pub told-came : {new : List ℕ} {r : ℕ} → n ≤ length out → Wrote (summary b) out 0 new r → came (Written n) new ≡ summarized b out
-  told-came {new} h w = let m = as_many in ap (λ k. came (Written k) new) m ∙ summary-written-came b out plays (omega arith) new w.list
+  pub told-came : {new : List ℕ} {r : ℕ} → n ≤ length out → Wrote (summary b) out 0 new r → came (Ok n) new ≡ summarized b out
+  told-came {new} h w = let m = as_many in ap (λ k. came (Ok k) new) m ∙ summary-written-came b out plays (omega arith) new w.list

@@ -1,4 +1,3 @@
-pub mod Bounds
 pub mod Held
 pub mod Summary
 pub mod Replies

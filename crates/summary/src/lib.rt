@@ -2,13 +2,11 @@
 // leaves the summary; no other lent word changes. `ask` answers from the words of a summary alone, whatever words they are: did the party
 // hold the row after the step? `find` says where the answer stands, by the summary's length and its first three words, wherever these lie;
 // `decide` is what the word there answers.
-#![tactic(auto)]
+#![tactic(auto, using(book::specs::Headed::Laws::headed_rules))]
 
-ghost use Rattle.std.specs.Prelude.{◌≡◌, [], ◌∷◌, not, ◌+◌, ◌*◌, ◌≤◌, leb, eqb, get_or};
-ghost use Rattle.words.specs.Choice.{pick};
+ghost use Rattle.std.specs.Prelude.{◌≡◌, not, ◌+◌, ◌*◌, leb, eqb, length};
 ghost use Rattle.words.specs.Overlay.{Wrote};
 ghost use Rattle.book.specs.Layout.{parties as parties_of};
-ghost use Rattle.book.specs.Said.{said};
 ghost use Rattle.translation.specs.Outcome.{came, Plays};
 ghost use Rattle.translator.specs.Ready.{Writable};
 ghost use Rattle.summary.specs.Summary.{held_words, held_to, summarized, asked};
@@ -16,27 +14,12 @@ ghost use Rattle.summary.specs.Writing.{since_words, PartyReady};
 ghost use Rattle.summary.specs.Found.{Finds};
 ghost use Rattle.summary.specs.Reply.{reply_says};
 
-use book::{ByRow, Reading, Refusal, parties, rows, steps};
+use book::{ByRow, Refusal, parties, rows, steps};
 use holding::Entry;
 use translation::Answer;
 use translator::survey;
 use walking::hold;
-use words::{put, put3, wide, word};
-
-// What is answered to a question.
-#[derive(Drop)]
-pub enum Reply {
-    Yes,
-    No,
-    Refused(Refusal),
-}
-
-// Where a summary has the answer: the place of a word, or why there is none.
-#[derive(Drop)]
-pub enum Found {
-    At(usize),
-    Refused(Refusal),
-}
+use words::{put, put_each, wide, word};
 
 // The words before the parties' rows: the counts of parties, rows and steps.
 #[derive(Drop)]
@@ -68,40 +51,45 @@ fn place(rows: u32, party: u32, row: u32) -> usize
 }
 
 // Where n words that begin with so many parties, rows and steps have the answer to a question.
-pub fn find(n: usize, parties: u32, rows: u32, steps: u32, party: u32, row: u32, step: u32) -> Found
+pub fn find(
+    n: usize,
+    parties: u32,
+    rows: u32,
+    steps: u32,
+    party: u32,
+    row: u32,
+    step: u32,
+) -> Result<usize, Refusal>
     ensures { Finds n parties rows steps party row step result }
 {
     let unfit = misfits(n, parties, rows);
     if unfit {
-        return Found::Refused(Refusal::Summary(n));
+        return Err(Refusal::Summary(n));
     }
     if parties <= party {
-        return Found::Refused(Refusal::Question(party));
+        return Err(Refusal::Question(party));
     }
     if rows <= row {
-        return Found::Refused(Refusal::Question(row));
+        return Err(Refusal::Question(row));
     }
     if steps <= step {
-        return Found::Refused(Refusal::Question(step));
+        return Err(Refusal::Question(step));
     }
-    Found::At(place(rows, party, row))
+    Ok(place(rows, party, row))
 }
 
 // What the word of a party and a row answers: it is held after a step if the word is at most one more.
-pub fn decide(word: u32, step: u32) -> Reply
-    ensures { reply_says result ≡ said 0 (pick (leb word (step + 1)) 1 0 ∷ []) }
+pub fn decide(word: u32, step: u32) -> bool
+    ensures { result ≡ leb word (step + 1) }
 {
-    if wide(word) <= wide(step) + 1 {
-        return Reply::Yes;
-    }
-    Reply::No
+    wide(word) <= wide(step) + 1
 }
 
 // Did the party hold the row after the step? Of any words and any numbers.
-pub fn ask(summary: &[u32], party: u32, row: u32, step: u32) -> Reply
+pub fn ask(summary: &[u32], party: u32, row: u32, step: u32) -> Result<bool, Refusal>
     ensures { reply_says result ≡ asked summary.now party row step }
 {
-    let found = find(
+    let i = find(
         summary.len(),
         word(summary, 0),
         word(summary, 1),
@@ -109,24 +97,17 @@ pub fn ask(summary: &[u32], party: u32, row: u32, step: u32) -> Reply
         party,
         row,
         step,
-    );
-    match found {
-        Found::Refused(why) => Reply::Refused(why),
-        Found::At(i) => decide(word(summary, i), step),
-    }
+    )?;
+    Ok(decide(word(summary, i), step))
 }
 
-// After how many steps each of the first rows is first held, by its entry, and `never` where it is not.
-fn write_since(entries: &ByRow, rows: u32, never: u32, out: &mut [u32], at: usize) -> usize
-    requires { rows ≤ 1024 }
-    ensures { Wrote (since_words entries.now never rows) out.old at out.new result }
+// After how many steps each of the rows is first held, by its entry, and `never` where it is not.
+fn write_since(entries: &[u32], never: u32, out: &mut [u32], at: usize) -> usize
+    ensures { Wrote (since_words entries.now never (length entries.now)) out.old at out.new result }
 {
     let mut next = at;
-    let mut row = 0;
-    while row < rows {
-        let since = Entry::since(entries[wide(row)], never);
-        next = put(out, next, since);
-        row += 1;
+    for &entry in entries {
+        next = put(out, next, Entry::since(entry).unwrap_or(never));
     }
     next
 }
@@ -145,7 +126,8 @@ fn write_party(
 {
     let entries = hold(book, since, partners, party);
     let never = steps(book) + 1;
-    write_since(&entries, rows(book), never, out, at)
+    let rows = wide(rows(book));
+    write_since(&entries[..rows], never, out, at)
 }
 
 // The words of all parties, in their order.
@@ -153,12 +135,9 @@ fn write_parties(book: &[u32], since: &ByRow, partners: &ByRow, out: &mut [u32],
     requires { Writable book.now since.now partners.now }
     ensures { Wrote (held_to book.now (parties_of book.now)) out.old at out.new result }
 {
-    let n = parties(book);
     let mut next = at;
-    let mut party = 0;
-    while party < n {
+    for party in 0..parties(book) {
         next = write_party(book, since, partners, party, out, next);
-        party += 1;
     }
     next
 }
@@ -173,11 +152,11 @@ fn summarize_accepted(book: &[u32], since: &ByRow, partners: &ByRow, out: &mut [
     let l = steps(book);
     let n = size(q, t);
     if out.len() < n {
-        return Answer::Refused(Refusal::Room(n));
+        return Err(Refusal::Room(n));
     }
-    let next = put3(out, 0, q, t, l);
+    let next = put_each(out, 0, [q, t, l]);
     write_parties(book, since, partners, out, next);
-    Answer::Written(n)
+    Ok(n)
 }
 
 // The summary of any words into any lent buffer, or the first refusal that applies.
@@ -185,13 +164,6 @@ pub fn write_summary(book: &[u32], out: &mut [u32]) -> Answer
     ensures { came result out.new ≡ summarized book.now out.old }
 {
     let all = survey(book);
-    let reading = all.reading;
-    match reading {
-        Reading::Refused(why) => Answer::Refused(why),
-        Reading::Accepted => {
-            let since = all.since;
-            let partners = all.partners;
-            summarize_accepted(book, &since, &partners, out)
-        }
-    }
+    all.reading?;
+    summarize_accepted(book, &all.since, &all.partners, out)
 }

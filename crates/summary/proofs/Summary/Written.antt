@@ -1,7 +1,7 @@
 -- Laws of writing a summary: refusals 1 to 10 and 13 are the book's, then 12; a refusal changes no lent word; the summary is laid over the
 -- first words lent, and those past it stay, so that what was written answers as the full walk does; no two outcomes keep one promise. Assumes
 -- nothing.
-use Rattle.std.specs.Prelude.{ℕ, ◌+◌, ◌≤◌, ◌<◌, List, [], ◌∷◌, ◌++◌, ◌↔◌, ◌≡◌, refl, length, take}
+use Rattle.std.specs.Prelude.{ℕ, ◌+◌, ◌≤◌, ◌<◌, List, [], ◌∷◌, ◌++◌, ◌↔◌, ◌≡◌, refl, length, take, Ok, Err}
 use Rattle.std.proofs.Common.{sym, ap₂, ◌∙◌, arith}
 use Rattle.std.proofs.Math.Path.{ap}
 use Rattle.std.proofs.Math.ListN.{drop}
@@ -12,15 +12,12 @@ use Rattle.book.specs.Layout.{rows, parties, steps}
 use Rattle.book.specs.Said.{Said, said, reading_says}
 use Rattle.book.specs.declared.Refusal.{Refusal}
 use Rattle.book.specs.declared.Refusal.TheVariants.{Room}
-use Rattle.book.specs.declared.Reading.TheVariants as reading
 use Rattle.book.specs.Refusals.{first_of, verdict}
 use Rattle.book.specs.Valid.{Valid}
 use Rattle.translation.specs.Taken.{Taken, Barred}
-use Rattle.translation.specs.Outcome.{stop_line, room_line, acceptance, Outcome, came, Unplayable, Plays}
+use Rattle.translation.specs.Outcome.{stop_line, room_line, acceptance, Outcome, Answer, came, Unplayable, Plays}
 use Rattle.translation.specs.Outcome.Laws.{room-line, ends_in_room, room-exact, room_says, fits-exact, laid-keeps, laid-lays, laid-past, stop-line, stop-other, ten, ten-apart, ten-lines, reading-exact, book-first, book-came, came_refused, came-written, stop_line-10, stop_line-13, keep-plays, plays-keep}
 use Rattle.translation.specs.Outcome.Returned.{came-injective}
-use Rattle.translation.specs.declared.Answer.{Answer}
-use Rattle.translation.specs.declared.Answer.TheVariants.{Written, Refused}
 use Rattle.summary.specs.Summary.{holds, summary_words, summary, summary_says, summarized, asked}
 use Rattle.summary.proofs.Summary.Laws.{summary-length, summary-exact}
 
@@ -104,17 +101,17 @@ module _ (b out : List ℕ) where
       ap (λ (s : List ℕ). asked s p r t) written ∙ summary-exact b p r h l t m
 
   -- ---- what came of a call
-  pub summary-refused-came : (f : Refusal) → reading_says (reading.Refused f) ≡ acceptance b → came (Refused f) out ≡ summarized b out
+  pub summary-refused-came : (f : Refusal) → reading_says (Err f) ≡ acceptance b → came (Err f) out ≡ summarized b out
   unfolding summarized summary_says
   summary-refused-came f e = book-came b _ _ out (summary b) f e
 
-  pub summary-room-came : Plays b → length out < summary_words b → came (Refused (Room (summary_words b))) out ≡ summarized b out
+  pub summary-room-came : Plays b → length out < summary_words b → came (Err (Room (summary_words b))) out ≡ summarized b out
   unfolding summarized
   summary-room-came p h =
       came_refused (summary_says b out) out (summary b) (Room (summary_words b)) ((summary-exactly-12 (summary_words b ∷ [])).1 (p, h, refl))
 
   pub summary-written-came : Plays b → summary_words b ≤ length out → (new : List ℕ) → new ≡ sets out 0 (summary b)
-      → came (Written (summary_words b)) new ≡ summarized b out
+      → came (Ok (summary_words b)) new ≡ summarized b out
   unfolding summarized
   summary-written-came p h new e = came-written (summary_says b out) out (summary b) new (summary_words b) (summarized-says p h) e
 

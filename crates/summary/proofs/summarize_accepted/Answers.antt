@@ -1,25 +1,14 @@
 -- `summary::summarize_accepted` meets its contract: refusal 12, and then the summary. Assumes nothing.
-use Rattle.book.specs.Headed.Laws.{valid-headed}
 use Rattle.summary.proofs.Held.{summary-wrote, short-came, told-came}
 use Rattle.summary.proofs.summarize_accepted.Goals as goal
 
-pub parties-q-requires : goal.parties-q-requires
-parties-q-requires c = valid-headed _ c.requires.1.valid
-
-pub rows-t-requires : goal.rows-t-requires
-rows-t-requires c = valid-headed _ c.requires.1.valid
-
-pub steps-l-requires : goal.steps-l-requires
-steps-l-requires c = valid-headed _ c.requires.1.valid
-
 -- fewer words are lent than the summary has
 pub returns-then-out-n : goal.returns-then-out-n
-returns-then-out-n c = short-came c.args.out.now c.requires.0 c.parties-q.ensures c.rows-t.ensures
-    c.size-n.ensures c.if-out-n.true
+returns-then-out-n c =
+    short-came c.args.out.now c.requires.0 c.parties-q.ensures c.rows-t.ensures c.size-n.ensures c.if-out-n.true
 
 -- the counts in front, and the parties' words behind them
 pub returns : goal.returns
-returns c = told-came c.args.out.now c.requires.0 c.parties-q.ensures c.rows-t.ensures
-    c.size-n.ensures c.if-out-n.false
-    (summary-wrote c.args.book.now c.parties-q.ensures c.rows-t.ensures
-    c.steps-l.ensures c.put3-next.ensures c.write_parties.ensures)
+returns c =
+    told-came c.args.out.now c.requires.0 c.parties-q.ensures c.rows-t.ensures c.size-n.ensures c.if-out-n.false
+    (summary-wrote c.args.book.now c.parties-q.ensures c.rows-t.ensures c.steps-l.ensures c.put_each-next.ensures c.write_parties.ensures)

@@ -1,22 +1,22 @@
 // Whether a multiset of effects is what is left of another when some are taken away, with others added: by counting.
 #![tactic(auto)]
 
-ghost use Rattle.std.specs.Prelude.{◌≡◌, ◌+◌, ◌-◌, ◌≤◌, ◌<◌, eqb, length, drop, get_or};
+ghost use Rattle.std.specs.Prelude.{◌≡◌, ◌+◌, ◌≤◌, ◌<◌, length, drop};
 ghost use Rattle.std.specs.List.{list_all};
 ghost use Rattle.std.proofs.Math.Option.{some};
-ghost use Rattle.words.specs.Choice.{pick};
 ghost use Rattle.typing.specs.Term.{same_effect};
 ghost use Rattle.typing.specs.Bag.{bag, plus, minus, count};
 ghost use Rattle.typing.specs.Types.{same_effects};
-ghost use Rattle.typing.specs.Reading.{term, effect_of, effects};
+ghost use Rattle.typing.specs.Reading.{term, effects};
 ghost use Rattle.spans.specs.Behind.{At, rest_of};
 ghost use Rattle.alike.specs.Same.Each.{EffectAt};
-ghost use Rattle.alike.specs.Same.{term_in, effect_in, effects_in, test};
+ghost use Rattle.alike.specs.Same.{term_in, effect_in, test};
 ghost use Rattle.balance.specs.Sum.{effect_by, list_of, There, level_at};
 
 use alike::{count_where, every_effect, same_term};
 
 // Effects in the words: one, by its word and its term's place and end; or several, by their place, their number and their end.
+// Kept: an effect's kind is its word, 1 or 2, as callers read it and as it is compared with those in the words.
 #[derive(Clone, Copy)]
 pub enum Effects {
     One(u32, usize, usize),

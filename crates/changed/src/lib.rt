@@ -1,17 +1,16 @@
 // Whether a type is another one with a name bound, or with a term put for its own variable.
 #![tactic(auto)]
 
-ghost use Rattle.std.specs.Prelude.{◌≡◌, [], ◌∷◌, ◌+◌, ◌-◌, ◌≤◌, ◌<◌, length, drop, get_or};
+ghost use Rattle.std.specs.Prelude.{◌≡◌, ◌+◌, ◌≤◌, ◌<◌, length, drop, get_or};
 ghost use Rattle.std.proofs.Math.Option.{some};
 ghost use Rattle.typing.specs.Term.{same_term, same_effect, change_term, change_effect, term_words};
 ghost use Rattle.typing.specs.Bag.{bag, count};
 ghost use Rattle.typing.specs.Types.{same_effects, same_type, change_type};
-ghost use Rattle.typing.specs.Reading.{term, effect_of, effects, type_at};
-ghost use Rattle.spans.specs.Behind.{At, rest_of, term_turn, type_own};
+ghost use Rattle.typing.specs.Reading.{term, effects, type_at};
+ghost use Rattle.spans.specs.Behind.{At, rest_of, term_turn};
 ghost use Rattle.alike.specs.Same.Each.{EffectAt};
-ghost use Rattle.alike.specs.Same.{term_in, effect_in, effects_in, type_in, own_effects, test};
+ghost use Rattle.alike.specs.Same.{term_in, effect_in, effects_in, type_in, test};
 ghost use Rattle.changed.specs.Put.{Stood, There, change_by, leaf_term, step_words, changed_effects};
-ghost use Rattle.changed.specs.Put.Types.{changed_own};
 
 use alike::{count_effect, count_where, every_effect, same_type_where};
 use spans::{term_own, term_parts};

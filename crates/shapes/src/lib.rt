@@ -3,17 +3,14 @@
 // thing that is there ends.
 #![tactic(auto)]
 
-ghost use Rattle.std.specs.Prelude.{◌≡◌, ◌∷◌, ◌+◌, ◌-◌, ◌≤◌, ◌<◌, length, drop, get_or};
+ghost use Rattle.std.specs.Prelude.{◌≡◌, ◌∷◌, ◌+◌, ◌≤◌, drop};
 ghost use Rattle.std.proofs.Math.Option.{some};
-ghost use Rattle.typing.specs.Term.{same_term};
 ghost use Rattle.typing.specs.Bag.{bag};
 ghost use Rattle.typing.specs.Types.{Ty, same_type, same_environment, ◌⦂◌};
-ghost use Rattle.typing.specs.Process.{same_process};
 ghost use Rattle.typing.specs.Rule.{binding};
-ghost use Rattle.typing.specs.Reading.{term, effects, type_at, environment_at, process_at};
+ghost use Rattle.typing.specs.Reading.{effects, type_at, environment_at};
 ghost use Rattle.spans.specs.Behind.{At, rest_of};
-ghost use Rattle.alike.specs.Same.{term_in, effects_in, type_in, environment_in, test};
-ghost use Rattle.parts.specs.Place.{process_in};
+ghost use Rattle.alike.specs.Same.{effects_in, type_in, environment_in, test};
 ghost use Rattle.shapes.specs.Shape.{Reads, made_type, There, wrapped};
 
 use alike::same_bag;
@@ -51,6 +48,7 @@ pub fn same_at<T: Same>(w: &[u32], a: usize, b: usize) -> bool
 }
 
 // The type at a is the one at b, in brackets behind the word c: 3 is ch, 4 is symkey.
+// Kept: the kind is the word itself, which the word at a is compared with; an enum would be turned back into it.
 fn wraps(w: &[u32], a: usize, c: u32, b: usize) -> bool
     requires { Reads type_at w.now a × Reads type_at w.now b × (3 ≤ c) × (c ≤ 4) }
     ensures { result ≡ test (same_type (type_in w.now a) (wrapped c (type_in w.now b))) }

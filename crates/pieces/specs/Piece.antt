@@ -4,7 +4,7 @@ use Rattle.std.proofs.Math.Option.{some}
 use Rattle.typing.specs.Bag.{bag}
 use Rattle.typing.specs.Process.{Process}
 use Rattle.typing.specs.Reading.{term, effects, type_at, process_at}
-use Rattle.spans.specs.Behind.{rest_of, Ends}
+use Rattle.spans.specs.Behind.{rest_of, At}
 use Rattle.alike.specs.Same.{term_in, effects_in, type_in}
 use Rattle.parts.specs.Own.{names_of, terms_of, types_of}
 use Rattle.parts.specs.Place.{process_in}
@@ -46,8 +46,8 @@ pub record Pieced (w : List ℕ) (s : ℕ) (r : Pieces) : Type 0 where
   pub inside : s < length w
   pub names : s + names_of (get_or w s 0) < length w
   pub one : (get_or w s 0 ≡ 4 → ⊥) → (get_or w s 0 ≡ 5 → ⊥) → (process_in w s ≡ built w s r (get_or w s 0)) × Reads process_at w r.p
-  pub two : get_or w s 0 ≡ 4 → (q : ℕ) → Ends w r.p (rest_of (process_at (drop r.p w))) q
-      → (process_in w s ≡ Process.parallel (process_in w r.p) (process_in w q)) × Reads process_at w r.p × Reads process_at w q
+  pub two : get_or w s 0 ≡ 4 → Reads process_at w r.p × ((q : ℕ) → At w r.p (rest_of (process_at (drop r.p w))) q
+      → (process_in w s ≡ Process.parallel (process_in w r.p) (process_in w q)) × Reads process_at w q)
   pub parallel : get_or w s 0 ≡ 4 → (P : Process) × (Q : Process) × (process_in w s ≡ Process.parallel P Q)
   pub stop : get_or w s 0 ≡ 5 → process_in w s ≡ Process.stop
   pub first-term : 1 ≤ terms_of (get_or w s 0) → Reads term w r.m

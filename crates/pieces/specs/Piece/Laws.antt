@@ -2,10 +2,11 @@
 use Prim.Native.Nat.{ℕ, zero, suc, ◌+◌, ◌≤◌, ◌<◌}
 use mathlib.Core.List.{List, [], ◌∷◌}
 use Rattle.std.proofs.Common.{◌∙◌, arith, drop_of_length-le, drop-cons, eq-eqb, ne_eqb}
-use Rattle.std.proofs.Math.Option.{none, some}
+use Rattle.std.proofs.Math.Option.{Option, none, some}
 use Rattle.std.proofs.Math.Path.{◌≡◌, refl, sym, ap}
 use Rattle.std.proofs.Math.Decide.{dec_lt}
-use Rattle.std.specs.Prelude.{eqb, length, get_or}
+use Rattle.std.specs.Prelude.{eqb, length, get_or, Option as Answer, None, Some}
+use Rattle.std.specs.Option.{unwrap_or}
 use Rattle.std.proofs.Math.ListN.{drop}
 use Rattle.words.specs.Choice.{pick, then}
 use Rattle.words.specs.Choice.Laws.{pick_true, pick-false}
@@ -16,8 +17,9 @@ use Rattle.typing.specs.Types.{Ty, same_type}
 use Rattle.typing.specs.Process.{Process, same_process}
 use Rattle.typing.specs.Reading.{Read, ahead, after, joined, altered, only, term, type_at, several, processes, process_at}
 use Rattle.typing.proofs.Derivation.Laws.{then-goes}
-use Rattle.spans.specs.Behind.{rest_of, Ends, process_parts}
-use Rattle.spans.specs.Behind.Processes.{parts-other, parts-parallel, parts-stop}
+use Rattle.spans.specs.Behind.{rest_of, At, Ends, process_parts}
+use Rattle.spans.specs.Behind.Laws.{ends_at}
+use Rattle.spans.specs.Behind.Processes.{parts-one, parts-none, parts-two}
 use Rattle.alike.specs.Same.{value_or, term_in, effects_in, type_in}
 use Rattle.parts.specs.Own.{Own, names_of, terms_of, types_of, own_of, fore, next, around_by, around, formed}
 use Rattle.parts.specs.Own.Laws.{several-own}
@@ -27,9 +29,14 @@ use Rattle.parts.specs.Place.Several.{first_of}
 use Rattle.parts.specs.Place.Lists.{list_inside, list-reads, list-value}
 use Rattle.parts.specs.declared.Parts.{Parts}
 use Rattle.shapes.specs.Shape.{Reads}
-use Rattle.shapes.specs.Shape.Laws.{reads_at}
 use Rattle.pieces.specs.Piece.{built, Pieced}
 use Rattle.pieces.specs.declared.Pieces.{Pieces}
+
+-- ---- the place behind what is there
+pub found_at : (w : List ℕ) (a : ℕ) (o : Option (List ℕ)) (v : List ℕ) (r : Answer ℕ) (n d : ℕ) → Ends w a o r → n ≡ unwrap_or r d → o ≡ some v
+    → At w a o n
+found_at w a o v None n d h q e = absurd (let z : ◌≡◌ {A = ℕ} 0 1 = cc in omega arith)
+found_at w a o v (Some r) n d h q e = ends_at w a o (Some r) n h (ap Some (sym q))
 
 -- ---- the first and the second of what is read
 module _ {A : Type 0} (r : List ℕ → Read A) (d : A) (same : (x y : A) → Dec (x ≡ y)) (w : List ℕ) (a : ℕ) where
@@ -41,7 +48,7 @@ module _ {A : Type 0} (r : List ℕ → Read A) (d : A) (same : (x y : A) → De
       let (x, p, q, s) = first_of r d same k (drop a w) v e in
       (record { behind = x; reads = rest_some _ _ _ p }, ap (fore d) s)
 
-  some-second : (k : ℕ) (v : List ℕ) → 2 ≤ k → rest_of (several r k (drop a w)) ≡ some v → (e : ℕ) → Ends w a (rest_of (r (drop a w))) e
+  some-second : (k : ℕ) (v : List ℕ) → 2 ≤ k → rest_of (several r k (drop a w)) ≡ some v → (e : ℕ) → At w a (rest_of (r (drop a w))) e
       → Reads r w e × (next d (value_or [] (several r k (drop a w))) ≡ value_or d (r (drop e w)))
   unfolding next
   some-second zero v l h e f = absurd (omega arith)
@@ -50,7 +57,7 @@ module _ {A : Type 0} (r : List ℕ → Read A) (d : A) (same : (x y : A) → De
       let (x, p, q, s) = first_of r d same (suc k) (drop a w) v h in
       let (y, o, m, n) = first_of r d same k x v q in
       let there : Reads r w a = record { behind = x; reads = rest_some _ _ _ p } in
-      let z : some x ≡ some (drop e w) = sym there.reads ∙ (reads_at r w a e there f).rest in
+      let z : some x ≡ some (drop e w) = sym there.reads ∙ f.rest in
       let b : x ≡ drop e w = cc in (
         record { behind = y; reads = ap (λ (u : List ℕ). rest_of (r u)) (sym b) ∙ rest_some _ _ _ o },
         ap (next d) (s ∙ ap (λ (t : List A). value_or d (r (drop a w)) ∷ t) n) ∙ ap (λ (u : List ℕ). value_or d (r u)) b,
@@ -141,7 +148,7 @@ module _ (w : List ℕ) (s : ℕ) (t : Reads process_at w s) where
         × Reads process_at w r.next
     unfolding formed own_in process_in altered
     inner-one d e =
-        let one : process_parts (get_or w s 0) ≡ 1 = sym (parts-other (get_or w s 0) d e) in
+        let one : process_parts (get_or w s 0) ≡ 1 = sym (parts-one (get_or w s 0) d e) in
         let (p, q) = inner in
         let there = ap (λ (k : ℕ). rest_of (several process_at k (drop r.next w))) (sym one) ∙ p in
         let (x, a, b, c) = first-process 0 (drop r.next w) t.behind there in
@@ -152,35 +159,12 @@ module _ (w : List ℕ) (s : ℕ) (t : Reads process_at w s) where
         let g = c ∙ ap (λ (l : List Process). value_or Process.stop (process_at (drop r.next w)) ∷ l) (none_left x) in
         (heads (q ∙ f ∙ ap (altered (around o)) g), record { behind = x; reads = rest_some _ _ _ a })
 
-    -- two processes
-    inner-two : get_or w s 0 ≡ 4 → (q : ℕ) → Ends w r.next (rest_of (process_at (drop r.next w))) q
-        → (process_in w s ≡ Process.parallel (process_in w r.next) (process_in w q)) × Reads process_at w r.next × Reads process_at w q
+    -- two processes: the first, and the second in the words behind it
+    inner-both : get_or w s 0 ≡ 4 → (x : List ℕ) × (rest_of (process_at (drop r.next w)) ≡ some x) × (y : List ℕ) × (rest_of (process_at x) ≡ some y)
+        × (process_in w s ≡ Process.parallel (process_in w r.next) (value_or Process.stop (process_at x)))
     unfolding formed own_in process_in joined
-    inner-two d q ends =
-        let two : process_parts (get_or w s 0) ≡ 2 = sym (parts-parallel (get_or w s 0) d) in
-        let (p, h) = inner in
-        let there = ap (λ (k : ℕ). rest_of (several process_at k (drop r.next w))) (sym two) ∙ p in
-        let (x, a, b, c) = first-process 1 (drop r.next w) t.behind there in
-        let (y, e, f, g) = first-process 0 x t.behind b in
-        let first : Reads process_at w r.next = record { behind = x; reads = rest_some _ _ _ a } in
-        let z : some x ≡ some (drop q w) = sym first.reads ∙ (reads_at process_at w r.next q first ends).rest in
-        let is : x ≡ drop q w = cc in
-        let form : formed o (value_or [] (several process_at (process_parts (get_or w s 0)) (drop r.next w)))
-        ≡ joined Process.parallel (value_or [] (several process_at 2 (drop r.next w))) =
-        pick_true (eqb (get_or w s 0) 4) _ _ (eq-eqb (get_or w s 0) 4 d)
-        ∙ ap (λ (k : ℕ). joined Process.parallel (value_or [] (several process_at k (drop r.next w)))) two in
-        let list = c ∙ ap (λ (l : List Process). value_or Process.stop (process_at (drop r.next w)) ∷ l)
-        (g ∙ ap (λ (l : List Process). value_or Process.stop (process_at x) ∷ l) (none_left y)) in (
-          heads (h ∙ form ∙ ap (joined Process.parallel) list)
-              ∙ ap (λ (u : List ℕ). Process.parallel (process_in w r.next) (value_or Process.stop (process_at u))) is,
-          first,
-          record { behind = y; reads = ap (λ (u : List ℕ). rest_of (process_at u)) (sym is) ∙ rest_some _ _ _ e },
-        )
-
-    inner-parallel : get_or w s 0 ≡ 4 → (A : Process) × (B : Process) × (process_in w s ≡ Process.parallel A B)
-    unfolding formed own_in joined
-    inner-parallel d =
-        let two : process_parts (get_or w s 0) ≡ 2 = sym (parts-parallel (get_or w s 0) d) in
+    inner-both d =
+        let two : process_parts (get_or w s 0) ≡ 2 = sym (parts-two (get_or w s 0) d) in
         let (p, h) = inner in
         let there = ap (λ (k : ℕ). rest_of (several process_at k (drop r.next w))) (sym two) ∙ p in
         let (x, a, b, c) = first-process 1 (drop r.next w) t.behind there in
@@ -191,13 +175,32 @@ module _ (w : List ℕ) (s : ℕ) (t : Reads process_at w s) where
         ∙ ap (λ (k : ℕ). joined Process.parallel (value_or [] (several process_at k (drop r.next w)))) two in
         let list = c ∙ ap (λ (l : List Process). value_or Process.stop (process_at (drop r.next w)) ∷ l)
         (g ∙ ap (λ (l : List Process). value_or Process.stop (process_at x) ∷ l) (none_left y)) in
-        (_, _, heads (h ∙ form ∙ ap (joined Process.parallel) list))
+        (x, rest_some _ _ _ a, y, rest_some _ _ _ e, heads (h ∙ form ∙ ap (joined Process.parallel) list))
+
+    inner-two : get_or w s 0 ≡ 4 → Reads process_at w r.next × ((q : ℕ) → At w r.next (rest_of (process_at (drop r.next w))) q
+        → (process_in w s ≡ Process.parallel (process_in w r.next) (process_in w q)) × Reads process_at w q)
+    unfolding process_in
+    inner-two d =
+        let (x, a, y, e, is) = inner-both d in (
+          record { behind = x; reads = a },
+          λ q ends.
+              let z : some x ≡ some (drop q w) = sym a ∙ ends.rest in
+              let there : x ≡ drop q w = cc in (
+                is ∙ ap (λ (u : List ℕ). Process.parallel (process_in w r.next) (value_or Process.stop (process_at u))) there,
+                record { behind = y; reads = ap (λ (u : List ℕ). rest_of (process_at u)) (sym there) ∙ e },
+              ),
+        )
+
+    inner-parallel : get_or w s 0 ≡ 4 → (A : Process) × (B : Process) × (process_in w s ≡ Process.parallel A B)
+    inner-parallel d =
+        let (x, a, y, e, is) = inner-both d in
+        (_, _, is)
 
     -- STOP
     inner-stop : get_or w s 0 ≡ 5 → process_in w s ≡ Process.stop
     unfolding formed own_in
     inner-stop d =
-        let none_in : process_parts (get_or w s 0) ≡ 0 = sym (parts-stop (get_or w s 0) (λ e. omega arith) d) in
+        let none_in : process_parts (get_or w s 0) ≡ 0 = sym (parts-none (get_or w s 0) d) in
         let (p, h) = inner in
         let form : formed o (value_or [] (several process_at (process_parts (get_or w s 0)) (drop r.next w))) ≡ Process.stop ∷ [] =
         pick-false (eqb (get_or w s 0) 4) _ _ (ne_eqb (get_or w s 0) 4 (λ e. omega arith)) ∙ pick_true (eqb (get_or w s 0) 5) _ _ (eq-eqb (get_or w s 0) 5 d)
@@ -205,8 +208,8 @@ module _ (w : List ℕ) (s : ℕ) (t : Reads process_at w s) where
         ∙ ap (λ (l : List Process). Process.stop ∷ l) (none_left (drop r.next w)) in
         heads (h ∙ form)
 
-    module _ (n u k : ℕ) (tn : Ends w r.terms (rest_of (term (drop r.terms w))) n) (tu : Ends w r.types (rest_of (type_at (drop r.types w))) u)
-        (tk : get_or w s 0 ≡ 11 → k ≡ get_or w r.list 0) where
+    module _ (n u k : ℕ) (tn : Reads term w r.terms → At w r.terms (rest_of (term (drop r.terms w))) n)
+        (tu : Reads type_at w r.types → At w r.types (rest_of (type_at (drop r.types w))) u) (tk : get_or w s 0 ≡ 11 → k ≡ get_or w r.list 0) where
       abbrev R : Pieces
       R = record { m = r.terms; n = n; t = r.types; u = u; f = r.list + 1; k = k; p = r.next }
 
@@ -216,7 +219,7 @@ module _ (w : List ℕ) (s : ℕ) (t : Reads process_at w s) where
 
       is-n : 2 ≤ terms_of (get_or w s 0) → Reads term w n × (next (Term.bound 0) o.terms ≡ term_in w n)
       unfolding own_in list_in term_in
-      is-n l = some-second term (Term.bound 0) same_term w r.terms (terms_of (get_or w s 0)) _ l pl.terms.rest n tn
+      is-n l = some-second term (Term.bound 0) same_term w r.terms (terms_of (get_or w s 0)) _ l pl.terms.rest n (tn (is_m (omega arith)).0)
 
       is-t : 1 ≤ types_of (get_or w s 0) → Reads type_at w r.types × (fore Ty.Un o.types ≡ type_in w r.types)
       unfolding own_in list_in type_in
@@ -224,7 +227,7 @@ module _ (w : List ℕ) (s : ℕ) (t : Reads process_at w s) where
 
       is-u : 2 ≤ types_of (get_or w s 0) → Reads type_at w u × (next Ty.Un o.types ≡ type_in w u)
       unfolding own_in list_in type_in
-      is-u l = some-second type_at Ty.Un same_type w r.types (types_of (get_or w s 0)) _ l pl.types.rest u tu
+      is-u l = some-second type_at Ty.Un same_type w r.types (types_of (get_or w s 0)) _ l pl.types.rest u (tu (is-t (omega arith)).0)
 
       is_x : 1 ≤ names_of (get_or w s 0) → fore 0 o.names ≡ get_or w (s + 1) 0
       unfolding own_in
@@ -312,7 +315,7 @@ module _ (w : List ℕ) (s : ℕ) (t : Reads process_at w s) where
             one = λ d e.
                 let (p, q) = inner-one d e in
                 (p ∙ around-built d e, q);
-            two = λ d q z. inner-two d q z;
+            two = inner-two;
             parallel = inner-parallel;
             stop = inner-stop;
             first-term = λ l. (is_m l).0;

@@ -1,1 +1,3 @@
+pub mod Entries
+pub mod Premises
 pub mod Rules

@@ -1,34 +1,17 @@
 -- `ruling::by_cipher` meets its contract: the term by its parts, and the types. Assumes nothing.
-use mathlib.Core.Path.{sym, ◌∙◌}
-use native.Mathlib.Omega.{arith}
-use Rattle.ruling.specs.Line.{says_term}
-use Rattle.ruling.specs.Line.Terms.{term-inside, term-code, cipher-left, cipher-parts}
+use Rattle.std.proofs.Common.{arith}
+use Rattle.words.specs.Choice.{pick}
 use Rattle.shapes.specs.Shape.{made_type}
-use Rattle.ruling.specs.Rules.Terms.{cipher, cipher-other}
+use Rattle.ruling.specs.Line.{says_term}
+use Rattle.ruling.specs.Rules.{join}
+use Rattle.ruling.specs.Rules.Decide.{by-law}
+use Rattle.ruling.specs.Rules.Terms.{cipher}
 use Rattle.ruling.proofs.by_cipher.Goals as goal
 
-pub returns-then-word-ne3 : goal.returns-then-word-ne3
-unfolding says_term
-returns-then-word-ne3 c = cipher-other _ _ _ _
-    (λ e. c.if-word-ne3.true (c.word.ensures ∙ sym (term-code _ _ c.requires.0.term) ∙ e))
+pub returns-then-same_as : goal.returns-then-same_as
+unfolding says_term made_type join pick
+returns-then-same_as c = by-law (cipher _ _ _ _ _ _ _ _ _) (grind arith)
 
-pub overflow_add-left : goal.overflow_add-left
-overflow_add-left c = let l = term-inside _ _ c.requires.0.term in
-    omega arith
-
-pub term_premise-a-requires : goal.term_premise-a-requires
-term_premise-a-requires c = let word-is = sym c.word.ensures ∙ c.if-word-ne3.false in
-    (c.requires.0.environment, c.requires.1, cipher-left _ _ c.requires.0.term word-is)
-
-pub term_premise-b-requires : goal.term_premise-b-requires
-term_premise-b-requires c = let word-is = sym c.word.ensures ∙ c.if-word-ne3.false in
-    let right = (cipher-parts _ _ c.requires.0.term word-is _ c.term_end-right.ensures).0 in
-    (c.requires.0.environment, c.requires.2, right)
-
-pub returns : goal.returns
-unfolding says_term made_type
-returns c = let word-is = sym c.word.ensures ∙ c.if-word-ne3.false in
-    cipher _ _ _ _ _ _ _ _ _ _ _
-    (cipher-parts _ _ c.requires.0.term word-is _ c.term_end-right.ensures).1 _ _ _ _ _
-    c.term_premise-a.ensures c.term_premise-b.ensures
-    c.same_as-c.ensures c.same_as-d.ensures c.all4.ensures
+pub returns-else-same_as : goal.returns-else-same_as
+unfolding says_term made_type join pick
+returns-else-same_as c = by-law (cipher _ _ _ _ _ _ _ _ _) (grind arith)

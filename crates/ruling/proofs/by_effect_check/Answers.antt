@@ -1,21 +1,17 @@
--- `ruling::by_effect_check` meets its contract: the environments, and the sum of effects. Assumes nothing.
-use native.Mathlib.Omega.{arith}
-use Rattle.ruling.specs.Line.{says_effect, says_term}
+-- `ruling::by_effect_check` meets its contract: the effect with the word 2 is check, and the type. Assumes nothing.
+use Rattle.std.proofs.Common.{arith}
+use Rattle.words.specs.Choice.{pick}
+use Rattle.balance.specs.Sum.{effect_by}
 use Rattle.shapes.specs.Shape.{made_type}
-use Rattle.ruling.specs.Line.Laws.{none-there, one-there, with-check, stated}
+use Rattle.ruling.specs.Line.{says_effect, says_term}
+use Rattle.ruling.specs.Rules.Decide.{by-law}
 use Rattle.ruling.specs.Rules.First.{effect-check}
 use Rattle.ruling.proofs.by_effect_check.Goals as goal
 
-pub balanced-d-requires : goal.balanced-d-requires
-balanced-d-requires c = (
-  c.effects_behind-all.ensures,
-  c.effects_behind-own.ensures,
-  none-there _,
-  one-there _ _ _ _ (omega arith) (omega arith) c.requires.2.term c.term_end-end.ensures,
-)
+pub returns-then-effect_added : goal.returns-then-effect_added
+unfolding says_effect says_term made_type effect_by pick
+returns-then-effect_added c = by-law (effect-check _ _ _ _ _ _ _) (grind arith)
 
-pub returns : goal.returns
-unfolding says_effect says_term made_type
-returns c = effect-check _ _ _ _ _ _ _ _ _ _ _ _ c.environments_alike-a.ensures
-    c.environments_alike-b.ensures c.same_as-c.ensures
-    (stated _ _ _ _ _ _ (with-check _ _ _ _ _ _) _ c.balanced-d.ensures) c.all4.ensures
+pub returns-else-effect_added : goal.returns-else-effect_added
+unfolding says_effect says_term made_type effect_by pick
+returns-else-effect_added c = by-law (effect-check _ _ _ _ _ _ _) (grind arith)

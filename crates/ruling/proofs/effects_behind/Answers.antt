@@ -2,7 +2,8 @@
 use Prim.Native.Nat.{◌<◌}
 use lib.ListN.{length}
 use native.Mathlib.Omega.{arith}
-use Rattle.ruling.specs.Line.Laws.{behind-none, first-inside, behind-term, behind-others}
+use Rattle.spans.specs.Behind.Laws.{ends_some, ends_at}
+use Rattle.ruling.specs.Line.Laws.{behind-none, first-inside, term-reads, others, behind-others}
 use Rattle.ruling.proofs.effects_behind.Goals as goal
 use Rattle.ruling.proofs.effects_behind.Goals.{Else-k-eq0}
 
@@ -17,9 +18,12 @@ returns-then-k-eq0 c = search behind-none
 pub overflow_add-a : goal.overflow_add-a
 overflow_add-a c = omega (arith, inside (goal.at.overflow_add-a c).Else-k-eq0)
 
-pub effects_end-requires : goal.effects_end-requires
-effects_end-requires c = behind-term _ _ _ c.requires c.if-k-eq0.false _ c.term_end-e.ensures
+pub behind-e-requires : goal.behind-e-requires
+behind-e-requires c = term-reads _ _ _ c.requires c.if-k-eq0.false
+
+pub unwrap-requires : goal.unwrap-requires
+unwrap-requires c = ends_some _ _ _ _ _ c.effects_end.ensures (others _ _ _ c.requires c.if-k-eq0.false _ c.behind-e.ensures).reads
 
 pub returns : goal.returns
-returns c = behind-others _ _ _ c.requires c.if-k-eq0.false _ c.term_end-e.ensures _
-    c.effects_end.ensures
+returns c = behind-others _ _ _ c.requires c.if-k-eq0.false _ c.behind-e.ensures _
+    (ends_at _ _ _ _ _ c.effects_end.ensures c.unwrap.ensures)

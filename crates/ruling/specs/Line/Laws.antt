@@ -6,13 +6,13 @@ use Rattle.std.proofs.Math.Path.{sym, ap}
 use Rattle.std.proofs.Common.{◌∙◌, arith, eq-eqb, ne_eqb, length-drop, drop-cons, add-one}
 use Rattle.std.proofs.Math.Decide.{ℕ_discrete as dec_eq}
 use Rattle.std.proofs.Math.ListN.{drop}
-use Rattle.words.specs.Choice.{pick, then}
+use Rattle.words.specs.Choice.{then}
 use Rattle.words.specs.Choice.Laws.{pick_ind}
 use Rattle.typing.specs.Term.{Term, Effect, same_effect, effect_words}
 use Rattle.typing.specs.Bag.{up_to, insert, plus, minus, bag}
 use Rattle.typing.specs.Types.{same_effects}
 use Rattle.typing.specs.Reading.{Read, ahead, term, effect_of, effects, several}
-use Rattle.spans.specs.Behind.{rest_of, At, Ends}
+use Rattle.spans.specs.Behind.{rest_of, At}
 use Rattle.spans.specs.Behind.Laws.{rest-after}
 use Rattle.alike.specs.Same.{value_or, term_in, effects_in, test}
 use Rattle.alike.specs.Same.Laws.{test-yes, test-no}
@@ -21,7 +21,6 @@ use Rattle.parts.specs.Place.Several.{first_of}
 use Rattle.balance.specs.Sum.{effect_by, list_of, There}
 use Rattle.balance.specs.declared.Effects.TheVariants.{One, Many}
 use Rattle.shapes.specs.Shape.{Reads}
-use Rattle.shapes.specs.Shape.Laws.{reads_at}
 
 -- ---- the place behind effects
 pub behind-none : (w : List ℕ) (a k : ℕ) → k ≡ 0 → rest_of (effects k (drop a w)) ≡ some (drop a w)
@@ -97,23 +96,17 @@ module _ (w : List ℕ) (a k : ℕ) (t : Reads (effects k) w a) (d : k ≡ 0 →
       let z = ap length worded.2 in
       omega (arith, length-drop a w)
 
-  term-reads : Reads term w (a + 1)
+  pub term-reads : Reads term w (a + 1)
   term-reads =
       let c : get_or w a 0 ∷ drop (suc a) w ≡ worded.0 ∷ worded.1 = sym (drop-cons w a 0 first-inside) ∙ worded.2 in
       let e : drop (suc a) w ≡ worded.1 = cc in
       record { behind = head.0; reads = ap (λ (u : List ℕ). rest_of (term u)) (ap (λ (i : ℕ). drop i w) (add-one a) ∙ e) ∙ worded.3 }
 
-  module _ (e : ℕ) (q : Ends w (a + 1) (rest_of (term (drop (a + 1) w))) e) where
-    term-at : At w (a + 1) (rest_of (term (drop (a + 1) w))) e
-    term-at = reads_at term w (a + 1) e term-reads q
-
-    pub behind-term : (0 < e) × (e ≤ length w)
-    behind-term = (term-at.some_word, term-at.inside)
-
-    others : Reads (effects (k - 1)) w e
+  module _ (e : ℕ) (q : At w (a + 1) (rest_of (term (drop (a + 1) w))) e) where
+    pub others : Reads (effects (k - 1)) w e
     unfolding head term-reads
     others =
-        let z : some head.0 ≡ some (drop e w) = sym term-reads.reads ∙ term-at.rest in
+        let z : some head.0 ≡ some (drop e w) = sym term-reads.reads ∙ q.rest in
         let is : head.0 ≡ drop e w = cc in
         record {
           behind = t.behind;
@@ -121,30 +114,22 @@ module _ (w : List ℕ) (a k : ℕ) (t : Reads (effects k) w a) (d : k ≡ 0 →
               ∙ head.2;
         }
 
-    pub behind-others : (r : ℕ) → Ends w e (rest_of (effects (k - 1) (drop e w))) r → rest_of (effects k (drop a w)) ≡ some (drop r w)
+    pub behind-others : (r : ℕ) → At w e (rest_of (effects (k - 1) (drop e w))) r → rest_of (effects k (drop a w)) ≡ some (drop r w)
     unfolding others
-    behind-others r s = t.reads ∙ sym others.reads ∙ (reads_at (effects (k - 1)) w e r others s).rest
+    behind-others r s = t.reads ∙ sym others.reads ∙ s.rest
 
 -- ---- sums of effects, as the rules have them
 pub none-there : (w : List ℕ) → rest_of (effects 0 (drop 0 w)) ≡ some (drop 0 w)
 none-there w = behind-none w 0 0 refl
 
-pub one-there : (w : List ℕ) (c a e : ℕ) → 0 < c → c ≤ 2 → Reads term w a → Ends w a (rest_of (term (drop a w))) e → There w (One c a e)
-one-there w c a e l h t q = (l, h, reads_at term w a e t q)
+pub one-there : (w : List ℕ) (c a e : ℕ) → 0 < c → c ≤ 2 → At w a (rest_of (term (drop a w))) e → There w (One c a e)
+one-there w c a e l h q = (l, h, q)
 
-pub with-end : (w : List ℕ) (a e f k g : ℕ)
-    → plus (bag (list_of w (One 1 a e))) (minus (bag (list_of w (Many f k g))) (bag (list_of w (Many 0 0 0)))) ≡ insert (Effect.end (term_in w a))
-    (bag (effects_in w f k))
-unfolding list_of effect_by pick bag plus insert minus effects_in effects value_or
-with-end w a e f k g = refl
+pub with-one : (w : List ℕ) (es : List Effect) (c a e : ℕ) → plus (bag (list_of w (One c a e))) (minus es (bag (list_of w (Many 0 0 0))))
+    ≡ insert (effect_by c (term_in w a)) es
+unfolding list_of bag plus insert minus effects_in effects value_or
+with-one w es c a e = refl
 
-pub with-check : (w : List ℕ) (a e f k g : ℕ)
-    → plus (bag (list_of w (One 2 a e))) (minus (bag (list_of w (Many f k g))) (bag (list_of w (Many 0 0 0)))) ≡ insert (Effect.check (term_in w a))
-    (bag (effects_in w f k))
-unfolding list_of effect_by pick bag plus insert minus effects_in effects value_or
-with-check w a e f k g = refl
-
-pub stated : (w : List ℕ) (f k g : ℕ) (l m : List Effect) → l ≡ m → (b : Bool) → b ≡ test (same_effects (bag (list_of w (Many f k g))) l)
-    → b ≡ test (same_effects (bag (effects_in w f k)) m)
-unfolding list_of
-stated w f k g l m e b d = d ∙ ap (λ (x : List Effect). test (same_effects (bag (effects_in w f k)) x)) e
+-- one multiset in place of another
+pub restates : {b : Bool} {l m : List Effect} (es : List Effect) → b ≡ test (same_effects es l) → l ≡ m → b ≡ test (same_effects es m)
+restates es d e = d ∙ ap (λ (x : List Effect). test (same_effects es x)) e

@@ -6,14 +6,14 @@ use Rattle.std.proofs.Math.Path.{◌≡◌, sym, ap}
 use Rattle.std.proofs.Common.{◌∙◌, arith, add-one, drop_of_length-le, drop-cons}
 use Rattle.std.proofs.Math.Decide.{dec_lt}
 use Rattle.std.proofs.Math.ListN.{drop}
-use Rattle.words.specs.Choice.{then}
+use Rattle.words.specs.Choice.{pick, then}
 use Rattle.typing.specs.Term.{Term}
 use Rattle.typing.specs.Reading.{Read, ahead, joined, after, only, terms, term, several}
 use Rattle.typing.specs.Reading.Laws.{two_of, two-joined, some-joined}
-use Rattle.spans.specs.Behind.{rest_of, Ends}
+use Rattle.spans.specs.Behind.{rest_of, At}
 use Rattle.alike.specs.Same.{value_or, term_in}
 use Rattle.shapes.specs.Shape.{Reads}
-use Rattle.shapes.specs.Shape.Laws.{reads_at}
+use Rattle.ruling.specs.Rules.{join}
 
 -- ---- several terms are read one by one
 more : ℕ → Term × List ℕ → Read (List Term)
@@ -88,6 +88,23 @@ code_of (Term.pair M N) = 2
 code_of (Term.cipher M N) = 3
 code_of (Term.bound k) = 4
 
+-- ---- a term that is made of two, by its word
+term-join : (c : ℕ) → 2 ≤ c → c ≤ 3 → (u : List ℕ) → term (c ∷ u) ≡ two_of term (join c) u
+unfolding join pick
+term-join zero l h = absurd (omega arith)
+term-join (suc zero) l h = absurd (omega arith)
+term-join (suc (suc zero)) l h = term-pair
+term-join (suc (suc (suc zero))) l h = term-cipher
+term-join (suc (suc (suc (suc c)))) l h = absurd (omega arith)
+
+pub join-code : (c : ℕ) (M N : Term) → 2 ≤ c → c ≤ 3 → code_of (join c M N) ≡ c
+unfolding join pick
+join-code zero M N l h = absurd (omega arith)
+join-code (suc zero) M N l h = absurd (omega arith)
+join-code (suc (suc zero)) M N l h = refl
+join-code (suc (suc (suc zero))) M N l h = refl
+join-code (suc (suc (suc (suc c)))) M N l h = absurd (omega arith)
+
 code-from : (c : ℕ) (u v : List ℕ) → rest_of (term (c ∷ u)) ≡ some v → code_of (value_or (Term.bound 0) (term (c ∷ u))) ≡ c
 unfolding term terms rest_of only then value_or ahead
 code-from zero u v e = absurd (let z : ◌≡◌ {A = ℕ} 0 1 = cc in omega arith)
@@ -161,29 +178,21 @@ module _ (w : List ℕ) (s : ℕ) (t : Reads term w s) where
     first_reads : Reads term w (s + 1)
     first_reads = record { behind = (parts-by c f g e).0; reads = (parts-by c f g e).1 }
 
-    module _ (r : ℕ) (q : Ends w (s + 1) (rest_of (term (drop (s + 1) w))) r) where
+    module _ (r : ℕ) (q : At w (s + 1) (rest_of (term (drop (s + 1) w))) r) where
       both-parts : Reads term w r × (term_in w s ≡ f (term_in w (s + 1)) (term_in w r))
       unfolding term_in first_reads
       both-parts =
           let (x, p, m, o) = parts-by c f g e in
-          let z : some x ≡ some (drop r w) = sym p ∙ (reads_at term w (s + 1) r first_reads q).rest in
+          let z : some x ≡ some (drop r w) = sym p ∙ q.rest in
           let is : x ≡ drop r w = cc in (
             record { behind = t.behind; reads = ap (λ (u : List ℕ). rest_of (term u)) (sym is) ∙ m },
             o ∙ ap (λ (u : List ℕ). f (term_in w (s + 1)) (value_or (Term.bound 0) (term u))) is,
           )
 
-  module _ (e : get_or w s 0 ≡ 2) where
-    pub pair_left : Reads term w (s + 1)
-    pair_left = first_reads 2 Term.pair term-pair e
+  module _ (c : ℕ) (l : 2 ≤ c) (h : c ≤ 3) (e : get_or w s 0 ≡ c) where
+    pub join-left : Reads term w (s + 1)
+    join-left = first_reads c (join c) (term-join c l h) e
 
-    pub pair_parts : (r : ℕ) → Ends w (s + 1) (rest_of (term (drop (s + 1) w))) r → Reads term w r
-        × (term_in w s ≡ Term.pair (term_in w (s + 1)) (term_in w r))
-    pair_parts r q = both-parts 2 Term.pair term-pair e r q
-
-  module _ (e : get_or w s 0 ≡ 3) where
-    pub cipher-left : Reads term w (s + 1)
-    cipher-left = first_reads 3 Term.cipher term-cipher e
-
-    pub cipher-parts : (r : ℕ) → Ends w (s + 1) (rest_of (term (drop (s + 1) w))) r
-        → Reads term w r × (term_in w s ≡ Term.cipher (term_in w (s + 1)) (term_in w r))
-    cipher-parts r q = both-parts 3 Term.cipher term-cipher e r q
+    pub join-parts : (r : ℕ) → At w (s + 1) (rest_of (term (drop (s + 1) w))) r → Reads term w r
+        × (term_in w s ≡ join c (term_in w (s + 1)) (term_in w r))
+    join-parts r q = both-parts c (join c) (term-join c l h) e r q

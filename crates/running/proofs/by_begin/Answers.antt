@@ -1,61 +1,8 @@
--- `running::by_begin` meets its contract: the process by its pieces, and its premises. Assumes nothing.
-use borrow.Author.Rules.{rules}
-use native.Mathlib.Omega.{arith}
-use Rattle.ruling.specs.Line.{says_process}
-use Rattle.ruling.specs.Line.Laws.{none-there, stated}
-use Rattle.running.specs.Rules.Sums.{less-end}
-use Rattle.typing.specs.Reading.{term}
-use Rattle.shapes.specs.Shape.Laws.{reads_at}
-use Rattle.running.specs.Rules.Laws.{begin, begin-other}
-use Rattle.running.specs.Rules.Pieces.{BeginAt, begin-at, other_word}
+-- `running::by_begin` meets its contract: by the word, begin. Assumes nothing.
+use Rattle.words.specs.Choice.{pick}
+use Rattle.running.specs.Rules.{label_rule}
 use Rattle.running.proofs.by_begin.Goals as goal
-use Rattle.running.proofs.by_begin.Goals.{Else-c-ne9}
-
--- the process by its pieces
-module _ (c : Else-c-ne9) where
-  pieces : BeginAt c.args.w.now c.args.i.s c.pieces_of-p.result
-  pieces = search begin-at
-
-pub word-c-requires : goal.word-c-requires
-unfolding says_process
-word-c-requires c = search rules
-
-pub pieces_of-p-requires : goal.pieces_of-p-requires
-unfolding says_process
-pieces_of-p-requires c = search rules
-
-pub returns-then-c-ne9 : goal.returns-then-c-ne9
-unfolding says_process
-returns-then-c-ne9 c = search (begin-other, other_word)
-
-pub term_end-end-requires : goal.term_end-end-requires
-unfolding says_process
-term_end-end-requires c = search rules
-
-pub effects_behind-all-requires : goal.effects_behind-all-requires
-unfolding says_process
-effects_behind-all-requires c = search rules
-
-pub effects_behind-own-requires : goal.effects_behind-own-requires
-unfolding says_process
-effects_behind-own-requires c = search rules
-
-pub process_premise-a-requires : goal.process_premise-a-requires
-unfolding says_process
-process_premise-a-requires c = let made = pieces (goal.at.process_premise-a-requires c).Else-c-ne9 in search rules
-
-pub balanced-b-requires : goal.balanced-b-requires
-balanced-b-requires c = let made = pieces (goal.at.balanced-b-requires c).Else-c-ne9 in
-    (search rules, search rules, (omega arith, omega arith, search (reads_at term)), none-there _)
-
-pub term_closed-d-requires : goal.term_closed-d-requires
-unfolding says_process
-term_closed-d-requires c = let made = pieces (goal.at.term_closed-d-requires c).Else-c-ne9 in search (reads_at term)
-
-pub all3-requires : goal.all3-requires
-unfolding says_process
-all3-requires c = search rules
 
 pub returns : goal.returns
-unfolding says_process
-returns c = let made = pieces (goal.at.returns c).Else-c-ne9 in search (begin, stated, less-end)
+unfolding label_rule pick
+returns c = c.by_label.ensures

@@ -1,76 +1,26 @@
--- `running::by_cast` meets its contract: the process by its pieces, and its premises. Assumes nothing.
-use borrow.Author.Rules.{rules}
-use native.Mathlib.Omega.{arith}
-use Rattle.ruling.specs.Line.{says_process, says_term}
+-- `running::by_cast` meets its contract: the process by its pieces, its premises, and the sum of effects. Assumes nothing.
+use Rattle.std.proofs.Common.{arith}
 use Rattle.shapes.specs.Shape.{made_type}
-use Rattle.ruling.specs.Line.Laws.{none-there, stated}
+use Rattle.ruling.specs.Line.{says_process, says_term}
+use Rattle.ruling.specs.Line.Laws.{none-there, restates}
+use Rattle.ruling.specs.Rules.Decide.{by-law}
+use Rattle.running.specs.Rules.{rule_code}
 use Rattle.running.specs.Rules.Sums.{sum-two}
-use Rattle.running.specs.Rules.Laws.{cast, cast-other}
-use Rattle.running.specs.Rules.Pieces.{CastAt, cast-at, other_word}
+use Rattle.running.specs.Rules.Laws.{cast, other}
 use Rattle.running.proofs.by_cast.Goals as goal
-use Rattle.running.proofs.by_cast.Goals.{After-word-x}
 
--- the process by its pieces
-module _ (c : After-word-x) where
-  pieces : CastAt c.args.w.now c.args.i.s c.pieces_of-p.result c.word-x.result
-  pieces = search cast-at
+pub returns-in_default : goal.returns-in_default
+unfolding rule_code says_process
+returns-in_default c = other _ _ _ _ _ c.in_default.ensures.1
 
-pub word-c-requires : goal.word-c-requires
+pub balanced-requires : goal.balanced-requires
+balanced-requires c = (c.effects_at-all.ensures.0, c.effects_at-cast.ensures.0, none-there _, c.effects_at-own.ensures.0)
+
+pub returns-then-fresh : goal.returns-then-fresh
 unfolding says_process says_term made_type
-word-c-requires c = search rules
+returns-then-fresh c = let sum = rw (c.effects_at-all.ensures.1, c.effects_at-own.ensures.1, c.effects_at-cast.ensures.1) at (restates _ c.balanced.ensures (sum-two _ _ _)) in
+    by-law (cast _ _ _ _ _ _ _ _ _ _ _ _ _ c.in-Some.ensures.1.is) (grind arith)
 
-pub pieces_of-p-requires : goal.pieces_of-p-requires
+pub returns-else-fresh : goal.returns-else-fresh
 unfolding says_process says_term made_type
-pieces_of-p-requires c = search rules
-
-pub returns-then-c-ne11 : goal.returns-then-c-ne11
-unfolding says_process says_term made_type
-returns-then-c-ne11 c = search (cast-other, other_word)
-
-pub overflow_add-i : goal.overflow_add-i
-unfolding says_process says_term made_type
-overflow_add-i c = omega arith
-
-pub word-x-requires : goal.word-x-requires
-unfolding says_process says_term made_type
-word-x-requires c = search rules
-
-pub effects_behind-all-requires : goal.effects_behind-all-requires
-unfolding says_process says_term made_type
-effects_behind-all-requires c = search rules
-
-pub effects_behind-own-requires : goal.effects_behind-own-requires
-unfolding says_process says_term made_type
-effects_behind-own-requires c = search rules
-
-pub effects_behind-cast-requires : goal.effects_behind-cast-requires
-unfolding says_process says_term made_type
-effects_behind-cast-requires c = (pieces (goal.at.effects_behind-cast-requires c).After-word-x).f
-
-pub term_premise-a-requires : goal.term_premise-a-requires
-unfolding says_process says_term made_type
-term_premise-a-requires c = let made = pieces (goal.at.term_premise-a-requires c).After-word-x in search rules
-
-pub entered-b-requires : goal.entered-b-requires
-unfolding says_process says_term made_type
-entered-b-requires c = let made = pieces (goal.at.entered-b-requires c).After-word-x in search rules
-
-pub same_as-d-requires : goal.same_as-d-requires
-unfolding says_process says_term made_type
-same_as-d-requires c = search rules
-
-pub balanced-e-requires : goal.balanced-e-requires
-unfolding says_process says_term made_type
-balanced-e-requires c = (search rules, search rules, none-there _, search rules)
-
-pub fresh-f-requires : goal.fresh-f-requires
-unfolding says_process says_term made_type
-fresh-f-requires c = search rules
-
-pub all5-requires : goal.all5-requires
-unfolding says_process says_term made_type
-all5-requires c = search rules
-
-pub returns : goal.returns
-unfolding says_process says_term made_type
-returns c = let made = pieces (goal.at.returns c).After-word-x in search (cast, stated, sum-two)
+returns-else-fresh c = by-law (cast _ _ _ _ _ _ _ _ _ _ _ _ _ c.in-Some.ensures.1.is) (grind arith)

@@ -1,70 +1,21 @@
 -- `running::by_decrypt` meets its contract: the process by its pieces, and its premises. Assumes nothing.
-use borrow.Author.Rules.{rules}
-use native.Mathlib.Omega.{arith}
+use Rattle.std.proofs.Common.{arith}
 use Rattle.ruling.specs.Line.{says_process, says_term}
 use Rattle.shapes.specs.Shape.{made_type}
-use Rattle.running.specs.Rules.Laws.{decrypt, decrypt-other}
-use Rattle.running.specs.Rules.Pieces.{DecryptAt, decrypt-at, other_word}
+use Rattle.words.specs.Choice.{pick}
+use Rattle.ruling.specs.Rules.Decide.{by-law}
+use Rattle.running.specs.Rules.{rule_code, open_process}
+use Rattle.running.specs.Rules.Laws.{decrypt, other}
 use Rattle.running.proofs.by_decrypt.Goals as goal
-use Rattle.running.proofs.by_decrypt.Goals.{After-word-x}
 
--- the process by its pieces
-module _ (c : After-word-x) where
-  pieces : DecryptAt c.args.w.now c.args.i.s c.pieces_of-p.result c.word-x.result
-  pieces = search decrypt-at
+pub returns-in_default : goal.returns-in_default
+unfolding rule_code says_process
+returns-in_default c = other _ _ _ _ _ c.in_default.ensures.1
 
-pub word-c-requires : goal.word-c-requires
-unfolding says_process says_term made_type
-word-c-requires c = search rules
+pub returns-then-same_as : goal.returns-then-same_as
+unfolding says_process says_term made_type open_process pick
+returns-then-same_as c = by-law (decrypt _ _ _ _ _ _ _ _ _ _ _ _ _ _ _ _ _ c.in-Some.ensures.1.is) (grind arith)
 
-pub pieces_of-p-requires : goal.pieces_of-p-requires
-unfolding says_process says_term made_type
-pieces_of-p-requires c = search rules
-
-pub returns-then-c-ne8 : goal.returns-then-c-ne8
-unfolding says_process says_term made_type
-returns-then-c-ne8 c = search (decrypt-other, other_word)
-
-pub overflow_add-i : goal.overflow_add-i
-unfolding says_process says_term made_type
-overflow_add-i c = omega arith
-
-pub word-x-requires : goal.word-x-requires
-unfolding says_process says_term made_type
-word-x-requires c = search rules
-
-pub term_premise-a-requires : goal.term_premise-a-requires
-unfolding says_process says_term made_type
-term_premise-a-requires c = let made = pieces (goal.at.term_premise-a-requires c).After-word-x in search rules
-
-pub term_premise-b-requires : goal.term_premise-b-requires
-unfolding says_process says_term made_type
-term_premise-b-requires c = let made = pieces (goal.at.term_premise-b-requires c).After-word-x in search rules
-
-pub entered-d-requires : goal.entered-d-requires
-unfolding says_process says_term made_type
-entered-d-requires c = let made = pieces (goal.at.entered-d-requires c).After-word-x in search rules
-
-pub same_as-e-requires : goal.same_as-e-requires
-unfolding says_process says_term made_type
-same_as-e-requires c = search rules
-
-pub same_as-f-requires : goal.same_as-f-requires
-unfolding says_process says_term made_type
-same_as-f-requires c = let made = pieces (goal.at.same_as-f-requires c).After-word-x in search rules
-
-pub unchanged-g-requires : goal.unchanged-g-requires
-unfolding says_process says_term made_type
-unchanged-g-requires c = search rules
-
-pub fresh-h-requires : goal.fresh-h-requires
-unfolding says_process says_term made_type
-fresh-h-requires c = search rules
-
-pub all7-requires : goal.all7-requires
-unfolding says_process says_term made_type
-all7-requires c = search rules
-
-pub returns : goal.returns
-unfolding says_process says_term made_type
-returns c = let made = pieces (goal.at.returns c).After-word-x in search decrypt
+pub returns-else-same_as : goal.returns-else-same_as
+unfolding says_process says_term made_type open_process pick
+returns-else-same_as c = by-law (decrypt _ _ _ _ _ _ _ _ _ _ _ _ _ _ _ _ _ c.in-Some.ensures.1.is) (grind arith)

@@ -1,66 +1,20 @@
 -- `running::by_inp_Un` meets its contract: the process by its pieces, and its premises. Assumes nothing.
-use borrow.Author.Rules.{rules}
-use native.Mathlib.Omega.{arith}
+use Rattle.std.proofs.Common.{arith}
 use Rattle.ruling.specs.Line.{says_process, says_term}
 use Rattle.shapes.specs.Shape.{made_type}
-use Rattle.running.specs.Rules.Laws.{inp-Un, inp-Un-other}
-use Rattle.running.specs.Rules.Pieces.{InpAt, inp-at, other_word}
+use Rattle.ruling.specs.Rules.Decide.{by-law}
+use Rattle.running.specs.Rules.{rule_code}
+use Rattle.running.specs.Rules.Laws.{inp-Un, other}
 use Rattle.running.proofs.by_inp_Un.Goals as goal
-use Rattle.running.proofs.by_inp_Un.Goals.{After-word-x}
 
--- the process by its pieces
-module _ (c : After-word-x) where
-  pieces : InpAt c.args.w.now c.args.i.s c.pieces_of-p.result c.word-x.result
-  pieces = search inp-at
+pub returns-in_default : goal.returns-in_default
+unfolding rule_code says_process
+returns-in_default c = other _ _ _ _ _ c.in_default.ensures.1
 
-pub word-c-requires : goal.word-c-requires
+pub returns-then-same_as : goal.returns-then-same_as
 unfolding says_process says_term made_type
-word-c-requires c = search rules
+returns-then-same_as c = by-law (inp-Un _ _ _ _ _ _ _ _ _ _ _ _ _ c.in-Some.ensures.1.is) (grind arith)
 
-pub pieces_of-p-requires : goal.pieces_of-p-requires
+pub returns-else-same_as : goal.returns-else-same_as
 unfolding says_process says_term made_type
-pieces_of-p-requires c = search rules
-
-pub returns-then-c-ne3 : goal.returns-then-c-ne3
-unfolding says_process says_term made_type
-returns-then-c-ne3 c = search (inp-Un-other, other_word)
-
-pub overflow_add-i : goal.overflow_add-i
-unfolding says_process says_term made_type
-overflow_add-i c = omega arith
-
-pub word-x-requires : goal.word-x-requires
-unfolding says_process says_term made_type
-word-x-requires c = search rules
-
-pub term_premise-a-requires : goal.term_premise-a-requires
-unfolding says_process says_term made_type
-term_premise-a-requires c = let made = pieces (goal.at.term_premise-a-requires c).After-word-x in search rules
-
-pub entered-b-requires : goal.entered-b-requires
-unfolding says_process says_term made_type
-entered-b-requires c = let made = pieces (goal.at.entered-b-requires c).After-word-x in search rules
-
-pub same_as-d-requires : goal.same_as-d-requires
-unfolding says_process says_term made_type
-same_as-d-requires c = search rules
-
-pub same_as-e-requires : goal.same_as-e-requires
-unfolding says_process says_term made_type
-same_as-e-requires c = let made = pieces (goal.at.same_as-e-requires c).After-word-x in search rules
-
-pub unchanged-f-requires : goal.unchanged-f-requires
-unfolding says_process says_term made_type
-unchanged-f-requires c = search rules
-
-pub fresh-g-requires : goal.fresh-g-requires
-unfolding says_process says_term made_type
-fresh-g-requires c = search rules
-
-pub all6-requires : goal.all6-requires
-unfolding says_process says_term made_type
-all6-requires c = search rules
-
-pub returns : goal.returns
-unfolding says_process says_term made_type
-returns c = let made = pieces (goal.at.returns c).After-word-x in search inp-Un
+returns-else-same_as c = by-law (inp-Un _ _ _ _ _ _ _ _ _ _ _ _ _ c.in-Some.ensures.1.is) (grind arith)

@@ -1,53 +1,20 @@
 -- `running::by_out` meets its contract: the process by its pieces, and its premises. Assumes nothing.
-use borrow.Author.Rules.{rules}
+use Rattle.std.proofs.Common.{arith}
 use Rattle.ruling.specs.Line.{says_process, says_term}
 use Rattle.shapes.specs.Shape.{made_type}
-use Rattle.running.specs.Rules.Laws.{out, out-other}
-use Rattle.running.specs.Rules.Pieces.{OutAt, out_at, other_word}
+use Rattle.ruling.specs.Rules.Decide.{by-law}
+use Rattle.running.specs.Rules.{rule_code}
+use Rattle.running.specs.Rules.Laws.{out, other}
 use Rattle.running.proofs.by_out.Goals as goal
-use Rattle.running.proofs.by_out.Goals.{Else-c-ne2}
 
--- the process by its pieces
-module _ (c : Else-c-ne2) where
-  pieces : OutAt c.args.w.now c.args.i.s c.pieces_of-p.result
-  pieces = search out_at
+pub returns-in_default : goal.returns-in_default
+unfolding rule_code says_process
+returns-in_default c = other _ _ _ _ _ c.in_default.ensures.1
 
-pub word-c-requires : goal.word-c-requires
+pub returns-then-sent : goal.returns-then-sent
 unfolding says_process says_term made_type
-word-c-requires c = search rules
+returns-then-sent c = by-law (out _ _ _ _ _ _ _ _ _ _ _ _ _ _ _ c.in-Some.ensures.1.is) (grind arith)
 
-pub pieces_of-p-requires : goal.pieces_of-p-requires
+pub returns-else-sent : goal.returns-else-sent
 unfolding says_process says_term made_type
-pieces_of-p-requires c = search rules
-
-pub returns-then-c-ne2 : goal.returns-then-c-ne2
-unfolding says_process says_term made_type
-returns-then-c-ne2 c = search (out-other, other_word)
-
-pub term_premise-a-requires : goal.term_premise-a-requires
-unfolding says_process says_term made_type
-term_premise-a-requires c = let made = pieces (goal.at.term_premise-a-requires c).Else-c-ne2 in search rules
-
-pub term_premise-b-requires : goal.term_premise-b-requires
-unfolding says_process says_term made_type
-term_premise-b-requires c = let made = pieces (goal.at.term_premise-b-requires c).Else-c-ne2 in search rules
-
-pub process_premise-d-requires : goal.process_premise-d-requires
-unfolding says_process says_term made_type
-process_premise-d-requires c = let made = pieces (goal.at.process_premise-d-requires c).Else-c-ne2 in search rules
-
-pub same_as-e-requires : goal.same_as-e-requires
-unfolding says_process says_term made_type
-same_as-e-requires c = search rules
-
-pub unchanged-f-requires : goal.unchanged-f-requires
-unfolding says_process says_term made_type
-unchanged-f-requires c = search rules
-
-pub all5-requires : goal.all5-requires
-unfolding says_process says_term made_type
-all5-requires c = search rules
-
-pub returns : goal.returns
-unfolding says_process says_term made_type
-returns c = let made = pieces (goal.at.returns c).Else-c-ne2 in search out
+returns-else-sent c = by-law (out _ _ _ _ _ _ _ _ _ _ _ _ _ _ _ c.in-Some.ensures.1.is) (grind arith)

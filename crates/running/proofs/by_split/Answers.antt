@@ -1,74 +1,20 @@
 -- `running::by_split` meets its contract: the process by its pieces, and its premises. Assumes nothing.
-use borrow.Author.Rules.{rules}
-use native.Mathlib.Omega.{arith}
+use Rattle.std.proofs.Common.{arith}
 use Rattle.ruling.specs.Line.{says_process, says_term}
 use Rattle.shapes.specs.Shape.{made_type}
-use Rattle.running.specs.Rules.Laws.{split, split-other}
-use Rattle.running.specs.Rules.Pieces.{SplitAt, split_at, other_word}
+use Rattle.ruling.specs.Rules.Decide.{by-law}
+use Rattle.running.specs.Rules.{rule_code}
+use Rattle.running.specs.Rules.Laws.{split, other}
 use Rattle.running.proofs.by_split.Goals as goal
-use Rattle.running.proofs.by_split.Goals.{After-word-y}
 
--- the process by its pieces
-module _ (c : After-word-y) where
-  pieces : SplitAt c.args.w.now c.args.i.s c.pieces_of-p.result c.word-x.result c.word-y.result
-  pieces = search split_at
+pub returns-in_default : goal.returns-in_default
+unfolding rule_code says_process
+returns-in_default c = other _ _ _ _ _ c.in_default.ensures.1
 
-pub word-c-requires : goal.word-c-requires
+pub returns-then-taken_apart : goal.returns-then-taken_apart
 unfolding says_process says_term made_type
-word-c-requires c = search rules
+returns-then-taken_apart c = by-law (split _ _ _ _ _ _ _ _ _ _ _ _ _ _ _ c.in-Some.ensures.1.is) (grind arith)
 
-pub pieces_of-p-requires : goal.pieces_of-p-requires
+pub returns-else-taken_apart : goal.returns-else-taken_apart
 unfolding says_process says_term made_type
-pieces_of-p-requires c = search rules
-
-pub returns-then-c-ne6 : goal.returns-then-c-ne6
-unfolding says_process says_term made_type
-returns-then-c-ne6 c = search (split-other, other_word)
-
-pub overflow_add-i : goal.overflow_add-i
-unfolding says_process says_term made_type
-overflow_add-i c = omega arith
-
-pub word-x-requires : goal.word-x-requires
-unfolding says_process says_term made_type
-word-x-requires c = search rules
-
-pub overflow_add-i-2 : goal.overflow_add-i-2
-unfolding says_process says_term made_type
-overflow_add-i-2 c = omega arith
-
-pub word-y-requires : goal.word-y-requires
-unfolding says_process says_term made_type
-word-y-requires c = search rules
-
-pub term_premise-a-requires : goal.term_premise-a-requires
-unfolding says_process says_term made_type
-term_premise-a-requires c = let made = pieces (goal.at.term_premise-a-requires c).After-word-y in search rules
-
-pub entered_twice-b-requires : goal.entered_twice-b-requires
-unfolding says_process says_term made_type
-entered_twice-b-requires c = let made = pieces (goal.at.entered_twice-b-requires c).After-word-y in search rules
-
-pub same_as-d-requires : goal.same_as-d-requires
-unfolding says_process says_term made_type
-same_as-d-requires c = let made = pieces (goal.at.same_as-d-requires c).After-word-y in search rules
-
-pub unchanged-e-requires : goal.unchanged-e-requires
-unfolding says_process says_term made_type
-unchanged-e-requires c = search rules
-
-pub fresh-f-requires : goal.fresh-f-requires
-unfolding says_process says_term made_type
-fresh-f-requires c = search rules
-
-pub fresh-g-requires : goal.fresh-g-requires
-unfolding says_process says_term made_type
-fresh-g-requires c = search rules
-
-pub all6-requires : goal.all6-requires
-unfolding says_process says_term made_type
-all6-requires c = search rules
-
-pub returns : goal.returns
-unfolding says_process says_term made_type
-returns c = let made = pieces (goal.at.returns c).After-word-y in search split
+returns-else-taken_apart c = by-law (split _ _ _ _ _ _ _ _ _ _ _ _ _ _ _ c.in-Some.ensures.1.is) (grind arith)

@@ -1,31 +1,20 @@
--- `running::by_stop` meets its contract: the process is STOP, and states nothing. Assumes nothing.
-use borrow.Author.Rules.{rules}
+-- `running::by_stop` meets its contract: the process by its pieces, and its premises. Assumes nothing.
+use Rattle.std.proofs.Common.{arith}
 use Rattle.ruling.specs.Line.{says_process, says_environment}
 use Rattle.ruling.specs.Line.Laws.{none-stated}
-use Rattle.running.specs.Rules.Laws.{stop, stop-other}
-use Rattle.running.specs.Rules.Pieces.{stop-at, other_word}
+use Rattle.ruling.specs.Rules.Decide.{by-law}
+use Rattle.running.specs.Rules.{rule_code}
+use Rattle.running.specs.Rules.Laws.{stop, other}
 use Rattle.running.proofs.by_stop.Goals as goal
 
-pub word-c-requires : goal.word-c-requires
-unfolding says_process says_environment
-word-c-requires c = search rules
+pub returns-in_default : goal.returns-in_default
+unfolding rule_code says_process
+returns-in_default c = other _ _ _ _ _ c.in_default.ensures.1
 
-pub pieces_of-p-requires : goal.pieces_of-p-requires
+pub returns-then-same_at : goal.returns-then-same_at
 unfolding says_process says_environment
-pieces_of-p-requires c = search rules
+returns-then-same_at c = let none = none-stated _ _ _ c.requires.0.effects in by-law (stop _ _ _ _ c.in-Some.ensures.1.is) (grind arith)
 
-pub returns-then-c-ne5 : goal.returns-then-c-ne5
+pub returns-else-same_at : goal.returns-else-same_at
 unfolding says_process says_environment
-returns-then-c-ne5 c = search (stop-other, other_word)
-
-pub environments_alike-a-requires : goal.environments_alike-a-requires
-unfolding says_process says_environment
-environments_alike-a-requires c = search rules
-
-pub both-requires : goal.both-requires
-unfolding says_process says_environment
-both-requires c = search rules
-
-pub returns : goal.returns
-unfolding says_process says_environment
-returns c = search (stop, stop-at, none-stated)
+returns-else-same_at c = let none = none-stated _ _ _ c.requires.0.effects in by-law (stop _ _ _ _ c.in-Some.ensures.1.is) (grind arith)

@@ -1,6 +1,6 @@
 -- What `new` generates, and the name that its own words spell; the effects of a nonce. Assumes nothing.
 use Prim.Native.Nat.{ℕ, suc, ◌+◌, ◌<◌}
-use Rattle.std.specs.Prelude.{true, false, not, ◌≡◌, refl, eqb, length}
+use Rattle.std.specs.Prelude.{true, false, not, ◌&&◌, ◌≡◌, refl, eqb, length}
 use mathlib.Core.List.{List, [], ◌∷◌}
 use Rattle.std.proofs.Common.{sym, ◌∙◌, eq-eqb, ne_eqb}
 use Rattle.std.proofs.Math.Path.{ap}
@@ -36,13 +36,13 @@ module _ (w : List ℕ) (t c : ℕ) (r : Reads type_at w t) (word : c ≡ get_or
   code_is : code_of (type_in w t) ≡ c
   code_is = type-code w t r ∙ sym word
 
-  pub no-pair : c ≡ 2 → false ≡ generatable (type_in w t)
-  no-pair e = sym ((by_code (type_in w t)).0 (code_is ∙ e))
-
-  pub no-nonce : (c ≡ 2 → ⊥) → not (eqb c 5) ≡ generatable (type_in w t)
-  no-nonce d = elim (dec_eq c 5) [
-    | yes e ↦ ap not (eq-eqb c 5 e) ∙ sym ((by_code (type_in w t)).1 (code_is ∙ e))
-    | no e ↦ ap not (ne_eqb c 5 e) ∙ sym ((by_code (type_in w t)).2 (λ z. d (sym code_is ∙ z)) (λ z. e (sym code_is ∙ z)))
+  pub generates : generatable (type_in w t) ≡ (not (eqb c 2) && not (eqb c 5))
+  generates = elim (dec_eq c 2) [
+    | yes e ↦ rw (eq-eqb c 2 e) ((by_code (type_in w t)).0 (code_is ∙ e))
+    | no d ↦ rw (ne_eqb c 2 d) (elim (dec_eq c 5) [
+      | yes e ↦ rw (eq-eqb c 5 e) ((by_code (type_in w t)).1 (code_is ∙ e))
+      | no e ↦ rw (ne_eqb c 5 e) ((by_code (type_in w t)).2 (λ z. d (sym code_is ∙ z)) (λ z. e (sym code_is ∙ z)))
+    ])
   ]
 
 -- ---- the words 1, x spell the name x
@@ -67,14 +67,13 @@ module _ (w : List ℕ) (s : ℕ) (one : get_or w s 0 ≡ 1) (l : s + 1 < length
   name-is x e = term-name w s (record { behind = drop (s + 2) w; reads = name-at.rest }) one ∙ ap Term.name (sym e)
 
 -- ---- differences
-pub less-check : (w : List ℕ) (a e f k g : ℕ) (M : Term) → term_in w a ≡ M
-    → plus (bag (list_of w (Many 0 0 0))) (minus (bag (list_of w (Many f k g))) (bag (list_of w (One 2 a e))))
-    ≡ minus (bag (effects_in w f k)) (Effect.check M ∷ [])
+pub less-check : (w : List ℕ) (es : List Effect) (a e : ℕ) (M : Term) → term_in w a ≡ M
+    → plus (bag (list_of w (Many 0 0 0))) (minus es (bag (list_of w (One 2 a e)))) ≡ minus es (Effect.check M ∷ [])
 unfolding list_of effect_by pick bag plus insert minus effects_in effects value_or
-less-check w a e f k g M d = ap (λ (N : Term). minus (bag (effects_in w f k)) (Effect.check N ∷ [])) d
+less-check w es a e M d = ap (λ (N : Term). minus es (Effect.check N ∷ [])) d
 
-pub less-nonce : (w : List ℕ) (a e f k g b n h : ℕ)
-    → plus (bag (list_of w (One 2 a e))) (minus (bag (list_of w (Many f k g))) (bag (list_of w (Many b n h))))
-    ≡ insert (Effect.check (term_in w a)) (minus (bag (effects_in w f k)) (bag (effects_in w b n)))
+pub less-nonce : (w : List ℕ) (es : List Effect) (a e b n h : ℕ)
+    → plus (bag (list_of w (One 2 a e))) (minus es (bag (list_of w (Many b n h))))
+    ≡ insert (Effect.check (term_in w a)) (minus es (bag (effects_in w b n)))
 unfolding list_of effect_by pick bag plus insert minus
-less-nonce w a e f k g b n h = refl
+less-nonce w es a e b n h = refl

@@ -8,14 +8,11 @@ use Rattle.alike.specs.Same.{value_or, term_in, effects_in}
 use Rattle.balance.specs.Sum.{effect_by, list_of}
 use Rattle.balance.specs.declared.Effects.TheVariants.{One, Many}
 
-pub less-end : (w : List ℕ) (a e f k g : ℕ)
-    → plus (bag (list_of w (Many 0 0 0))) (minus (bag (list_of w (Many f k g))) (bag (list_of w (One 1 a e))))
-    ≡ minus (bag (effects_in w f k)) (Effect.end (term_in w a) ∷ [])
+pub less-end : (w : List ℕ) (es : List Effect) (a e : ℕ) → plus (bag (list_of w (Many 0 0 0))) (minus es (bag (list_of w (One 1 a e))))
+    ≡ minus es (Effect.end (term_in w a) ∷ [])
 unfolding list_of effect_by pick bag plus insert minus effects_in effects value_or
-less-end w a e f k g = refl
+less-end w es a e = refl
 
-pub sum-two : (w : List ℕ) (f k g a n e : ℕ)
-    → plus (bag (list_of w (Many a n e))) (minus (bag (list_of w (Many f k g))) (bag (list_of w (Many 0 0 0))))
-    ≡ plus (bag (effects_in w a n)) (bag (effects_in w f k))
+pub sum-two : (w : List ℕ) (es fs : List Effect) → plus fs (minus es (bag (list_of w (Many 0 0 0)))) ≡ plus fs es
 unfolding list_of bag plus minus effects_in effects value_or
-sum-two w f k g a n e = refl
+sum-two w es fs = refl

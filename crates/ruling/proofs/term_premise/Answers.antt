@@ -1,8 +1,0 @@
--- `ruling::term_premise` meets its contract: both tests. Assumes nothing.
-use Rattle.ruling.specs.Rules.Decide.{two-tests}
-use Rattle.ruling.proofs.term_premise.Goals as goal
-
-pub returns : goal.returns
-returns c = two-tests _ _ _ _ _ c.environments_alike-a.ensures
-    c.terms_alike-b.ensures
-    c.both.ensures

@@ -1,7 +1,0 @@
--- `running::entered` meets its contract: both tests. Assumes nothing.
-use Rattle.ruling.specs.Rules.Decide.{two-tests}
-use Rattle.running.proofs.entered.Goals as goal
-
-pub returns : goal.returns
-returns c = two-tests _ _ _ _ _ c.extended-a.ensures c.processes_alike-b.ensures
-    c.both.ensures

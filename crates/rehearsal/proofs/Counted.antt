@@ -1,11 +1,10 @@
 -- Laws of a schedule's moves, in the book b with the places P: none, one more, all. Assumes nothing.
-use Prim.Native.Nat.{ℕ, zero, suc, ◌+◌, ◌≤◌, ◌<◌}
+use Prim.Native.Nat.{ℕ, zero, suc, ◌+◌, ◌<◌}
 use native.Mathlib.Numerals.{add-one}
 use native.Mathlib.Omega.{arith}
 use mathlib.Core.List.{List, [], ◌∷◌}
 use mathlib.Core.Path.{◌≡◌, refl, sym, ap, ◌∙◌}
 use lib.ListN.{length, get_or, take}
-use lib.Seq.{take_all}
 use Rattle.translation.specs.Places.{Places}
 use Rattle.playing.specs.Counting.{ticked, ticked_all}
 
@@ -27,6 +26,3 @@ module _ (b : List ℕ) (P : Places) where
         → a ≡ ticked_all b P (take (i + 1) ms) d
     played-on {i} l e f =
         f ∙ ap (ticked b P (get_or ms i 0)) e ∙ sym (ap (λ k. ticked_all b P (take k ms) d) (add-one i) ∙ counted_next ms i d l)
-
-    pub played-all : {i : ℕ} {a : ℕ → ℕ} → length ms ≤ i → a ≡ ticked_all b P (take i ms) d → a ≡ ticked_all b P ms d
-    played-all {i} l e = e ∙ ap (λ l. ticked_all b P l d) (take_all i ms l)

@@ -1,7 +1,6 @@
 -- Laws of a move: party p is at END, waits, or does its next event. Assumes nothing.
 use Prim.Native.Nat.{ℕ, ◌+◌, ◌≤◌, ◌<◌}
 use native.Mathlib.Numerals.{add-one}
-use native.Mathlib.Omega.{arith}
 use mathlib.Core.Bool.{Bool, true, false}
 use mathlib.Core.List.{List, []}
 use mathlib.Core.Path.{◌≡◌, sym, ap, ◌∙◌, fun_ext}
@@ -28,24 +27,24 @@ module _ (b x y z d : List ℕ) (p : ℕ) where
   abbrev after : ℕ → ℕ
   after = ticked b (places x y z) p (counts d)
 
-  -- the party has done a events, and its END is event n
-  module _ {a n : ℕ} (e : a ≡ get_or d p 0) (f : n ≡ get_or z p 0) where
-    pub at-end : n ≤ a → counts d ≡ after
+  -- v and w are p as the code's indices, where it reads how many events the party has done and which its END is
+  module _ {v w : ℕ} (e : v ≡ p) (f : w ≡ p) where
+    pub at-end : get_or z w 0 ≤ get_or d v 0 → counts d ≡ after
     unfolding ticked
-    at-end h = sym (pick-false _ _ _ (le-ltb (get_or d p 0) (get_or z p 0) (omega arith)))
+    at-end h = sym (pick-false _ _ _ (le-ltb (get_or d p 0) (get_or z p 0) (rw (e, f) at h)))
 
-    module _ (h : a < n) {t : Bool} (k : t ≡ waits b (places x y []) (counts d) p) where
+    module _ (h : get_or d v 0 < get_or z w 0) {t : Bool} (k : t ≡ waits b (places x y []) (counts d) p) where
       before-end : ltb (get_or d p 0) (get_or z p 0) ≡ true
-      before-end = lt-ltb (get_or d p 0) (get_or z p 0) (omega arith)
+      before-end = lt-ltb (get_or d p 0) (get_or z p 0) (rw (e, f) at h)
 
       pub still-waits : t ≡ true → counts d ≡ after
       unfolding ticked
       still-waits j = sym (pick_true _ _ _ before-end ∙ pick_true _ _ _ (sym (ends-apart b x y d p z) ∙ sym k ∙ j))
 
-      -- v and u are p as the code's indices, where it reads and where it writes
-      pub does-next : {v u : ℕ} → v ≡ p → u ≡ p → p < length d → t ≡ false → counts (set d u (get_or d v 0 + 1)) ≡ after
+      -- and u, where it writes
+      pub does-next : {u : ℕ} → u ≡ p → p < length d → t ≡ false → counts (set d u (get_or d v 0 + 1)) ≡ after
       unfolding ticked
-      does-next i g l j =
-          rw (i, g)
+      does-next g l j =
+          rw (e, g)
           (counts-set d p (get_or d p 0 + 1) l ∙ ap (change (counts d) p) (add-one (get_or d p 0))
           ∙ sym (pick_true _ _ _ before-end ∙ pick-false _ _ _ (sym (ends-apart b x y d p z) ∙ sym k ∙ j)))

@@ -1,10 +1,9 @@
 // The programs of a book played under a schedule. `rehearse` answers, for any words, any schedule and any lent words, the first
 // refusal of 1 to 12 that applies, or leaves the events done by each party of the plain machine; no other lent word changes.
-#![tactic(auto)]
+#![tactic(auto, using(book::specs::Headed::Laws::headed_rules))]
 
-ghost use Rattle.std.specs.Prelude.{◌≡◌, [], ◌≤◌, ◌<◌, leb, length, get_or};
-ghost use Rattle.words.specs.First.{first};
-ghost use Rattle.words.specs.Run.{All, values};
+ghost use Rattle.std.specs.Prelude.{◌≡◌, [], ◌<◌, leb, length, position};
+ghost use Rattle.words.specs.Run.{All};
 ghost use Rattle.words.specs.Overlay.{Wrote};
 ghost use Rattle.book.specs.Layout.{parties as parties_of, steps as steps_of};
 ghost use Rattle.book.specs.Valid.{Valid};
@@ -14,23 +13,16 @@ ghost use Rattle.playing.specs.Rehearsal.{events_done, rehearsal};
 ghost use Rattle.playing.specs.Counting.{waits_for, waits as waits_at, ticked, ticked_all};
 ghost use Rattle.rehearsal.specs.Kept.{places, counts};
 
-use book::{Limit, Reading, Refusal, parties, step_receiver, step_sender, steps};
+use book::{Limit, Refusal, parties, step_receiver, step_sender, steps};
 use translation::Answer;
 use translator::survey;
-use words::{narrow, put, wide};
+use words::{narrow, put_all, wide};
 
-// The first move that names no party, or the schedule's length.
-fn first_bad(schedule: &[u32], q: u32) -> usize
-    ensures { result ≡ first (λ i. leb q (get_or schedule.now i 0)) (length schedule.now) }
+// The first move that names no party.
+fn first_bad(schedule: &[u32], q: u32) -> Option<usize>
+    ensures { result ≡ position (λ m. leb q m) schedule.now }
 {
-    let mut i = 0;
-    while i < schedule.len() {
-        if q <= schedule[i] {
-            return i;
-        }
-        i += 1;
-    }
-    i
+    schedule.iter().position(|m| q <= *m)
 }
 
 // The party waits for the step: its next event is the RECEIVE, and the SEND is not done yet.
@@ -45,13 +37,9 @@ fn waits_for(
     requires { Valid book.now × (party < parties_of book.now) × (step < steps_of book.now) }
     ensures { result ≡ waits_for book.now (places sends.now receives.now []) (counts done.now) party step }
 {
-    if step_receiver(book, step) != party {
-        return false;
-    }
-    if receives[wide(step)] != done[wide(party)] {
-        return false;
-    }
-    done[wide(step_sender(book, step))] <= sends[wide(step)]
+    step_receiver(book, step) == party
+        && receives[wide(step)] == done[wide(party)]
+        && done[wide(step_sender(book, step))] <= sends[wide(step)]
 }
 
 // The party waits for some step.
@@ -65,13 +53,10 @@ fn waits(
     requires { Valid book.now × (party < parties_of book.now) }
     ensures { result ≡ waits_at book.now (places sends.now receives.now []) (counts done.now) party }
 {
-    let n = steps(book);
-    let mut step = 0;
-    while step < n {
+    for step in 0..steps(book) {
         if waits_for(book, sends, receives, done, party, step) {
             return true;
         }
-        step += 1;
     }
     false
 }
@@ -89,14 +74,10 @@ fn tick(
     ensures { (counts done.new ≡ ticked book.now (places sends.now receives.now ends.now) party (counts done.old)) × (length done.new ≡ 16) }
 {
     let at = done[wide(party)];
-    let end = wide(ends[wide(party)]);
-    if end <= wide(at) {
-        return;
+    let end = ends[wide(party)];
+    if at < end && !waits(book, sends, receives, done, party) {
+        done[wide(party)] = at + 1;
     }
-    if waits(book, sends, receives, done, party) {
-        return;
-    }
-    done[wide(party)] = at + 1;
 }
 
 // The parties of the schedule move one after another.
@@ -111,25 +92,9 @@ fn play(
     requires { Valid book.now × All (λ q. q < parties_of book.now) schedule.now × (length done.old ≡ 16) }
     ensures { counts done.new ≡ ticked_all book.now (places sends.now receives.now ends.now) schedule.now (counts done.old) }
 {
-    let mut i = 0;
-    while i < schedule.len() {
-        tick(book, sends, receives, ends, done, schedule[i]);
-        i += 1;
+    for &party in schedule {
+        tick(book, sends, receives, ends, done, party);
     }
-}
-
-// The counts of the first q parties.
-fn write_counts(done: &[u32; 16], q: u32, out: &mut [u32]) -> usize
-    requires { q ≤ 16 }
-    ensures { Wrote (values (counts done.now) 0 q) out.old 0 out.new result }
-{
-    let mut at = 0;
-    let mut party = 0;
-    while party < q {
-        at = put(out, at, done[wide(party)]);
-        party += 1;
-    }
-    at
 }
 
 // The events done by each party under a schedule whose moves all name parties, by the places of the events.
@@ -146,7 +111,8 @@ fn perform(
 {
     let mut done = [0u32; 16];
     play(book, sends, receives, ends, schedule, &mut done);
-    write_counts(&done, parties(book), out)
+    let n = wide(parties(book));
+    put_all(out, 0, &done[..n])
 }
 
 // Refusals 11 and 12 of an accepted book, or the output.
@@ -162,19 +128,17 @@ fn rehearse_accepted(
     ensures { came result out.new ≡ rehearsal book.now schedule.now out.old }
 {
     if Limit::MOVES < schedule.len() {
-        return Answer::Refused(Refusal::Move(narrow(Limit::MOVES)));
+        return Err(Refusal::Move(narrow(Limit::MOVES)));
     }
     let q = parties(book);
-    let bad = first_bad(schedule, q);
-    if bad < schedule.len() {
-        return Answer::Refused(Refusal::Move(narrow(bad)));
+    if let Some(bad) = first_bad(schedule, q) {
+        return Err(Refusal::Move(narrow(bad)));
     }
     let n = wide(q);
     if out.len() < n {
-        return Answer::Refused(Refusal::Room(n));
+        return Err(Refusal::Room(n));
     }
-    let written = perform(book, sends, receives, ends, schedule, out);
-    Answer::Written(written)
+    Ok(perform(book, sends, receives, ends, schedule, out))
 }
 
 // The events done by each party of any words under any schedule, or the first refusal that applies.
@@ -182,14 +146,6 @@ pub fn rehearse(book: &[u32], schedule: &[u32], out: &mut [u32]) -> Answer
     ensures { came result out.new ≡ rehearsal book.now schedule.now out.old }
 {
     let all = survey(book);
-    let reading = all.reading;
-    match reading {
-        Reading::Refused(why) => Answer::Refused(why),
-        Reading::Accepted => {
-            let sends = all.sends;
-            let receives = all.receives;
-            let ends = all.ends;
-            rehearse_accepted(book, &sends, &receives, &ends, schedule, out)
-        }
-    }
+    all.reading?;
+    rehearse_accepted(book, &all.sends, &all.receives, &all.ends, schedule, out)
 }

@@ -1,5 +1,5 @@
 -- `rehearsal::waits` meets its contract: the party waits for none of the steps that were passed. Assumes nothing.
-use Prim.Native.Nat.{ℕ, ◌-◌, ◌≤◌, ◌<◌}
+use Prim.Native.Nat.{ℕ, ◌<◌}
 use mathlib.Core.Path.{◌≡◌}
 use mathlib.Core.List.{[]}
 use mathlib.Core.Bool.{false}
@@ -8,7 +8,4 @@ use Rattle.rehearsal.specs.Kept.{places, counts}
 use Rattle.rehearsal.proofs.waits.Given as goal
 
 abbrev pub invariant-loop-step : goal.invariant-loop-step
-invariant-loop-step l = (l.step ≤ l.n) × ((k : ℕ) → k < l.step → waits_for l.book (places l.sends l.receives []) (counts l.done) l.party k ≡ false)
-
-abbrev pub decreases-loop-step : goal.decreases-loop-step
-decreases-loop-step l = l.n - l.step
+invariant-loop-step l = (k : ℕ) → k < l.step → waits_for l.book (places l.sends l.receives []) (counts l.done) l.party k ≡ false

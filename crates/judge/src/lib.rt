@@ -2,7 +2,7 @@
 // refusal, refusal 22, or the verdict: ours up to a one-to-one renaming of its placeholders, or the smallest word at which no renaming can
 // agree. `judge_listing` is the same of a listing that is words and, behind them, the words that bytes make, either of which may be none: so
 // words and bytes are judged by one function, and neither is copied.
-#![tactic(auto)]
+#![tactic(auto, using(book::specs::Headed::Laws::headed_rules))]
 
 ghost use Rattle.std.specs.Prelude.{◌≡◌};
 ghost use Rattle.translation.specs.Outcome.{Plays};
@@ -11,12 +11,12 @@ ghost use Rattle.naming.specs.Mirror.{theirs};
 ghost use Rattle.following.specs.Stepping.{Buffers, StepsReady};
 ghost use Rattle.judge.specs.Program.{ProgramFollowed};
 
-use book::{ByRow, Code, Reading, Refusal, Triple, parties};
+use book::{ByRow, Code, Refusal, Triple, parties};
 use following::{Far, follow_steps, follow_words};
 use naming::size;
 use renaming::Verdict;
 use translator::survey;
-use words::{narrow, put_all, put2};
+use words::{narrow, put_all, put_each};
 
 // What is kept at most: the words of a step's events, and the placeholders that a step hands out.
 #[derive(Drop)]
@@ -40,25 +40,16 @@ fn follow_program(
     table: &mut [u32],
     log: &mut [u32],
     called: &mut [u32],
-) -> Far
+) -> Result<Far, usize>
     requires { StepsReady book.now partners.now party × Buffers step.old table.old log.old called.old }
     ensures { ProgramFollowed book.now party (theirs words.now bytes.now) result }
 {
     let reached = follow_steps(
         book, since, partners, party, words, bytes, step, table, log, called,
-    );
-    let kept = reached.kept;
-    if !reached.whole {
-        return Far {
-            whole: false,
-            at: reached.at,
-            low: reached.low,
-            high: reached.high,
-        };
-    }
-    let n = kept / Triple::WORDS;
-    let triples = put2(step, 0, Code::END, narrow(n));
-    let end = put_all(step, triples, log, kept);
+    )?;
+    let n = reached.kept / Triple::WORDS;
+    let triples = put_each(step, 0, [Code::END, narrow(n)]);
+    let end = put_all(step, triples, &log[..reached.kept]);
     follow_words(
         &step[..end],
         words,
@@ -69,8 +60,7 @@ fn follow_program(
         log,
         n,
         called,
-        reached.low,
-        reached.high,
+        reached.range,
     )
 }
 
@@ -84,13 +74,13 @@ fn judge_program(
     bytes: &[u8],
 ) -> Verdict
     requires { Plays book.now × StepsReady book.now partners.now party }
-    ensures { verdict_says result ≡ judged book.now party (theirs words.now bytes.now) }
+    ensures { verdict_says (Ok result) ≡ judged book.now party (theirs words.now bytes.now) }
 {
     let mut step = [0u32; Most::STEP];
     let mut table = [0u32; Most::PLACEHOLDERS];
     let mut log = [0u32; Triple::ALL];
     let mut called = [0u32; 1024];
-    let far = follow_program(
+    let followed = follow_program(
         book,
         since,
         partners,
@@ -102,39 +92,38 @@ fn judge_program(
         &mut log,
         &mut called,
     );
-    let at = far.at;
-    if !far.whole {
-        return Verdict::Differs(at);
+    match followed {
+        Ok(far) => {
+            let at = far.at;
+            if at != size(words, bytes) {
+                return Verdict::Differs(at);
+            }
+            Verdict::Same
+        }
+        Err(at) => Verdict::Differs(at),
     }
-    if at != size(words, bytes) {
-        return Verdict::Differs(at);
-    }
-    Verdict::Same
 }
 
 // The verdict on any words and, behind them, the words that any bytes make.
-pub fn judge_listing(book: &[u32], party: u32, words: &[u32], bytes: &[u8]) -> Verdict
+pub fn judge_listing(
+    book: &[u32],
+    party: u32,
+    words: &[u32],
+    bytes: &[u8],
+) -> Result<Verdict, Refusal>
     ensures { verdict_says result ≡ judged book.now party (theirs words.now bytes.now) }
 {
     let all = survey(book);
-    let reading = all.reading;
-    match reading {
-        Reading::Refused(why) => Verdict::Refused(why),
-        Reading::Accepted => {
-            if parties(book) <= party {
-                return Verdict::Refused(Refusal::Nobody(party));
-            }
-            let since = all.since;
-            let partners = all.partners;
-            judge_program(book, &since, &partners, party, words, bytes)
-        }
+    all.reading?;
+    if parties(book) <= party {
+        return Err(Refusal::Nobody(party));
     }
+    Ok(judge_program(book, &all.since, &all.partners, party, words, bytes))
 }
 
 // The verdict on any words.
-pub fn judge(book: &[u32], party: u32, listing: &[u32]) -> Verdict
+pub fn judge(book: &[u32], party: u32, listing: &[u32]) -> Result<Verdict, Refusal>
     ensures { verdict_says result ≡ judged book.now party listing.now }
 {
-    let none = [0u8; 1];
-    judge_listing(book, party, listing, &none[0..0])
+    judge_listing(book, party, listing, &[])
 }

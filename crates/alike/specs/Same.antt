@@ -10,6 +10,7 @@ pub mod Laws
 pub mod Effects
 pub mod Bags
 pub mod Each
+pub mod Spelled
 pub mod Types
 pub mod Environments
 pub mod Leaves

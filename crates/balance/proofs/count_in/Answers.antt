@@ -5,7 +5,8 @@ use Rattle.typing.specs.Term.{same_effect}
 use Rattle.alike.specs.Same.{term_in, effects_in, test}
 use Rattle.alike.specs.Same.Each.{count-by}
 use Rattle.balance.specs.Sum.{effect_by}
-use Rattle.balance.specs.Sum.Laws.{spelled, few-count, list-one, list-many, count_one, one_small}
+use Rattle.alike.specs.Same.Spelled.{spelled}
+use Rattle.balance.specs.Sum.Laws.{effect-by, few-count, list-one, list-many, count_one, one_small}
 use Rattle.balance.proofs.count_in.Goals as goal
 
 pub count_where-requires-clause-asked : goal.count_where-requires-clause-asked
@@ -21,7 +22,7 @@ pub returns-in-Many : goal.returns-in-Many
 returns-in-Many c = let (there, low, high, other) = c.requires in
     let x = effect_by c.args.c (term_in c.args.w.now c.args.b) in (
       rw (list-many _ _ _ _ _ c.in-Many.is)
-          (c.count_where.ensures.counts (λ y. test (same_effect y x)) (λ i e r t k. rw (spelled t).effect_is (search rules))
+          (c.count_where.ensures.counts (λ y. test (same_effect y x)) (λ i e r t k. rw (effect-by t) (search rules))
           ∙ sym (count-by x (effects_in c.args.w.now c.in-Many.a c.in-Many.k))),
       few-count c.args.w.now _ _ _ _ _ c.in-Many.is there c.count_where.ensures.few,
     )

@@ -1,6 +1,7 @@
 -- `balance::level_from` meets its contract: the effect is the one with its word and its term. Assumes nothing.
 use Rattle.std.proofs.Common.{rules, arith}
-use Rattle.balance.specs.Sum.Laws.{spelled}
+use Rattle.alike.specs.Same.Spelled.{spelled}
+use Rattle.balance.specs.Sum.Laws.{effect-by}
 use Rattle.balance.proofs.level_from.Goals as goal
 
 pub offset_bounds-w-i : goal.offset_bounds-w-i
@@ -19,4 +20,4 @@ level-requires c =
     (r, a, b, d, s.some_word, s.small, s.own)
 
 pub returns : goal.returns
-returns c = rw (spelled c.requires.4).effect_is c.level.ensures
+returns c = rw (effect-by c.requires.4) c.level.ensures

@@ -1,18 +1,17 @@
 -- Laws of sums and differences of effects, by counting. Assumes nothing.
 use Prim.Native.Nat.{ℕ, zero, suc, ◌+◌, ◌-◌, ◌≤◌, ◌<◌}
-use Rattle.std.specs.Prelude.{Bool, ◌&&◌, ◌≡◌, refl, eqb, length, drop, get_or}
+use Rattle.std.specs.Prelude.{Bool, ◌&&◌, ◌≡◌, refl, length, drop, get_or}
 use Rattle.std.specs.List.{list_all}
 use Rattle.std.specs.Int.{from_bool}
 use Rattle.std.proofs.Math.Bool.{true, false}
-use Rattle.std.proofs.Common.{◌∙◌, subst, add-one, length-drop, drop-cons}
+use Rattle.std.proofs.Common.{◌∙◌, subst, length-drop}
 use mathlib.Core.List.{List, [], ◌∷◌}
 use Rattle.std.proofs.Math.Option.{none, some}
 use Rattle.std.proofs.Math.Path.{sym, ap}
 use native.Mathlib.Omega.{arith}
-use Rattle.std.proofs.Math.Decide.{dec_lt, ℕ_discrete as dec_eq}
-use borrow.Author.Tests.{eq-eqb, ne_eqb, eqb-true}
-use Rattle.words.specs.Choice.{pick, then}
-use Rattle.words.specs.Choice.Laws.{pick_true, pick-false}
+use Rattle.std.proofs.Math.Decide.{dec_lt}
+use borrow.Author.Tests.{eq-eqb, eqb-true}
+use Rattle.words.specs.Choice.{then}
 use Rattle.words.specs.First.Laws.{clash}
 use Rattle.typing.specs.Term.{Term, Effect, same_term, same_effect}
 use Rattle.typing.specs.Bag.{bag, plus, minus, count}
@@ -23,38 +22,25 @@ use Rattle.typing.specs.Reading.{Read, after, term, effect_of, effects}
 use Rattle.typing.specs.Reading.Laws.{shorter-after, term-shorter}
 use Rattle.spans.specs.Behind.{rest_of, At}
 use Rattle.spans.specs.Behind.Laws.{rest-ahead}
-use Rattle.alike.specs.Same.{value_or, term_in, effect_in, effects_in, test}
+use Rattle.alike.specs.Same.{term_in, effect_in, effects_in, test}
 use Rattle.alike.specs.Same.Laws.{test-yes, test-no, test-true}
 use Rattle.alike.specs.Same.Each.{EffectAt}
+use Rattle.alike.specs.Same.Spelled.{by_word, by-same as words-same, spelled}
 use Rattle.balance.specs.Sum.{effect_by, list_of, There, level_at}
 use Rattle.balance.specs.declared.Effects.{Effects}
 use Rattle.balance.specs.declared.Effects.TheVariants.{One, Many}
 
 -- ---- effect_by
-by_end : (c : ℕ) (M : Term) → c ≡ 1 → effect_by c M ≡ Effect.end M
-unfolding effect_by
-by_end c M e = pick_true (eqb c 1) _ _ (eq-eqb c 1 e)
+as_word : (c : ℕ) (M : Term) → effect_by c M ≡ by_word c M
+unfolding effect_by by_word
+as_word c M = refl
 
-by-check : (c : ℕ) (M : Term) → (c ≡ 1 → ⊥) → effect_by c M ≡ Effect.check M
-unfolding effect_by
-by-check c M e = pick-false (eqb c 1) _ _ (ne_eqb c 1 e)
+pub effect-by : {w : List ℕ} {i e : ℕ} → EffectAt w i e → effect_in w i ≡ effect_by (get_or w i 0) (term_in w (i + 1))
+effect-by {w} {i} {e} t = (spelled t).effect_is ∙ sym (as_word (get_or w i 0) (term_in w (i + 1)))
 
 -- effects with different words differ; with one word they are the same exactly if their terms are
 by-same : (c d : ℕ) (M N : Term) → 0 < c → c ≤ 2 → 0 < d → d ≤ 2 → effect_by c M ≡ effect_by d N → (c ≡ d) × (M ≡ N)
-by-same c d M N l h k m e = elim (dec_eq c 1) [
-  | yes p ↦ elim (dec_eq d 1) [
-    | yes q ↦ let z : Effect.end M ≡ Effect.end N = sym (by_end c M p) ∙ e ∙ by_end d N q in (omega arith, cc)
-    | no q ↦
-        let z : Effect.end M ≡ Effect.check N = sym (by_end c M p) ∙ e ∙ by-check d N q in
-        absurd (let y : ◌≡◌ {A = ℕ} 0 1 = cc in omega arith)
-  ]
-  | no p ↦ elim (dec_eq d 1) [
-    | yes q ↦
-        let z : Effect.check M ≡ Effect.end N = sym (by-check c M p) ∙ e ∙ by_end d N q in
-        absurd (let y : ◌≡◌ {A = ℕ} 0 1 = cc in omega arith)
-    | no q ↦ let z : Effect.check M ≡ Effect.check N = sym (by-check c M p) ∙ e ∙ by-check d N q in (omega arith, cc)
-  ]
-]
+by-same c d M N l h k m e = words-same c d M N l h k m (sym (as_word c M) ∙ e ∙ as_word d N)
 
 pub by-other : (c d : ℕ) (M N : Term) → 0 < c → c ≤ 2 → 0 < d → d ≤ 2 → (c ≡ d → ⊥)
     → false ≡ test (same_effect (effect_by c M) (effect_by d N))
@@ -69,43 +55,6 @@ by_one c d M N l h e false t =
     sym (test-no (same_effect (effect_by c M) (effect_by d N))
     (λ z. clash (test-yes (same_term M N) (by-same c d M N l h (omega arith) (omega arith) z).1) (sym t)))
 
--- ---- the effect at a place
-value_after : (f : Term → Effect) (o : Read Term) (v : List ℕ) → rest_of (after f o) ≡ some v
-    → value_or (Effect.end (Term.bound 0)) (after f o) ≡ f (value_or (Term.bound 0) o)
-unfolding after then rest_of value_or
-value_after f none v h = absurd (let z : ◌≡◌ {A = ℕ} 0 1 = cc in omega arith)
-value_after f (some p) v h = refl
-
-read_by : (c : ℕ) (u v : List ℕ) → rest_of (effect_of (c ∷ u)) ≡ some v
-    → (0 < c) × (c ≤ 2) × (value_or (Effect.end (Term.bound 0)) (effect_of (c ∷ u)) ≡ effect_by c (value_or (Term.bound 0) (term u)))
-unfolding effect_of rest_of effect_by pick
-read_by zero u v h = absurd (let z : ◌≡◌ {A = ℕ} 0 1 = cc in omega arith)
-read_by (suc zero) u v h = (omega arith, omega arith, value_after Effect.end (term u) v h)
-read_by (suc (suc zero)) u v h = (omega arith, omega arith, value_after Effect.check (term u) v h)
-read_by (suc (suc (suc c))) u v h = absurd (let z : ◌≡◌ {A = ℕ} 0 1 = cc in omega arith)
-
--- an effect in the words is the one with its word and its term
-pub record Spelled (w : List ℕ) (i e : ℕ) : Type 0 where
-  pub inside : i < length w
-  pub some_word : 0 < get_or w i 0
-  pub small : get_or w i 0 ≤ 2
-  pub own : At w (i + 1) (rest_of (term (drop (i + 1) w))) e
-  pub effect_is : effect_in w i ≡ effect_by (get_or w i 0) (term_in w (i + 1))
-
-pub spelled : {w : List ℕ} {i e : ℕ} → EffectAt w i e → Spelled w i e
-unfolding effect_in term_in
-spelled {w} {i} {e} t =
-    let inside : i < length w = omega (arith, t.own.after, t.own.inside) in
-    let whole : drop i w ≡ get_or w i 0 ∷ drop (i + 1) w = rw add-one (drop-cons w i 0 inside) in
-    let parts = read_by (get_or w i 0) (drop (i + 1) w) (drop e w) (sym (ap (λ (u : List ℕ). rest_of (effect_of u)) whole) ∙ t.effect.rest) in
-    record {
-      inside = inside;
-      some_word = parts.0;
-      small = parts.1;
-      own = t.own;
-      effect_is = ap (λ (u : List ℕ). value_or (Effect.end (Term.bound 0)) (effect_of u)) whole ∙ parts.2;
-    }
-
 -- ---- counts are no larger than the words are many
 count-length : (x : Effect) (es : List Effect) → count x es ≤ length es
 count-length x [] = omega (arith, count_none x)
@@ -117,16 +66,16 @@ count-length x (e ∷ es) = elim (same_effect x e) [
 some_of : {A : Type 0} {B : Type 0} (r : Read A) (f : A × List ℕ → Read B) (v : List ℕ) → rest_of (then r f) ≡ some v
     → (a : A) × (x : List ℕ) × (r ≡ some (a, x)) × (rest_of (f (a, x)) ≡ some v)
 unfolding then rest_of
-some_of none f v e = absurd (let z : ◌≡◌ {A = ℕ} 0 1 = cc in omega arith)
+some_of none f v e = cc
 some_of (some p) f v e = (p.0, p.1, refl, e)
 
 effect-shorter : (u : List ℕ) (x : Effect) (v : List ℕ) → effect_of u ≡ some (x, v) → length v < length u
 unfolding effect_of after
-effect-shorter [] x v e = absurd (let z : ◌≡◌ {A = ℕ} 0 1 = cc in omega arith)
-effect-shorter (zero ∷ u) x v e = absurd (let z : ◌≡◌ {A = ℕ} 0 1 = cc in omega arith)
+effect-shorter [] x v e = cc
+effect-shorter (zero ∷ u) x v e = cc
 effect-shorter (suc zero ∷ u) x v e = omega (arith, shorter-after (length u) Effect.end (term u) (term-shorter u) x v e)
 effect-shorter (suc (suc zero) ∷ u) x v e = omega (arith, shorter-after (length u) Effect.check (term u) (term-shorter u) x v e)
-effect-shorter (suc (suc (suc c)) ∷ u) x v e = absurd (let z : ◌≡◌ {A = ℕ} 0 1 = cc in omega arith)
+effect-shorter (suc (suc (suc c)) ∷ u) x v e = cc
 
 few : (k : ℕ) (u v : List ℕ) → rest_of (effects k u) ≡ some v → k ≤ length u
 unfolding effects

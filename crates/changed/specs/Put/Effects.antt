@@ -1,87 +1,41 @@
 -- Changed effects, by counting. Assumes nothing.
-use Prim.Native.Nat.{ℕ, zero, suc, ◌+◌, ◌≤◌, ◌<◌}
-use Rattle.std.specs.Prelude.{Bool, ◌≡◌, drop, get_or}
+use Prim.Native.Nat.{ℕ, ◌+◌}
+use Rattle.std.specs.Prelude.{Bool, ◌≡◌, eqb, drop, get_or}
 use Rattle.std.specs.List.{list_all, count_by}
-use Rattle.std.proofs.Math.Bool.{false, cond}
-use Rattle.std.proofs.Common.{sym, ◌∙◌, add-one, drop-cons, eq-eqb, eqb-true}
+use Rattle.std.proofs.Math.Bool.{true, false, cond}
+use Rattle.std.proofs.Common.{sym, ◌∙◌, eq-eqb, eqb-true}
 use Rattle.std.proofs.lemmas.List.{length-map}
 use Rattle.std.proofs.lemmas.Bool.Decides.{same_from_decides}
 use Rattle.std.proofs.lemmas.List.Sums.{sum_by-cons}
 use mathlib.Core.List.{List, [], ◌∷◌, map}
-use Rattle.std.proofs.Math.Option.{none, some}
+use Rattle.std.proofs.Math.Option.{some}
 use Rattle.std.proofs.Math.Path.{refl, ap}
 use native.Mathlib.Omega.{arith}
 use Rattle.std.proofs.Math.ListN.{length}
-use Rattle.words.specs.Choice.{then}
+use Rattle.words.specs.Choice.{pick}
 use Rattle.words.specs.Choice.Laws.{pick_ind}
 use Rattle.typing.specs.Term.{Term, Effect, Change, same_term, same_effect, change_term, change_effect, effect_words}
 use Rattle.typing.specs.Bag.{up_to, insert, plus, bag, count}
 use Rattle.typing.proofs.Bag.Laws.{count-here, count-other, bag-same}
 use Rattle.typing.specs.Types.{same_effects}
-use Rattle.typing.specs.Reading.{Read, after, term, effect_of, effects}
+use Rattle.typing.specs.Reading.{effects}
 use Rattle.spans.specs.Behind.{rest_of}
-use Rattle.alike.specs.Same.{value_or, term_in, effect_in, effects_in, test}
+use Rattle.alike.specs.Same.{term_in, effect_in, effects_in, test}
 use Rattle.alike.specs.Same.Laws.{test-yes, test-no, test-true}
 use Rattle.alike.specs.Same.Effects.{list_length}
+use Rattle.alike.specs.Same.Spelled.{by_word, by-same, spelled}
 use Rattle.alike.specs.Same.Each.{EffectAt, count-by, all-true, all-counted}
 use Rattle.alike.specs.Same.Bags.{counts_all, length-same, level}
 use Rattle.changed.specs.Put.{changed_effects}
 
--- ---- an effect by its word
-pub by_word : ℕ → Term → Effect
-by_word zero M = Effect.end M
-by_word (suc zero) M = Effect.end M
-by_word (suc (suc c)) M = Effect.check M
-
-value_after : (f : Term → Effect) (o : Read Term) (v : List ℕ) → rest_of (after f o) ≡ some v
-    → value_or (Effect.end (Term.bound 0)) (after f o) ≡ f (value_or (Term.bound 0) o)
-unfolding after then rest_of value_or
-value_after f none v h = absurd (let z : ◌≡◌ {A = ℕ} 0 1 = cc in omega arith)
-value_after f (some p) v h = refl
-
-read_by : (c : ℕ) (u v : List ℕ) → rest_of (effect_of (c ∷ u)) ≡ some v
-    → (0 < c) × (c ≤ 2) × (value_or (Effect.end (Term.bound 0)) (effect_of (c ∷ u)) ≡ by_word c (value_or (Term.bound 0) (term u)))
-unfolding effect_of rest_of by_word
-read_by zero u v h = absurd (let z : ◌≡◌ {A = ℕ} 0 1 = cc in omega arith)
-read_by (suc zero) u v h = (omega arith, omega arith, value_after Effect.end (term u) v h)
-read_by (suc (suc zero)) u v h = (omega arith, omega arith, value_after Effect.check (term u) v h)
-read_by (suc (suc (suc c))) u v h = absurd (let z : ◌≡◌ {A = ℕ} 0 1 = cc in omega arith)
-
-same_by : (c d : ℕ) (M N : Term) → 0 < c → c ≤ 2 → 0 < d → d ≤ 2 → by_word c M ≡ by_word d N → (c ≡ d) × (M ≡ N)
-unfolding by_word
-same_by zero d M N k l m n e = absurd (omega arith)
-same_by (suc zero) zero M N k l m n e = absurd (omega arith)
-same_by (suc zero) (suc zero) M N k l m n e = (refl, cc)
-same_by (suc zero) (suc (suc d)) M N k l m n e = absurd (let z : ◌≡◌ {A = ℕ} 0 1 = cc in omega arith)
-same_by (suc (suc c)) zero M N k l m n e = absurd (omega arith)
-same_by (suc (suc c)) (suc zero) M N k l m n e = absurd (let z : ◌≡◌ {A = ℕ} 0 1 = cc in omega arith)
-same_by (suc (suc c)) (suc (suc d)) M N k l m n e = (omega arith, cc)
-
+-- ---- an effect by its word, changed
 change-by : (ch : Change) (c : ℕ) (M : Term) → change_effect ch (by_word c M) ≡ by_word c (change_term ch M)
-unfolding change_effect by_word
-change-by ch zero M = refl
-change-by ch (suc zero) M = refl
-change-by ch (suc (suc c)) M = refl
-
--- ---- the effect at a place
-pub record Spelled (w : List ℕ) (i : ℕ) : Type 0 where
-  pub inside : i < length w
-  pub some_word : 0 < get_or w i 0
-  pub small : get_or w i 0 ≤ 2
-  pub effect_is : effect_in w i ≡ by_word (get_or w i 0) (term_in w (i + 1))
-
-pub spelled : {w : List ℕ} {i e : ℕ} → EffectAt w i e → Spelled w i
-unfolding effect_in term_in
-spelled {w} {i} {e} t =
-    let inside : i < length w = omega (arith, t.own.after, t.own.inside) in
-    let whole : drop i w ≡ get_or w i 0 ∷ drop (i + 1) w = rw add-one (drop-cons w i 0 inside) in
-    let parts = read_by (get_or w i 0) (drop (i + 1) w) (drop e w) (sym (ap (λ (u : List ℕ). rest_of (effect_of u)) whole) ∙ t.effect.rest) in
-    record {
-      inside = inside;
-      some_word = parts.0;
-      small = parts.1;
-      effect_is = ap (λ (u : List ℕ). value_or (Effect.end (Term.bound 0)) (effect_of u)) whole ∙ parts.2;
-    }
+unfolding change_effect by_word pick
+change-by ch c M = go (eqb c 1)
+  where
+    go : (b : Bool) → change_effect ch (pick b (Effect.end M) (Effect.check M)) ≡ pick b (Effect.end (change_term ch M)) (Effect.check (change_term ch M))
+    go true = refl
+    go false = refl
 
 -- ---- the effect at i is the one at j, changed
 module _ (w : List ℕ) (ch : Change) (i e j f : ℕ) (b : EffectAt w i e) (d : EffectAt w j f) where
@@ -91,7 +45,7 @@ module _ (w : List ℕ) (ch : Change) (i e j f : ℕ) (b : EffectAt w i e) (d : 
   parts-same : change_effect ch (effect_in w j) ≡ effect_in w i
       → (get_or w j 0 ≡ get_or w i 0) × (change_term ch (term_in w (j + 1)) ≡ term_in w (i + 1))
   parts-same z =
-      same_by (get_or w j 0) (get_or w i 0) (change_term ch (term_in w (j + 1))) (term_in w (i + 1)) (spelled d).some_word (spelled d).small
+      by-same (get_or w j 0) (get_or w i 0) (change_term ch (term_in w (j + 1))) (term_in w (i + 1)) (spelled d).some_word (spelled d).small
       (spelled b).some_word (spelled b).small (sym changed-is ∙ z ∙ (spelled b).effect_is)
 
   pub is-other : (get_or w i 0 ≡ get_or w j 0 → ⊥) → false ≡ test (same_effect (change_effect ch (effect_in w j)) (effect_in w i))

@@ -3,7 +3,7 @@ use Prim.Native.Nat.{ℕ, zero, suc, ◌+◌, ◌*◌, ◌-◌, ◌≤◌, ◌<�
 use Rattle.std.specs.Prelude.{Bool, true, false, eqb, take, Option as Answer, None, IsSome}
 use Rattle.std.proofs.Common.{true≢false, ◌∙◌, subst, length-drop, length-append, get_or-drop, drop_of_length-le, drop-cons, drop-drop, eq-eqb, ne_eqb}
 use mathlib.Core.List.{List, [], ◌∷◌, ◌++◌, append_assoc}
-use Rattle.std.proofs.Math.Option.{Option, none, some}
+use Rattle.std.proofs.Math.Option.{none, some}
 use Rattle.std.proofs.Math.Path.{◌≡◌, refl, sym, ap}
 use native.Mathlib.Omega.{arith}
 use Rattle.std.proofs.Math.Decide.{dec_lt, ℕ_discrete as dec_eq}
@@ -23,7 +23,7 @@ use Rattle.spans.specs.Behind.{rest_of, At, Ends, term_turn, term_own, term_part
 use Rattle.spans.specs.Behind.Terms.{own_at, own-turn, parts-turn}
 use Rattle.spans.specs.Behind.Laws.{Counted, ends_some, terms-counted, rest-term, terms-nothing, terms-two, terms-one, terms-cut, terms-empty, turn_small, due-more, due-less, few-more, few-less}
 use Rattle.alike.specs.Same.{value_or, term_in, test, all_term_words}
-use Rattle.alike.specs.Same.Laws.{read-value, test-yes, test-no, term-spelled, run-term}
+use Rattle.alike.specs.Same.Laws.{some-not, read-value, test-yes, test-no, term-spelled, run-term}
 use Rattle.changed.specs.Put.{change_by, There, Found, Stood, leaf_term, step_words, changed_words}
 use Rattle.changed.specs.declared.By.{By}
 use Rattle.changed.specs.declared.By.TheVariants.{Bind, Put}
@@ -143,7 +143,7 @@ module _ (ch : Change) where
   words-ahead : (M : Term) (r : Read (List Term)) (z : List ℕ) → rest_of r ≡ some z
       → changed_words ch (value_or [] (ahead M r)) ≡ term_words (change_term ch M) ++ changed_words ch (value_or [] r)
   unfolding rest_of ahead then value_or
-  words-ahead M none z h = absurd (let y : ◌≡◌ {A = ℕ} 0 1 = cc in omega arith)
+  words-ahead M none z h = cc
   words-ahead M (some q) z h = words-cons M q.0
 
   words-joined : (c : ℕ) (f : Term → Term → Term)
@@ -151,7 +151,7 @@ module _ (ch : Change) where
       → (m : ℕ) (r : Read (List Term)) → Counted (suc (suc m)) r → (z : List ℕ) → rest_of r ≡ some z
       → changed_words ch (value_or [] (after (joined f) r)) ≡ c ∷ changed_words ch (value_or [] r)
   unfolding rest_of after then joined value_or
-  words-joined c f g m none k z h = absurd (let y : ◌≡◌ {A = ℕ} 0 1 = cc in omega arith)
+  words-joined c f g m none k z h = cc
   words-joined c f g m (some q) k z h = go q.0 (k q.0 q.1 refl)
     where
       go : (l : List Term) → length l ≡ suc (suc m) → changed_words ch (joined f l) ≡ c ∷ changed_words ch l
@@ -195,26 +195,20 @@ pub record Along (w : List ℕ) (ch : Change) (a b f i j due : ℕ) : Type 0 whe
   pub from : Begins (drop i w) (changed_words ch (value_or [] (terms (drop j w) due))) → term_in w a ≡ change_term ch (term_in w b)
 
 -- where terms are still to come, a word is there
-none-read : (v : List ℕ) (o : Option (List ℕ)) → o ≡ some v → o ≡ none → ⊥
-none-read v o d e =
-    let c : none ≡ some v = sym e ∙ d in
-    let z : ◌≡◌ {A = ℕ} 0 1 = cc in
-    omega arith
-
 reads-inside : (w : List ℕ) (f j due : ℕ) → rest_of (terms (drop j w) due) ≡ some (drop f w) → 0 < due → j < length w
 reads-inside w f j due r h =
     let one_more : due ≡ suc (due - 1) = omega arith in
     elim (dec_lt j (length w)) [
       | yes l ↦ l
       | no l ↦
-          absurd (none-read _ _ r
+          absurd (some-not _ _ r
           (ap (λ (m : ℕ). rest_of (terms (drop j w) m)) one_more
           ∙ ap (λ (u : List ℕ). rest_of (terms u (suc (due - 1)))) (drop_of_length-le w {i = j} (omega arith)) ∙ terms-empty (due - 1)))
     ]
 
 one_list : (r : Read (List Term)) → Counted 1 r → (z : List ℕ) → rest_of r ≡ some z → value_or [] r ≡ value_or (Term.bound 0) (only r) ∷ []
 unfolding rest_of value_or only then
-one_list none c z e = absurd (let y : ◌≡◌ {A = ℕ} 0 1 = cc in omega arith)
+one_list none c z e = cc
 one_list (some p) c z e = go p.0 p.1 (c p.0 p.1 refl)
   where
     go : (l : List Term) (x : List ℕ) → length l ≡ 1
@@ -273,14 +267,14 @@ module _ (w : List ℕ) (ch : Change) (a b f i j due : ℕ) (t : Along w ch a b 
     pub along-word : 0 < term_turn (get_or w j 0)
     along-word = elim (dec_lt 0 (term_turn (get_or w j 0))) [
       | yes l ↦ l
-      | no l ↦ absurd (none-read _ _ t.reads (ap rest_of reading ∙ terms-nothing (get_or w j 0) (due - 1) (drop (suc j) w) (omega arith)))
+      | no l ↦ absurd (some-not _ _ t.reads (ap rest_of reading ∙ terms-nothing (get_or w j 0) (due - 1) (drop (suc j) w) (omega arith)))
     ]
 
     pub along-leaf : term_turn (get_or w j 0) ≡ 1 → j + 1 < length w
     along-leaf one = elim (dec_lt (j + 1) (length w)) [
       | yes l ↦ l
       | no l ↦
-          absurd (none-read _ _ t.reads
+          absurd (some-not _ _ t.reads
           (ap rest_of reading ∙ ap (λ (u : List ℕ). rest_of (terms (get_or w j 0 ∷ u) (suc (due - 1)))) (drop_of_length-le w {i = suc j} (omega arith))
           ∙ terms-cut (get_or w j 0) (due - 1) one))
     ]

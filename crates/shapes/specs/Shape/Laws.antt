@@ -20,7 +20,7 @@ use Rattle.typing.specs.Reading.{Read, after, only, types, type_at, effects, wit
 use Rattle.typing.specs.Reading.Laws.{type-Un, type-pair, type-channel, type-symkey, type-nonce, environment-entry}
 use Rattle.spans.specs.Behind.{rest_of, At}
 use Rattle.alike.specs.Same.{value_or, effects_in, type_in, environment_in, test}
-use Rattle.alike.specs.Same.Laws.{test-yes, test-no, test-true}
+use Rattle.alike.specs.Same.Laws.{some-not, test-yes, test-no, test-true}
 use Rattle.shapes.specs.Shape.{Reads, wrapped, made_type, There}
 use Rattle.shapes.specs.declared.Made.{Made}
 use Rattle.shapes.specs.declared.Made.TheVariants.{Un, Same, Channel, Symkey, Nonce, Pair}
@@ -35,7 +35,7 @@ one_place same f a b e = sym (test-yes (same (f a) (f b)) (ap f e))
 
 no-rest : {A : Type 0} (r : Read A) (v : List ℕ) → r ≡ none → rest_of r ≡ some v → ⊥
 unfolding rest_of
-no-rest r v d e = let q : none ≡ some v = sym (ap rest_of d) ∙ e in let z : ◌≡◌ {A = ℕ} 0 1 = cc in omega arith
+no-rest r v d e = some-not v (rest_of r) e (ap rest_of d)
 
 -- ---- types by their first word
 abbrev pub code_of : Ty → ℕ
@@ -48,7 +48,7 @@ code_of (Ty.nonce es) = 5
 rest-after : {A B : Type 0} (f : A → B) (b : B) (a : A) (r : Read A) (v : List ℕ) → rest_of (after f r) ≡ some v
     → (rest_of r ≡ some v) × (value_or b (after f r) ≡ f (value_or a r))
 unfolding rest_of after then value_or
-rest-after f b a none v e = absurd (let z : ◌≡◌ {A = ℕ} 0 1 = cc in omega arith)
+rest-after f b a none v e = cc
 rest-after f b a (some p) v e = (e, refl)
 
 wrapped-from : (c : ℕ) (u v : List ℕ) → 3 ≤ c → c ≤ 4 → rest_of (type_at (c ∷ u)) ≡ some v
@@ -70,12 +70,12 @@ pair-go : (o : Read Ty) (v : List ℕ) → rest_of (then o (λ p. then (type_at 
     × (value_or Ty.Un (then o (λ p. then (type_at p.1) (λ q. some (Ty.pair p.0 q.0, q.1))))
     ≡ Ty.pair (value_or Ty.Un o) (value_or Ty.Un (type_at x)))
 unfolding rest_of then value_or
-pair-go none v e = absurd (let z : ◌≡◌ {A = ℕ} 0 1 = cc in omega arith)
+pair-go none v e = cc
 pair-go (some p) v e = let (x, y) = go (type_at p.1) e in (p.1, refl, x, y)
   where
     go : (o : Read Ty) → rest_of (then o (λ q. some (Ty.pair p.0 q.0, q.1))) ≡ some v
         → (rest_of o ≡ some v) × (value_or Ty.Un (then o (λ q. some (Ty.pair p.0 q.0, q.1))) ≡ Ty.pair p.0 (value_or Ty.Un o))
-    go none h = absurd (let z : ◌≡◌ {A = ℕ} 0 1 = cc in omega arith)
+    go none h = cc
     go (some q) h = (h, refl)
 
 pair-from : (u v : List ℕ) → rest_of (type_at (2 ∷ u)) ≡ some v
@@ -87,16 +87,16 @@ pair-from u v e =
 
 code-from : (c : ℕ) (u v : List ℕ) → rest_of (type_at (c ∷ u)) ≡ some v → code_of (value_or Ty.Un (type_at (c ∷ u))) ≡ c
 unfolding type_at types only then rest_of with_effects value_or after wrapped pick
-code-from zero u v e = absurd (let z : ◌≡◌ {A = ℕ} 0 1 = cc in omega arith)
+code-from zero u v e = cc
 code-from (suc zero) u v e = ap (λ (r : Read Ty). code_of (value_or Ty.Un r)) (type-Un u)
 code-from (suc (suc zero)) u v e = let (x, p, q, s) = pair-from u v e in ap code_of s
 code-from (suc (suc (suc zero))) u v e = ap code_of (wrapped-from 3 u v (omega arith) (omega arith) e).1
 code-from (suc (suc (suc (suc zero)))) u v e = ap code_of (wrapped-from 4 u v (omega arith) (omega arith) e).1
-code-from (suc (suc (suc (suc (suc zero))))) [] v e = absurd (let z : ◌≡◌ {A = ℕ} 0 1 = cc in omega arith)
+code-from (suc (suc (suc (suc (suc zero))))) [] v e = cc
 code-from (suc (suc (suc (suc (suc zero))))) (n ∷ u) v e =
     ap code_of (ap (value_or Ty.Un) (type-nonce n u)
     ∙ (rest-after (λ es. Ty.nonce (bag es)) Ty.Un [] (effects n u) v (sym (ap rest_of (type-nonce n u)) ∙ e)).1)
-code-from (suc (suc (suc (suc (suc (suc c)))))) u v e = absurd (let z : ◌≡◌ {A = ℕ} 0 1 = cc in omega arith)
+code-from (suc (suc (suc (suc (suc (suc c)))))) u v e = cc
 
 value-some : (T : Ty) (v : List ℕ) → value_or Ty.Un (some (T, v)) ≡ T
 unfolding value_or
@@ -257,7 +257,7 @@ module _ (w : List ℕ) (a : ℕ) (t : Reads type_at w a) where
       | no l ↦
           let q : none ≡ some t.behind =
           sym (ap (λ (u : List ℕ). rest_of (type_at (5 ∷ u))) (drop_of_length-le w {i = a + 1} (omega arith)) ∙ nonce-cut) ∙ reads-five in
-          absurd (let z : ◌≡◌ {A = ℕ} 0 1 = cc in omega arith)
+          cc
     ]
 
     behind-count : drop (a + 1) w ≡ get_or w (a + 1) 0 ∷ drop (a + 2) w
@@ -304,24 +304,24 @@ environment-cut = refl
 
 first_word : (c : ℕ) (u v : List ℕ) → rest_of (environment_at (c ∷ u)) ≡ some v → (c ≡ 2 → ⊥) → value_or [] (environment_at (c ∷ u)) ≡ []
 unfolding environment_at entries rest_of value_or
-first_word zero u v e d = absurd (let z : ◌≡◌ {A = ℕ} 0 1 = cc in omega arith)
+first_word zero u v e d = cc
 first_word (suc zero) u v e d = refl
 first_word (suc (suc zero)) u v e d = absurd (d refl)
-first_word (suc (suc (suc c))) u v e d = absurd (let z : ◌≡◌ {A = ℕ} 0 1 = cc in omega arith)
+first_word (suc (suc (suc c))) u v e d = cc
 
 first-is : (c : ℕ) (u v : List ℕ) → rest_of (environment_at (c ∷ u)) ≡ some v → (c ≡ 2 → ⊥) → c ≡ 1
 unfolding environment_at entries rest_of
-first-is zero u v e d = absurd (let z : ◌≡◌ {A = ℕ} 0 1 = cc in omega arith)
+first-is zero u v e d = cc
 first-is (suc zero) u v e d = refl
 first-is (suc (suc zero)) u v e d = absurd (d refl)
-first-is (suc (suc (suc c))) u v e d = absurd (let z : ◌≡◌ {A = ℕ} 0 1 = cc in omega arith)
+first-is (suc (suc (suc c))) u v e d = cc
 
 entry-go : (x : ℕ) (o : Read Ty) (v : List ℕ) → rest_of (then o (λ p. after (λ (E : Environment). (x ⦂ p.0) ∷ E) (environment_at p.1))) ≡ some v
     → (y : List ℕ) × (rest_of o ≡ some y) × (rest_of (environment_at y) ≡ some v)
     × (value_or [] (then o (λ p. after (λ (E : Environment). (x ⦂ p.0) ∷ E) (environment_at p.1))) ≡ (x ⦂ value_or Ty.Un o) ∷ value_or []
     (environment_at y))
 unfolding rest_of then value_or
-entry-go x none v e = absurd (let z : ◌≡◌ {A = ℕ} 0 1 = cc in omega arith)
+entry-go x none v e = cc
 entry-go x (some p) v e =
     let (q, s) = rest-after (λ (E : Environment). (x ⦂ p.0) ∷ E) [] [] (environment_at p.1) v e in
     (p.1, refl, q, s)
@@ -346,7 +346,7 @@ module _ (w : List ℕ) (a : ℕ) (t : Reads environment_at w a) where
       nothing (sym (ap (λ (u : List ℕ). value_or [] (environment_at u)) words ∙ e) ∙ z)))
     where
       nothing : [] ≡ p ∷ E → ⊥
-      nothing z = let y : ◌≡◌ {A = ℕ} 0 1 = cc in omega arith
+      nothing z = cc
 
   module _ (two : get_or w a 0 ≡ 2) where
     reads_two : rest_of (environment_at (2 ∷ drop (a + 1) w)) ≡ some t.behind
@@ -428,7 +428,7 @@ module _ (w : List ℕ) (a : ℕ) (t : Reads environment_at w a) where
   reads-words = sym (ap (λ (u : List ℕ). rest_of (environment_at u)) (words w a t)) ∙ t.reads
 
   some-entry : {p : Entry} {E : Environment} → [] ≡ p ∷ E → ⊥
-  some-entry z = let y : ◌≡◌ {A = ℕ} 0 1 = cc in omega arith
+  some-entry z = cc
 
   none_is : (get_or w a 0 ≡ 2 → ⊥) → environment_in w a ≡ []
   unfolding environment_in

@@ -4,12 +4,13 @@ use native.Mathlib.Omega.{arith}
 use mathlib.Core.List.{List, [], map}
 use mathlib.Core.Path.{◌≡◌, refl, sym, ap, ◌∙◌}
 use lib.ListN.{length, take}
-use Rattle.words.specs.Overlay.{Wrote}
+use Rattle.words.specs.Overlay.{forward, Wrote}
 use Rattle.words.specs.Overlay.Laws.{wrote-length, wrote-take, wrote_as}
 use Rattle.octets.specs.Octets.{bytes_of_all}
 use Rattle.octets.specs.Octets.Laws.{bytes-none, bytes-then}
 use Rattle.terms.specs.Table.{term}
 use Rattle.book.specs.Layout.{table, steps, known}
+use Rattle.std.specs.Prelude.{Option}
 use Rattle.book.specs.declared.Stop.{Stop}
 use Rattle.book.specs.Valid.{Valid}
 use Rattle.translation.specs.Dictionary.{start}
@@ -45,31 +46,35 @@ pub record Flushed (b : List ℕ) (p i : ℕ) (log₀ log out₀ : List ℕ) (a 
   pub long : length e ≡ 1024
 
 -- steps in which the party has no part add nothing
-module _ {b : List ℕ} {p i j : ℕ} (valid : Valid b) (idle : IdleUntil b p i j) {log₀ log out₀ : List ℕ} {a : ℕ} {out : List ℕ} {next : ℕ}
-    {e : List ℕ} {m k : ℕ} {step : List ℕ} where
-  skip : {c : ℕ} → Along b p i log₀ log 0 [] [] e m k c → Wrote (bytes_of_all (program_words (row_of b) (before b p i).events)) out₀ a out next
-      → length step ≡ step_words → length e ≡ 1024 → Flushed b p j log₀ log out₀ a out next e m k step
-  skip {c} g w l n =
-      let same = before-skip b p idle in
-      record {
-        valid = valid;
-        within = idle.within;
-        count = c;
-        along = doing-as g same;
-        wrote = wrote_as w (ap (λ (d : Did). bytes_of_all (program_words (row_of b) d.events)) same);
-        size = l;
-        long = n;
-      }
+pub flushed-skip : {b : List ℕ} {p i j : ℕ} {log₀ log out₀ : List ℕ} {a : ℕ} {out : List ℕ} {next : ℕ} {e : List ℕ} {m k : ℕ} {step : List ℕ}
+    → IdleUntil b p i j → Flushed b p i log₀ log out₀ a out next e m k step → Flushed b p j log₀ log out₀ a out next e m k step
+flushed-skip {b} {p} idle g =
+    let same = before-skip b p idle in
+    record {
+      valid = g.valid;
+      within = idle.within;
+      count = g.count;
+      along = doing-as g.along same;
+      wrote = wrote_as g.wrote (ap (λ (d : Did). bytes_of_all (program_words (row_of b) d.events)) same);
+      size = g.size;
+      long = g.long;
+    }
 
 -- ---- at the start the party holds what it knows
-pub flushed-start : {b : List ℕ} {p i : ℕ} {log out e : List ℕ} {a : ℕ} {step : List ℕ}
-    → Valid b → length e ≡ 1024 → view b e ≡ start (map (term (table b)) (known b p))
-    → IdleUntil b p 0 i → length step ≡ step_words → Flushed b p i log log out a out a e 0 0 step
+pub flushed-start : {b : List ℕ} {p : ℕ} {log out e : List ℕ} {a : ℕ} {step : List ℕ} → Valid b → length e ≡ 1024
+    → view b e ≡ start (map (term (table b)) (known b p)) → length step ≡ step_words → Flushed b p 0 log log out a out a e 0 0 step
 unfolding program_words
-flushed-start {b} {p} {e = e} v long h idle l =
+flushed-start {b} {p} {e = e} v long h l =
     let none = before-none b p in
-    skip v idle {c = 0} (doing-as (rw (← h) (doing-none {b = b} {x = e})) none)
-    (wrote_as bytes-none (ap (λ (f : Did). bytes_of_all (program_words (row_of b) f.events)) none)) l long
+    record {
+      valid = v;
+      within = omega arith;
+      count = 0;
+      along = doing-as (rw (← h) (doing-none {b = b} {x = e})) none;
+      wrote = wrote_as bytes-none (ap (λ (f : Did). bytes_of_all (program_words (row_of b) f.events)) none);
+      size = l;
+      long = long;
+    }
 
 module _ {b : List ℕ} {p i : ℕ} (h : i < steps b) {log₀ log out₀ : List ℕ} {a : ℕ} {out : List ℕ} {next : ℕ} {e : List ℕ} {m k : ℕ}
     {step : List ℕ} (g : Flushed b p i log₀ log out₀ a out next e m k step) where
@@ -90,7 +95,7 @@ module _ {b : List ℕ} {p i : ℕ} (h : i < steps b) {log₀ log out₀ : List 
         room = omega arith;
       }
 
-  module _ {l log_after step_after : List ℕ} {y : Received} {ahead more : ℕ} {t : Stop}
+  module _ {l log_after step_after : List ℕ} {y : Received} {ahead more : ℕ} {t : Option Stop}
       (w : Acting b l p i (standing i e m k 0) log log_after step step_after y ahead more t)
     where
       -- the step's words stand in front of the buffer
@@ -116,22 +121,24 @@ module _ {b : List ℕ} {p i : ℕ} (h : i < steps b) {log₀ log out₀ : List 
           ap (λ k. take k step_after) behind ∙ wrote-take w.doing.wrote (omega arith)
 
       -- ---- and its bytes are behind those of the steps before
-      pub flushed-on : {j : ℕ} {out_after : List ℕ} {after : ℕ} → Wrote (bytes_of_all (take y.at step_after)) out next out_after after
-          → IdleUntil b p (i + 1) j → Flushed b p j log₀ log_after out₀ a out_after after
-          y.dictionary.entries y.dictionary.next y.dictionary.kept step_after
-      flushed-on {j} {out_after} {after} put idle =
+      pub flushed-on : {out_after : List ℕ} {after : ℕ} → Wrote (bytes_of_all (take y.at step_after)) out next out_after after
+          → Flushed b p (i + 1) log₀ log_after out₀ a out_after after y.dictionary.entries y.dictionary.next y.dictionary.kept step_after
+      flushed-on put =
           let events = program_words (row_of b) (before b p i).events in
           let both = bytes-then events (program_words (row_of b) did.events) g.wrote (wrote_as put (ap bytes_of_all (sym front))) in
           let joined = program-append (row_of b) (before b p i).events did.events in
           let more = ap (λ (f : Did). program_words (row_of b) f.events) (along-more b p i g.along) ∙ joined in
-          skip g.valid idle (along-on b p i g.along (doing-counted w.doing g.count)) (wrote_as both (ap bytes_of_all more)) flushed-size
-          w.size
+          record {
+            valid = g.valid;
+            within = omega arith;
+            count = forward g.count (length (program_words (row_of b) did.events));
+            along = along-on b p i g.along (doing-counted w.doing g.count);
+            wrote = wrote_as both (ap bytes_of_all more);
+            size = flushed-size;
+            long = w.size;
+          }
 
 -- ---- all steps
-pub flushed-end : {b : List ℕ} {p i n : ℕ} {log₀ log out₀ : List ℕ} {a : ℕ} {out : List ℕ} {next : ℕ}
-    {e : List ℕ} {m k : ℕ} {step : List ℕ}
-    → n ≡ steps b → n ≤ i → Flushed b p i log₀ log out₀ a out next e m k step → WroteEvents b p log₀ log out₀ a out next k
-flushed-end {b} {p} {i} d h g =
-    let l = g.within in
-    let all : i ≡ steps b = omega arith in
-    record { wrote = rw all at g.wrote; keeps = rw all at g.along.keeps }
+pub flushed-end : {b : List ℕ} {p i : ℕ} {log₀ log out₀ : List ℕ} {a : ℕ} {out : List ℕ} {next : ℕ} {e : List ℕ} {m k : ℕ} {step : List ℕ}
+    → i ≡ steps b → Flushed b p i log₀ log out₀ a out next e m k step → WroteEvents b p log₀ log out₀ a out next k
+flushed-end all g = record { wrote = rw all at g.wrote; keeps = rw all at g.along.keeps }

@@ -1,5 +1,5 @@
 -- The bytes of a program, of the programs and of a listing, from those of their parts. Assumes nothing.
-use Prim.Native.Nat.{ℕ, ◌+◌, ◌*◌, ◌/◌, ◌≤◌, ◌<◌}
+use Prim.Native.Nat.{ℕ, ◌+◌, ◌*◌, ◌/◌, ◌≤◌}
 use mathlib.Core.List.{List, [], ◌∷◌, ◌++◌}
 use mathlib.Core.Path.{◌≡◌, sym, ap, ◌∙◌}
 use native.Mathlib.Omega.{arith}
@@ -35,57 +35,38 @@ module _ {b ps : List ℕ} {p : ℕ} (ready : EventsReady b ps p) {log log_after
   few-triples w = (triples w).1
 
   -- the events' bytes, those of END's first words, and those of the triples
-  pub programmed : {end end_after between out_after : List ℕ} {m e i j : ℕ} → length log ≡ 3072 → length end ≡ 2
-      → WroteEvents b p log log_after out a middle next kept → m ≡ kept / 3 → Wrote (6 ∷ m ∷ []) end 0 end_after e
-      → Wrote (bytes_of_all (take 2 end_after)) middle next between i → Wrote (bytes_of_all (take kept log_after)) between i out_after j
+  pub programmed : {between out_after : List ℕ} {m i j : ℕ} → length log ≡ 3072 → WroteEvents b p log log_after out a middle next kept
+      → m ≡ kept / 3 → Wrote (bytes_of_all (6 ∷ m ∷ [])) middle next between i → Wrote (bytes_of_all (take kept log_after)) between i out_after j
       → Wrote (bytes_of_all (part_words b p)) out a out_after j
-  programmed {end} {end_after} {m = m} l two w third put ends rest =
+  programmed {m = m} l w third ends rest =
       let stored = (before b p (steps b)).stored in
       let count = (triples w).0 in
       let few = (triples w).1 in
       let n = triples-length (row_of b) stored in
-      let first = wrote-take put (omega arith) in
       let thirds : m ≡ length stored = omega arith in
       let kept-triples = ap (λ k. take k log_after) (count ∙ sym n) ∙ wrote-take w.keeps (omega arith) in
-      let front = wrote_as ends (ap bytes_of_all (sym (first ∙ ap (λ k. 6 ∷ k ∷ []) thirds))) in
+      let front = wrote_as ends (ap (λ k. bytes_of_all (6 ∷ k ∷ [])) (sym thirds)) in
       let back = wrote_as rest (ap bytes_of_all (sym kept-triples)) in
       let end-words = bytes-then (6 ∷ length stored ∷ []) (triple_words (row_of b) stored) front back in
       wrote_as (bytes-then (program_words (row_of b) (before b p (steps b)).events) _ w.wrote end-words)
       (ap bytes_of_all (part-words b p ready.party))
 
--- ---- the programs of the first q of n parties
-pub record Laid (b : List ℕ) (n q : ℕ) (old : List ℕ) (at : ℕ) (new : List ℕ) (next : ℕ) : Type 0 where
-  pub few : q ≤ n
-  pub wrote : Wrote (bytes_of_all (bodies (programs_to b q))) old at new next
-
-pub bodies-start : {b : List ℕ} {n : ℕ} {old : List ℕ} {at : ℕ} → Laid b n 0 old at old at
+-- ---- the programs of the first q parties
+pub bodies-start : (b : List ℕ) {old : List ℕ} {at : ℕ} → Wrote (bytes_of_all (bodies (programs_to b 0))) old at old at
 unfolding values bodies
-bodies-start = record { few = omega arith; wrote = bytes-none }
+bodies-start b = bytes-none
 
 -- one party's program more
-pub bodies-on : {b : List ℕ} {n q : ℕ} {old new later : List ℕ} {at next r : ℕ} → q < n → Laid b n q old at new next
-    → Wrote (bytes_of_all (part_words b q)) new next later r → Laid b n (q + 1) old at later r
-bodies-on {b} {q = q} l h w =
-    record {
-      few = omega arith;
-      wrote = wrote_as (bytes-then (bodies (programs_to b q)) (part_words b q) h.wrote w) (ap bytes_of_all (bodies-more b q));
-    }
-
--- the loop ends behind the last party
-pub bodies-end : {b : List ℕ} {n q : ℕ} {old new : List ℕ} {at next : ℕ} → n ≡ parties b → n ≤ q → Laid b n q old at new next
-    → Wrote (bytes_of_all (bodies_of b)) old at new next
-bodies-end {b} {q = q} e l h =
-    let f = h.few in
-    let z : q ≡ parties b = omega arith in
-    rw z at h.wrote
+pub bodies-on : (b : List ℕ) (q : ℕ) {old new later : List ℕ} {at next r : ℕ} → Wrote (bytes_of_all (bodies (programs_to b q))) old at new next
+    → Wrote (bytes_of_all (part_words b q)) new next later r → Wrote (bytes_of_all (bodies (programs_to b (q + 1)))) old at later r
+bodies-on b q h w = wrote_as (bytes-then (bodies (programs_to b q)) (part_words b q) h w) (ap bytes_of_all (bodies-more b q))
 
 -- ---- a listing: the number of parties, the heads and the programs, written one after another
-pub listing-wrote : (b hs : List ℕ) {n m : ℕ} {front front_after old one two new : List ℕ} {e p q r : ℕ} → n ≡ parties b → m ≡ n → HeadsIn b hs
-    → length front ≡ 1 → Wrote (n ∷ []) front 0 front_after e → Wrote (bytes_of_all (take 1 front_after)) old 0 one p
-    → Wrote (bytes_of_all (take (2 * m) hs)) one p two q → Wrote (bytes_of_all (bodies_of b)) two q new r → Wrote (bytes_of_all (listing b)) old 0 new r
-listing-wrote b hs {n} {m} {front_after = front_after} e f h one_word put x y z =
-    let first : take 1 front_after ≡ parties b ∷ [] = wrote-take put (omega arith) ∙ ap (λ k. k ∷ []) e in
+pub listing-wrote : (b hs : List ℕ) {n m : ℕ} {old one two new : List ℕ} {p q r : ℕ} → n ≡ parties b → m ≡ n → HeadsIn b hs
+    → Wrote (bytes_of_all (n ∷ [])) old 0 one p → Wrote (bytes_of_all (take (2 * m) hs)) one p two q
+    → Wrote (bytes_of_all (bodies_of b)) two q new r → Wrote (bytes_of_all (listing b)) old 0 new r
+listing-wrote b hs {n} {m} e f h x y z =
     let kept : take (2 * m) hs ≡ heads_of b = ap (λ k. take (2 * k) hs) (f ∙ e) ∙ h in
-    let front = wrote_as x (ap bytes_of_all (sym first)) in
+    let front = wrote_as x (ap (λ k. bytes_of_all (k ∷ [])) (sym e)) in
     let behind = bytes-then (heads_of b) (bodies_of b) (wrote_as y (ap bytes_of_all (sym kept))) z in
     wrote_as (bytes-then (parties b ∷ []) (heads_of b ++ bodies_of b) front behind) (ap bytes_of_all (listing-parts b))

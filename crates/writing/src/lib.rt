@@ -1,6 +1,6 @@
 // The listing written as bytes, low byte first, with no listing of words between: each step's words go through a buffer that has room for
 // any step's. `translate_words` answers as `translator::translate` does, and leaves the same words as bytes.
-#![tactic(auto)]
+#![tactic(auto, using(book::specs::Headed::Laws::headed_rules))]
 
 ghost use Rattle.std.specs.Prelude.{◌≡◌};
 ghost use Rattle.words.specs.Overlay.{Wrote};
@@ -17,8 +17,8 @@ use holding::start;
 use octets::put_words;
 use translation::Answer;
 use translator::{fit, survey};
-use walking::{act, next_own};
-use words::{narrow, put, put2, wide};
+use walking::{act, is_own};
+use words::{narrow, wide};
 
 // What is kept at most.
 #[derive(Drop)]
@@ -50,13 +50,14 @@ fn write_events(
     ensures { WroteEvents book.now party log.old log.new out.old at out.new result.at result.kept }
 {
     let mut step = [0u32; Most::STEP];
-    let n = steps(book);
     let mut entries = start(book, party);
     let mut given = 0;
     let mut kept = 0;
     let mut next = at;
-    let mut i = next_own(book, party, 0);
-    while i < n {
+    for i in 0..steps(book) {
+        if !is_own(book, party, i) {
+            continue;
+        }
         let acted = act(
             book,
             since,
@@ -72,8 +73,7 @@ fn write_events(
         );
         given = acted.next;
         kept = acted.kept;
-        next = put_words(out, next, &step, acted.at);
-        i = next_own(book, party, i + 1);
+        next = put_words(out, next, &step[..acted.at]);
     }
     Events { at: next, kept }
 }
@@ -92,10 +92,9 @@ fn write_program(
 {
     let mut log = [0u32; Triple::ALL];
     let events = write_events(book, since, partners, party, &mut log, out, at);
-    let mut end = [0u32; 2];
-    put2(&mut end, 0, Code::END, narrow(events.kept / Triple::WORDS));
-    let triples = put_words(out, events.at, &end, 2);
-    put_words(out, triples, &log, events.kept)
+    let n = narrow(events.kept / Triple::WORDS);
+    let triples = put_words(out, events.at, &[Code::END, n]);
+    put_words(out, triples, &log[..events.kept])
 }
 
 // The programs, in party order, as bytes.
@@ -103,12 +102,9 @@ fn write_bodies(book: &[u32], since: &ByRow, partners: &ByRow, out: &mut [u8], a
     requires { Writable book.now since.now partners.now }
     ensures { Wrote (bytes_of_all (bodies_of book.now)) out.old at out.new result }
 {
-    let n = parties(book);
     let mut next = at;
-    let mut party = 0;
-    while party < n {
+    for party in 0..parties(book) {
         next = write_program(book, since, partners, party, out, next);
-        party += 1;
     }
     next
 }
@@ -125,10 +121,8 @@ fn write_listing(
     ensures { Wrote (bytes_of_all (listing book.now)) out.old 0 out.new result }
 {
     let n = parties(book);
-    let mut front = [0u32; 1];
-    put(&mut front, 0, n);
-    let first = put_words(out, 0, &front, 1);
-    let next = put_words(out, first, heads, 2 * wide(n));
+    let first = put_words(out, 0, &[n]);
+    let next = put_words(out, first, &heads[..2 * wide(n)]);
     write_bodies(book, since, partners, out, next)
 }
 
@@ -137,16 +131,7 @@ pub fn translate_words(book: &[u32], out: &mut [u8]) -> Answer
     ensures { came result out.new ≡ translated book.now out.old }
 {
     let all = survey(book);
-    let reading = all.reading;
-    let answer = fit(reading, all.end, out.len() / 4);
-    match answer {
-        Answer::Refused(why) => Answer::Refused(why),
-        Answer::Written(n) => {
-            let since = all.since;
-            let partners = all.partners;
-            let heads = all.heads;
-            write_listing(book, &since, &partners, &heads, out);
-            Answer::Written(n)
-        }
-    }
+    let n = fit(all.reading, all.end, out.len() / 4)?;
+    write_listing(book, &all.since, &all.partners, &all.heads, out);
+    Ok(n)
 }

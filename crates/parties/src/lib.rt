@@ -23,6 +23,7 @@ fn name_repeats(book: &[u32], party: u32) -> bool
     ensures { result ≡ any (λ k. eqb (name book.now k) (name book.now party)) party }
 {
     let own = party_name(book, party);
+    // Kept: a loop, as in `rows`, since the proof did not close over `any` of a range: what it answers was not found to be a test of each number.
     for k in 0..party {
         if party_name(book, k) == own {
             return true;
@@ -36,6 +37,7 @@ fn entry_falls(book: &[u32], first: usize, n: usize) -> bool
     requires { Headed book.now × (first + n ≤ pool_of book.now) }
     ensures { result ≡ any (λ j. leb (pooled_at book.now first (j + 1)) (pooled_at book.now first j)) (n - 1) }
 {
+    // Kept: a loop, as in `rows`, since the proof did not close over `any` of a range: what it answers was not found to be a test of each number.
     for j in 1..n {
         if pooled(book, first, j) <= pooled(book, first, j - 1) {
             return true;

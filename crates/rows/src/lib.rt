@@ -20,6 +20,7 @@ fn entry_breaks(book: &[u32], first: usize, n: usize, bound: u32) -> bool
     requires { Headed book.now × (first + n ≤ pool_of book.now) }
     ensures { result ≡ any (λ j. leb bound (pooled_at book.now first j)) n }
 {
+    // Kept: a loop, since the proof did not close over `any` of a range: what it answers was not found to be a test of each number.
     for j in 0..n {
         if bound <= pooled(book, first, j) {
             return true;

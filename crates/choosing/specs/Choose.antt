@@ -1,5 +1,5 @@
 -- What lines say by their kinds, and whether one follows from others by the rule of a number.
-use Rattle.std.specs.Prelude.{ℕ, zero, suc, Bool, true, false, ◌&&◌, List, [], ◌∷◌, drop}
+use Rattle.std.specs.Prelude.{ℕ, Bool, true, false, ◌&&◌, List, [], ◌∷◌, drop}
 use Rattle.std.proofs.Math.Option.{Option, none, some}
 use Rattle.typing.specs.Judgement.{Judgement}
 use Rattle.typing.specs.Check.{follows}
@@ -27,19 +27,16 @@ There Kind.of_effect w l = EffectThere w l
 There Kind.of_term w l = TermThere w l
 There Kind.of_process w l = ProcessThere w l
 
--- the same as a test, of a kind by its number
+-- the same as a test
 unfoldable pub reads : {A : Type 0} → (List ℕ → Read A) → List ℕ → ℕ → Bool
 reads r w a = elim (r (drop a w)) [ none ↦ false | some p ↦ true ]
 
-unfoldable pub is_there : ℕ → List ℕ → Line → Bool
-is_there zero w l = false
-is_there (suc zero) w l = reads environment_at w l.e
-is_there (suc (suc zero)) w l = reads environment_at w l.e && reads type_at w l.t
-is_there (suc (suc (suc zero))) w l = reads environment_at w l.e && reads (effects l.k) w l.f
-is_there (suc (suc (suc (suc zero)))) w l = reads environment_at w l.e && (reads term w l.s && reads type_at w l.t)
-is_there (suc (suc (suc (suc (suc zero))))) w l =
-    reads environment_at w l.e && (reads process_at w l.s && reads (effects l.k) w l.f)
-is_there (suc (suc (suc (suc (suc (suc k)))))) w l = false
+unfoldable pub is_there : Kind → List ℕ → Line → Bool
+is_there Kind.of_environment w l = reads environment_at w l.e
+is_there Kind.of_type w l = reads environment_at w l.e && reads type_at w l.t
+is_there Kind.of_effect w l = reads environment_at w l.e && reads (effects l.k) w l.f
+is_there Kind.of_term w l = reads environment_at w l.e && (reads term w l.s && reads type_at w l.t)
+is_there Kind.of_process w l = reads environment_at w l.e && (reads process_at w l.s && reads (effects l.k) w l.f)
 
 -- ---- lines of some kinds; what stands behind them is not looked at
 unfoldable pub says_all : List Kind → List ℕ → List Line → List Judgement

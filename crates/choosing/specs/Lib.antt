@@ -1,3 +1,3 @@
-pub mod Table
+pub mod Named
 pub mod Kinds
 pub mod Choose

@@ -1,10 +1,13 @@
-// The rules by their numbers: of what kinds each one's conclusion and premises are, and whether a line follows by the rule of a number.
+// The rules by their names: by what number each is named in a derivation, of what kinds its conclusion and premises are, and whether a line
+// follows by it (`follows`). `is_there` says whether what a line of a kind names is there.
 #![tactic(auto)]
 
-ghost use Rattle.std.specs.Prelude.{◌≡◌, [], ◌∷◌, ◌<◌, ◌&&◌};
-ghost use Rattle.typing.specs.Reading.{term, effects, type_at, process_at};
+ghost use Rattle.std.specs.Prelude.{◌≡◌, [], ◌∷◌, map};
+ghost use Rattle.std.proofs.Math.Option.{some};
+ghost use Rattle.typing.specs.Reading.{effects};
 ghost use Rattle.typing.specs.Derivation.{rule_of};
-ghost use Rattle.choosing.specs.Kinds.{kind_at};
+ghost use Rattle.choosing.specs.Named.{number_of, kind_says, Names};
+ghost use Rattle.choosing.specs.Kinds.{kind_at, premises_of};
 ghost use Rattle.choosing.specs.Choose.{reads, is_there, Ready, follows_by};
 
 use ruling::{
@@ -16,264 +19,234 @@ use running::{
     by_begin, by_cast, by_check, by_decrypt, by_decrypt_Un, by_end, by_inp, by_inp_Un, by_match,
     by_match_Un, by_new, by_out, by_out_Un, by_parallel, by_split, by_split_Un, by_stop,
 };
-use spans::{effects_end, environment_end, process_end, term_end, type_end};
-use words::wide;
+use spans::{Effect, Thing, effects_end, environment_end, process_end, term_end, type_end};
 
-// Four kinds a rule, from rule 0 on, which there is none of: its conclusion's, and those of its premises. 1 is an environment, 2 a type,
-// 3 effects, 4 a term and 5 a process; 0 is nothing.
-const KINDS: [[u8; 4]; 33] = [
-    [0, 0, 0, 0],
-    [1, 0, 0, 0],
-    [1, 2, 0, 0],
-    [3, 1, 0, 0],
-    [3, 3, 4, 0],
-    [3, 3, 4, 0],
-    [2, 1, 0, 0],
-    [2, 2, 2, 0],
-    [2, 2, 0, 0],
-    [2, 2, 0, 0],
-    [2, 3, 0, 0],
-    [4, 1, 0, 0],
-    [4, 4, 4, 0],
-    [4, 4, 4, 0],
-    [4, 4, 4, 0],
-    [4, 4, 4, 0],
-    [5, 1, 0, 0],
-    [5, 5, 0, 0],
-    [5, 5, 0, 0],
-    [5, 5, 5, 0],
-    [5, 5, 0, 0],
-    [5, 4, 4, 5],
-    [5, 4, 5, 0],
-    [5, 4, 5, 0],
-    [5, 4, 4, 5],
-    [5, 4, 5, 0],
-    [5, 4, 4, 5],
-    [5, 4, 4, 5],
-    [5, 4, 4, 5],
-    [5, 4, 5, 0],
-    [5, 4, 5, 0],
-    [5, 4, 4, 5],
-    [5, 4, 4, 5],
-];
+// What a line gives: the kinds of judgements.
+#[derive(Clone, Copy, PartialEq, Eq)]
+pub enum Kind {
+    Environment,
+    Type,
+    Effect,
+    Term,
+    Process,
+}
 
-// Of rule n, the kind of its conclusion, at 0, and of its premises, from 1 on; 0 where it has none.
-pub fn kind_at(n: u32, p: usize) -> u32
-    requires { p < 4 }
-    ensures { result ≡ kind_at n p }
-{
-    if 32 < n {
-        return 0;
+// The rules, in the order of their numbers.
+#[derive(Clone, Copy)]
+pub enum Rule {
+    Empty,
+    Entry,
+    EffectNone,
+    EffectEnd,
+    EffectCheck,
+    TypeUn,
+    TypePair,
+    TypeChannel,
+    TypeSymkey,
+    TypeNonce,
+    Name,
+    Pair,
+    Cipher,
+    CipherUn,
+    PairUn,
+    Stop,
+    Begin,
+    End,
+    Parallel,
+    New,
+    Out,
+    Inp,
+    Split,
+    Match,
+    Cast,
+    Check,
+    Decrypt,
+    OutUn,
+    InpUn,
+    SplitUn,
+    MatchUn,
+    DecryptUn,
+}
+
+// A number that names no rule.
+#[derive(Clone, Copy)]
+pub struct UnknownRule;
+
+impl TryFrom<u32> for Rule {
+    type Error = UnknownRule;
+
+    ghost try_from_gives = { Names };
+
+    // The rule of a number: they count from 1.
+    fn try_from(number: u32) -> Result<Rule, UnknownRule> {
+        match number {
+            1 => Ok(Rule::Empty),
+            2 => Ok(Rule::Entry),
+            3 => Ok(Rule::EffectNone),
+            4 => Ok(Rule::EffectEnd),
+            5 => Ok(Rule::EffectCheck),
+            6 => Ok(Rule::TypeUn),
+            7 => Ok(Rule::TypePair),
+            8 => Ok(Rule::TypeChannel),
+            9 => Ok(Rule::TypeSymkey),
+            10 => Ok(Rule::TypeNonce),
+            11 => Ok(Rule::Name),
+            12 => Ok(Rule::Pair),
+            13 => Ok(Rule::Cipher),
+            14 => Ok(Rule::CipherUn),
+            15 => Ok(Rule::PairUn),
+            16 => Ok(Rule::Stop),
+            17 => Ok(Rule::Begin),
+            18 => Ok(Rule::End),
+            19 => Ok(Rule::Parallel),
+            20 => Ok(Rule::New),
+            21 => Ok(Rule::Out),
+            22 => Ok(Rule::Inp),
+            23 => Ok(Rule::Split),
+            24 => Ok(Rule::Match),
+            25 => Ok(Rule::Cast),
+            26 => Ok(Rule::Check),
+            27 => Ok(Rule::Decrypt),
+            28 => Ok(Rule::OutUn),
+            29 => Ok(Rule::InpUn),
+            30 => Ok(Rule::SplitUn),
+            31 => Ok(Rule::MatchUn),
+            32 => Ok(Rule::DecryptUn),
+            _ => Err(UnknownRule),
+        }
     }
-    KINDS[wide(n)][p] as u32
+}
+
+#[tactic(auto, unfolding(typing::specs::Check::printed, typing::specs::Derivation::rules, typing::specs::Derivation::nth, typing::specs::Derivation::rule_of, crate::specs::Kinds::kind_of, crate::specs::Kinds::kinds_of, crate::specs::Kinds::premise_kinds, crate::specs::Kinds::all_kinds, crate::specs::Kinds::kind_at, crate::specs::Kinds::premises_of, crate::specs::Choose::says, crate::specs::Choose::says_all, crate::specs::Choose::follows_by))]
+impl Rule {
+    // The kind of its conclusion.
+    pub fn conclusion(self) -> Kind
+        ensures { some (kind_says result) ≡ kind_at (number_of self) 0 }
+    {
+        match self {
+            Rule::Empty | Rule::Entry => Kind::Environment,
+            Rule::EffectNone | Rule::EffectEnd | Rule::EffectCheck => Kind::Effect,
+            Rule::TypeUn
+            | Rule::TypePair
+            | Rule::TypeChannel
+            | Rule::TypeSymkey
+            | Rule::TypeNonce => Kind::Type,
+            Rule::Name | Rule::Pair | Rule::Cipher | Rule::CipherUn | Rule::PairUn => Kind::Term,
+            Rule::Stop
+            | Rule::Begin
+            | Rule::End
+            | Rule::Parallel
+            | Rule::New
+            | Rule::Out
+            | Rule::Inp
+            | Rule::Split
+            | Rule::Match
+            | Rule::Cast
+            | Rule::Check
+            | Rule::Decrypt
+            | Rule::OutUn
+            | Rule::InpUn
+            | Rule::SplitUn
+            | Rule::MatchUn
+            | Rule::DecryptUn => Kind::Process,
+        }
+    }
+
+    // The kinds of its premises.
+    pub fn premises(self) -> &'static [Kind]
+        ensures { map kind_says result.now ≡ premises_of (number_of self) }
+    {
+        match self {
+            Rule::Empty => &[],
+            Rule::Entry | Rule::TypeChannel | Rule::TypeSymkey => &[Kind::Type],
+            Rule::EffectNone | Rule::TypeUn | Rule::Name | Rule::Stop => &[Kind::Environment],
+            Rule::EffectEnd | Rule::EffectCheck => &[Kind::Effect, Kind::Term],
+            Rule::TypePair => &[Kind::Type, Kind::Type],
+            Rule::TypeNonce => &[Kind::Effect],
+            Rule::Pair | Rule::Cipher | Rule::CipherUn | Rule::PairUn => &[Kind::Term, Kind::Term],
+            Rule::Begin | Rule::End | Rule::New => &[Kind::Process],
+            Rule::Parallel => &[Kind::Process, Kind::Process],
+            Rule::Out
+            | Rule::Match
+            | Rule::Check
+            | Rule::Decrypt
+            | Rule::OutUn
+            | Rule::MatchUn
+            | Rule::DecryptUn => &[Kind::Term, Kind::Term, Kind::Process],
+            Rule::Inp | Rule::Split | Rule::Cast | Rule::InpUn | Rule::SplitUn => &[
+                Kind::Term,
+                Kind::Process,
+            ],
+        }
+    }
+
+    // Whether line i follows by it from the lines j, k and l, as many as it has premises.
+    pub fn follows(self, w: &[u32], i: Line, j: Line, k: Line, l: Line) -> bool
+        requires { Ready (rule_of (number_of self)) w.now i (j ∷ k ∷ l ∷ []) }
+        ensures { result ≡ follows_by (rule_of (number_of self)) w.now i (j ∷ k ∷ l ∷ []) }
+    {
+        match self {
+            Rule::Empty => by_empty(w, i),
+            Rule::Entry => by_entry(w, i, j),
+            Rule::EffectNone => by_effect_none(w, i, j),
+            Rule::EffectEnd => by_effect_end(w, i, j, k),
+            Rule::EffectCheck => by_effect_check(w, i, j, k),
+            Rule::TypeUn => by_type_Un(w, i, j),
+            Rule::TypePair => by_type_pair(w, i, j, k),
+            Rule::TypeChannel => by_type_channel(w, i, j),
+            Rule::TypeSymkey => by_type_symkey(w, i, j),
+            Rule::TypeNonce => by_type_nonce(w, i, j),
+            Rule::Name => by_name(w, i, j),
+            Rule::Pair => by_pair(w, i, j, k),
+            Rule::Cipher => by_cipher(w, i, j, k),
+            Rule::CipherUn => by_cipher_Un(w, i, j, k),
+            Rule::PairUn => by_pair_Un(w, i, j, k),
+            Rule::Stop => by_stop(w, i, j),
+            Rule::Begin => by_begin(w, i, j),
+            Rule::End => by_end(w, i, j),
+            Rule::Parallel => by_parallel(w, i, j, k),
+            Rule::New => by_new(w, i, j),
+            Rule::Out => by_out(w, i, j, k, l),
+            Rule::Inp => by_inp(w, i, j, k),
+            Rule::Split => by_split(w, i, j, k),
+            Rule::Match => by_match(w, i, j, k, l),
+            Rule::Cast => by_cast(w, i, j, k),
+            Rule::Check => by_check(w, i, j, k, l),
+            Rule::Decrypt => by_decrypt(w, i, j, k, l),
+            Rule::OutUn => by_out_Un(w, i, j, k, l),
+            Rule::InpUn => by_inp_Un(w, i, j, k),
+            Rule::SplitUn => by_split_Un(w, i, j, k),
+            Rule::MatchUn => by_match_Un(w, i, j, k, l),
+            Rule::DecryptUn => by_decrypt_Un(w, i, j, k, l),
+        }
+    }
 }
 
 // k effects stand at a.
+#[tactic(auto, using(crate::specs::Choose::Tests::ending))]
 fn effects_there(w: &[u32], a: usize, k: usize) -> bool
     ensures { result ≡ reads (effects k) w.now a }
 {
     if k == 0 {
         return true;
     }
-    if w.len() <= a {
+    let Some(end) = Effect::end(w, a) else {
         return false;
-    }
-    let c = w[a];
-    if c == 0 {
-        return false;
-    }
-    if 2 < c {
-        return false;
-    }
-    let end = term_end(w, a + 1);
-    if end == 0 {
-        return false;
-    }
-    effects_end(w, end, k - 1) != 0
-}
-
-// A term stands at s, and a type at t.
-fn term_there(w: &[u32], s: usize, t: usize) -> bool
-    ensures { result ≡ (reads term w.now s && reads type_at w.now t) }
-{
-    if term_end(w, s) == 0 {
-        return false;
-    }
-    type_end(w, t) != 0
-}
-
-// A process stands at s, and k effects at f.
-fn process_there(w: &[u32], s: usize, f: usize, k: usize) -> bool
-    ensures { result ≡ (reads process_at w.now s && reads (effects k) w.now f) }
-{
-    if process_end(w, s) == 0 {
-        return false;
-    }
-    effects_there(w, f, k)
+    };
+    effects_end(w, end, k - 1).is_some()
 }
 
 // What a line of a kind names is there.
-pub fn is_there(w: &[u32], kind: u32, l: Line) -> bool
-    ensures { result ≡ is_there kind w.now l }
+#[tactic(auto, using(crate::specs::Choose::Tests::reads_end), unfolding(crate::specs::Choose::is_there))]
+pub fn is_there(w: &[u32], kind: Kind, l: Line) -> bool
+    ensures { result ≡ is_there (kind_says kind) w.now l }
 {
-    if environment_end(w, l.e) == 0 {
-        return false;
-    }
-    if kind == 1 {
-        return true;
-    }
-    if kind == 2 {
-        return type_end(w, l.t) != 0;
-    }
-    if kind == 3 {
-        return effects_there(w, l.f, l.k);
-    }
-    if kind == 4 {
-        return term_there(w, l.s, l.t);
-    }
-    if kind == 5 {
-        return process_there(w, l.s, l.f, l.k);
-    }
-    false
-}
-
-// Rules 1 to 10: environments, effects and types.
-fn by_ground(w: &[u32], n: u32, i: Line, j: Line, k: Line, l: Line) -> bool
-    requires { (0 < n) × (n < 11) × Ready (rule_of n) w.now i (j ∷ k ∷ l ∷ []) }
-    ensures { result ≡ follows_by (rule_of n) w.now i (j ∷ k ∷ l ∷ []) }
-{
-    if n == 1 {
-        return by_empty(w, i);
-    }
-    if n == 2 {
-        return by_entry(w, i, j);
-    }
-    if n == 3 {
-        return by_effect_none(w, i, j);
-    }
-    if n == 4 {
-        return by_effect_end(w, i, j, k);
-    }
-    if n == 5 {
-        return by_effect_check(w, i, j, k);
-    }
-    if n == 6 {
-        return by_type_Un(w, i, j);
-    }
-    if n == 7 {
-        return by_type_pair(w, i, j, k);
-    }
-    if n == 8 {
-        return by_type_channel(w, i, j);
-    }
-    if n == 9 {
-        return by_type_symkey(w, i, j);
-    }
-    by_type_nonce(w, i, j)
-}
-
-// Rules 11 to 15: terms.
-fn by_terms(w: &[u32], n: u32, i: Line, j: Line, k: Line, l: Line) -> bool
-    requires { (10 < n) × (n < 16) × Ready (rule_of n) w.now i (j ∷ k ∷ l ∷ []) }
-    ensures { result ≡ follows_by (rule_of n) w.now i (j ∷ k ∷ l ∷ []) }
-{
-    if n == 11 {
-        return by_name(w, i, j);
-    }
-    if n == 12 {
-        return by_pair(w, i, j, k);
-    }
-    if n == 13 {
-        return by_cipher(w, i, j, k);
-    }
-    if n == 14 {
-        return by_cipher_Un(w, i, j, k);
-    }
-    by_pair_Un(w, i, j, k)
-}
-
-// Rules 16 to 20: processes without a term's premise.
-fn by_events(w: &[u32], n: u32, i: Line, j: Line, k: Line, l: Line) -> bool
-    requires { (15 < n) × (n < 21) × Ready (rule_of n) w.now i (j ∷ k ∷ l ∷ []) }
-    ensures { result ≡ follows_by (rule_of n) w.now i (j ∷ k ∷ l ∷ []) }
-{
-    if n == 16 {
-        return by_stop(w, i, j);
-    }
-    if n == 17 {
-        return by_begin(w, i, j);
-    }
-    if n == 18 {
-        return by_end(w, i, j);
-    }
-    if n == 19 {
-        return by_parallel(w, i, j, k);
-    }
-    by_new(w, i, j)
-}
-
-// Rules 21 to 27: processes with a term's premise.
-fn by_typed(w: &[u32], n: u32, i: Line, j: Line, k: Line, l: Line) -> bool
-    requires { (20 < n) × (n < 28) × Ready (rule_of n) w.now i (j ∷ k ∷ l ∷ []) }
-    ensures { result ≡ follows_by (rule_of n) w.now i (j ∷ k ∷ l ∷ []) }
-{
-    if n == 21 {
-        return by_out(w, i, j, k, l);
-    }
-    if n == 22 {
-        return by_inp(w, i, j, k);
-    }
-    if n == 23 {
-        return by_split(w, i, j, k);
-    }
-    if n == 24 {
-        return by_match(w, i, j, k, l);
-    }
-    if n == 25 {
-        return by_cast(w, i, j, k);
-    }
-    if n == 26 {
-        return by_check(w, i, j, k, l);
-    }
-    by_decrypt(w, i, j, k, l)
-}
-
-// Rules 28 to 32: the same with all that is public.
-fn by_public(w: &[u32], n: u32, i: Line, j: Line, k: Line, l: Line) -> bool
-    requires { (27 < n) × (n < 33) × Ready (rule_of n) w.now i (j ∷ k ∷ l ∷ []) }
-    ensures { result ≡ follows_by (rule_of n) w.now i (j ∷ k ∷ l ∷ []) }
-{
-    if n == 28 {
-        return by_out_Un(w, i, j, k, l);
-    }
-    if n == 29 {
-        return by_inp_Un(w, i, j, k);
-    }
-    if n == 30 {
-        return by_split_Un(w, i, j, k);
-    }
-    if n == 31 {
-        return by_match_Un(w, i, j, k, l);
-    }
-    by_decrypt_Un(w, i, j, k, l)
-}
-
-// Whether line i follows by rule n from the lines j, k and l, as many as the rule has premises.
-pub fn by_number(w: &[u32], n: u32, i: Line, j: Line, k: Line, l: Line) -> bool
-    requires { (0 < n) × (n < 33) × Ready (rule_of n) w.now i (j ∷ k ∷ l ∷ []) }
-    ensures { result ≡ follows_by (rule_of n) w.now i (j ∷ k ∷ l ∷ []) }
-{
-    if n < 11 {
-        return by_ground(w, n, i, j, k, l);
-    }
-    if n < 16 {
-        return by_terms(w, n, i, j, k, l);
-    }
-    if n < 21 {
-        return by_events(w, n, i, j, k, l);
-    }
-    if n < 28 {
-        return by_typed(w, n, i, j, k, l);
-    }
-    by_public(w, n, i, j, k, l)
+    environment_end(w, l.e).is_some()
+        && match kind {
+            Kind::Environment => true,
+            Kind::Type => type_end(w, l.t).is_some(),
+            Kind::Effect => effects_there(w, l.f, l.k),
+            Kind::Term => term_end(w, l.s).is_some() && type_end(w, l.t).is_some(),
+            Kind::Process => process_end(w, l.s).is_some() && effects_there(w, l.f, l.k),
+        }
 }

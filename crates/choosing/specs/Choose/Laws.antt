@@ -5,13 +5,13 @@ use Rattle.std.proofs.Common.{sym, ◌∙◌, ap}
 use Rattle.typing.proofs.Check.Laws.{both, and_both}
 use Rattle.typing.specs.Derivation.{Kind, Numbered, rule_of}
 use Rattle.ruling.specs.declared.Line.{Line}
-use Rattle.choosing.specs.Kinds.{kind_number, premise_kinds}
+use Rattle.choosing.specs.Kinds.{premise_kinds}
 use Rattle.choosing.specs.Choose.{There, is_there, AllThere, Ready, follows_by}
 use Rattle.choosing.specs.Choose.Tests.{reads-there, there-reads}
 
--- ---- a line of a kind is there exactly if the test of the kind's number holds
-pub there-test : (k : Kind) (w : List ℕ) (l : Line) → is_there (kind_number k) w l ≡ true → There k w l
-unfolding is_there kind_number
+-- ---- a line of a kind is there exactly if the kind's test holds
+pub there-test : (k : Kind) (w : List ℕ) (l : Line) → is_there k w l ≡ true → There k w l
+unfolding is_there
 there-test Kind.of_environment w l e = record { environment = reads-there _ _ _ e }
 there-test Kind.of_type w l e =
     let (d, t) = both _ _ e in
@@ -28,8 +28,8 @@ there-test Kind.of_process w l e =
     let (s, f) = both _ _ h in
     record { environment = reads-there _ _ _ d; process = reads-there _ _ _ s; effects = reads-there _ _ _ f }
 
-pub test-there : (k : Kind) (w : List ℕ) (l : Line) → There k w l → is_there (kind_number k) w l ≡ true
-unfolding is_there kind_number
+pub test-there : (k : Kind) (w : List ℕ) (l : Line) → There k w l → is_there k w l ≡ true
+unfolding is_there
 test-there Kind.of_environment w l t = there-reads _ _ _ t.environment
 test-there Kind.of_type w l t = and_both _ _ (there-reads _ _ _ t.environment) (there-reads _ _ _ t.type)
 test-there Kind.of_effect w l t = and_both _ _ (there-reads _ _ _ t.environment) (there-reads _ _ _ t.effects)

@@ -1,14 +1,13 @@
 -- Laws of the kinds. Assumes nothing.
-use Rattle.std.specs.Prelude.{ℕ, zero, suc, ◌≤◌, ◌<◌, Bool, true, ◌&&◌, List, [], ◌∷◌, ◌≡◌, refl, eqb, ltb, length, get_or}
+use Rattle.std.specs.Prelude.{ℕ, zero, suc, ◌≤◌, ◌<◌, Bool, true, ◌&&◌, List, [], ◌∷◌, ◌≡◌, refl, eqb, ltb, length}
 use Rattle.std.proofs.Math.Option.{Option, none, some}
-use Rattle.std.proofs.Common.{sym, ◌∙◌, ap, arith, zero-add, eqb-true, ltb-true}
+use Rattle.std.proofs.Common.{true≢false, sym, ◌∙◌, ap, arith, eqb-true, eq-eqb, ltb-true}
 use Rattle.typing.specs.Judgement.{Judgement}
 use Rattle.typing.specs.Rule.{Rule, Instance}
 use Rattle.typing.specs.Check.{printed, follows}
 use Rattle.typing.proofs.Check.Laws.{both, follows-instance}
 use Rattle.typing.specs.Derivation.{Kind, Numbered, rules, nth, rule_of}
-use Rattle.choosing.specs.Table.{rows, rows_at}
-use Rattle.choosing.specs.Kinds.{kind_number, kind_of, kinds_of, premise_kinds, number_at, all_kinds, kind_at}
+use Rattle.choosing.specs.Kinds.{kind_number, is_kind, kind_of, kinds_of, premise_kinds, all_kinds, kind_at, premises_of}
 
 -- ---- kinds by number
 abbrev kind_from : ℕ → Option Kind
@@ -32,11 +31,15 @@ kind-injective j k e =
     let q : some j ≡ some k = sym (kind-from j) ∙ ap kind_from e ∙ kind-from k in
     cc
 
-pub kind-some : (k : Kind) → kind_number k ≡ 0 → ⊥
-kind-some k e =
-    let q : none ≡ some k = sym (ap kind_from e) ∙ kind-from k in
-    let z : ◌≡◌ {A = ℕ} 0 1 = cc in
-    omega arith
+-- ---- a kind that is there
+pub is_kind-at : (k : Kind) (o : Option Kind) → o ≡ some k → is_kind k o ≡ true
+unfolding is_kind
+is_kind-at k o e = ap (is_kind k) e ∙ eq-eqb (kind_number k) (kind_number k) refl
+
+pub kind_is : (k : Kind) (o : Option Kind) → is_kind k o ≡ true → o ≡ some k
+unfolding is_kind
+kind_is k none e = absurd (true≢false (sym e))
+kind_is k (some j) e = ap some (kind-injective j k (eqb-true _ _ e))
 
 -- ---- what stands in a list
 abbrev every : {A : Type 0} → (A → Bool) → List A → Bool
@@ -79,15 +82,39 @@ unfolding rule_of rules
 premises-few zero r e = absurd (let z : ◌≡◌ {A = ℕ} 0 1 = cc in omega arith)
 premises-few (suc n) r e = ltb-true _ _ (nth-every few_are rules refl n r e)
 
-pub kind-number : (n : ℕ) (r : Numbered) → rule_of n ≡ some r → kind_at n 0 ≡ kind_number r.kind
-unfolding kind_at number_at all_kinds
-kind-number n r e = ap (λ (o : Option Numbered). number_at (all_kinds o) 0) e
+pub kind-rule : (n : ℕ) (r : Numbered) → rule_of n ≡ some r → kind_at n 0 ≡ some r.kind
+unfolding kind_at all_kinds nth
+kind-rule n r e = ap (λ (o : Option Numbered). nth (all_kinds o) 0) e
 
-pub kind-none : (n : ℕ) → rule_of n ≡ none → kind_at n 0 ≡ 0
-unfolding kind_at number_at all_kinds
-kind-none n e = ap (λ (o : Option Numbered). number_at (all_kinds o) 0) e
+pub kind-none : (n : ℕ) → rule_of n ≡ none → kind_at n 0 ≡ none
+unfolding kind_at all_kinds nth
+kind-none n e = ap (λ (o : Option Numbered). nth (all_kinds o) 0) e
 
--- ---- all kinds of all rules in one table, a row a rule
+pub premises-none : (n : ℕ) → rule_of n ≡ none → premises_of n ≡ []
+unfolding premises_of
+premises-none n e = ap (λ (o : Option Numbered). elim o [ none ↦ [] | some r ↦ premise_kinds r.rule ]) e
+
+pub premises-rule : (n : ℕ) (r : Numbered) → rule_of n ≡ some r → premises_of n ≡ premise_kinds r.rule
+unfolding premises_of
+premises-rule n r e = ap (λ (o : Option Numbered). elim o [ none ↦ [] | some r ↦ premise_kinds r.rule ]) e
+
+pub premises_short : (n : ℕ) → length (premises_of n) ≤ 3
+premises_short n = go (rule_of n) refl
+  where
+    go : (o : Option Numbered) → rule_of n ≡ o → length (premises_of n) ≤ 3
+    go none e = omega (arith, ap (length {A = Kind}) (premises-none n e))
+    go (some r) e = omega (arith, ap (length {A = Kind}) (premises-rule n r e), premises-many n r e, premises-few n r e)
+
+-- the kinds of the premises stand behind the conclusion's
+pub kind-premise : (n q : ℕ) → kind_at n (suc q) ≡ nth (premises_of n) q
+unfolding kind_at premises_of all_kinds nth
+kind-premise n q = go (rule_of n)
+  where
+    go : (o : Option Numbered) → nth (all_kinds o) (suc q) ≡ nth (elim o [ none ↦ [] | some r ↦ premise_kinds r.rule ]) q
+    go none = refl
+    go (some r) = refl
+
+-- ---- a number that names no rule
 nth_past : {A : Type 0} (l : List A) (n : ℕ) → length l ≤ n → nth l n ≡ none
 unfolding nth
 nth_past [] n h = refl
@@ -99,35 +126,10 @@ unfolding rule_of rules
 rule-past zero h = absurd (omega arith)
 rule-past (suc n) h = nth_past rules n (omega arith)
 
-pub kind-past : (n p : ℕ) → 32 < n → 0 ≡ kind_at n p
-unfolding kind_at number_at all_kinds
-kind-past n p h = sym (ap (λ (o : Option Numbered). number_at (all_kinds o) p) (rule-past n h))
-
-kind-few : (k : Kind) → kind_number k ≤ 5
-unfolding kind_number
-kind-few Kind.of_environment = omega arith
-kind-few Kind.of_type = omega arith
-kind-few Kind.of_effect = omega arith
-kind-few Kind.of_term = omega arith
-kind-few Kind.of_process = omega arith
-
-number-few : (ks : List Kind) (p : ℕ) → number_at ks p ≤ 5
-unfolding number_at
-number-few [] p = omega arith
-number-few (k ∷ ks) zero = kind-few k
-number-few (k ∷ ks) (suc p) = number-few ks p
-
-abbrev pub kind_table : List (List ℕ)
-kind_table = rows kind_at 0 33
-
-pub table_at : (m n p : ℕ) → m ≡ n → n ≤ 32 → p < 4 → get_or (get_or kind_table m []) p 0 ≡ kind_at n p
-table_at m n p e l h = rw e (rows_at kind_at 33 0 n p (omega arith) h ∙ ap (λ (x : ℕ). kind_at x p) (zero-add n))
-
-pub table-few : (m n p : ℕ) → m ≡ n → n ≤ 32 → p < 4 → get_or (get_or kind_table m []) p 0 ≤ 5
-unfolding kind_at
-table-few m n p e l h =
-    let few = number-few (all_kinds (rule_of n)) p in
-    omega (arith, table_at m n p e l h)
+pub rule-none : (n : ℕ) → ((n ≡ 0 → ⊥) → 32 < n) → rule_of n ≡ none
+unfolding rule_of
+rule-none zero h = refl
+rule-none (suc n) h = rule-past (suc n) (h (λ e. omega arith))
 
 -- ---- premises from which something follows are of the rule's own kinds
 instance-kinds : {r : Rule} {Js : List Judgement} {J : Judgement} → Instance r Js J → kinds_of Js ≡ premise_kinds r

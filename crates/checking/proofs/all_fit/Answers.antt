@@ -1,20 +1,19 @@
--- `checking::all_fit` meets its contract: each of the three. Assumes nothing.
-use borrow.Author.Rules.{rules}
-use mathlib.Core.Path.{◌∙◌}
+-- `checking::all_fit` meets its contract: premise by premise. Assumes nothing.
 use native.Mathlib.Omega.{arith}
-use Rattle.checking.specs.Lines.{fits_all}
-use Rattle.checking.specs.Lines.Laws.{three-tests}
+use Rattle.checking.specs.Lines.Laws.{premises_few, fits-begin, fits-stop, fits-next, fits-over}
 use Rattle.checking.proofs.all_fit.Goals as goal
 
-pub fits-a-requires : goal.fits-a-requires
-fits-a-requires c = (search rules, omega arith)
+pub loop-p-init : goal.loop-p-init
+loop-p-init c = fits-begin _ _ _
 
-pub fits-b-requires : goal.fits-b-requires
-fits-b-requires c = (search rules, omega arith)
+pub fits-requires : goal.fits-requires
+fits-requires c = (c.requires, omega (arith, premises_few _ _ _ c.premises-kind-items.ensures))
 
-pub fits-c-requires : goal.fits-c-requires
-fits-c-requires c = (search rules, omega arith)
+pub returns-then-not-fits : goal.returns-then-not-fits
+returns-then-not-fits c = fits-stop _ _ _ _ _ c.premises-kind-items.ensures _ c.loop-p.invariant c.loop-p-test.true _ _ c.fits.ensures c.if-not-fits.true
+
+pub loop-p-preserved : goal.loop-p-preserved
+loop-p-preserved c = fits-next _ _ _ _ _ c.premises-kind-items.ensures _ c.loop-p.invariant c.loop-p-test.true _ _ c.fits.ensures c.if-not-fits.false
 
 pub returns : goal.returns
-unfolding fits_all
-returns c = c.all3.ensures ∙ three-tests c.fits-a.ensures c.fits-b.ensures c.fits-c.ensures
+returns c = fits-over _ _ _ _ _ c.premises-kind-items.ensures _ c.loop-p.invariant c.loop-p-test.false

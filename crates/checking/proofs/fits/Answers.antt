@@ -1,16 +1,14 @@
--- `checking::fits` meets its contract: no such premise, or an earlier line, by its rule's kind. Assumes nothing.
-use mathlib.Core.Path.{sym, ◌∙◌}
-use native.Mathlib.Omega.{arith}
-use Rattle.checking.specs.Lines.Laws.{fits-none, fits-late, fits_by}
+-- `checking::fits` meets its contract: an earlier line, by its rule's kind. Assumes nothing.
+use mathlib.Core.Path.{◌∙◌}
+use borrow.Author.Tests.{le-ltb}
+use Rattle.choosing.proofs.Found.{found_kind}
+use Rattle.checking.specs.Lines.Laws.{fits_by, fits-late}
 use Rattle.checking.proofs.fits.Goals as goal
 
-pub returns-then-kind-eq0 : goal.returns-then-kind-eq0
-returns-then-kind-eq0 c = sym (fits-none _ _ _ _ (sym c.kind_at-kind.ensures ∙ c.if-kind-eq0.true))
+pub returns-then-j-i : goal.returns-then-j-i
+returns-then-j-i c =
+    c.eq.ensures ∙ found_kind c.concluded.result c.args.kind
+    ∙ fits_by _ _ _ _ _ _ c.line_place-j.ensures.0 c.if-j-i.true c.concluded.ensures
 
-pub returns-then-i-j : goal.returns-then-i-j
-returns-then-i-j c = sym (fits-late _ _ _ _ (λ z. c.if-kind-eq0.false (c.kind_at-kind.ensures ∙ z))
-    (omega (arith, c.line_word-j.ensures.0, c.if-i-j.true)))
-
-pub returns : goal.returns
-returns c = fits_by _ _ _ _ _ _ _ _ c.kind_at-kind.ensures c.if-kind-eq0.false c.line_word-j.ensures.0 c.if-i-j.false
-    c.rule_at.ensures c.kind_at.ensures
+pub returns-else-j-i : goal.returns-else-j-i
+returns-else-j-i c = le-ltb _ _ c.if-j-i.false ∙ fits-late _ _ _ _ _ c.line_place-j.ensures.0 c.if-j-i.false

@@ -4,21 +4,19 @@
 -- Bytes that make no whole words are refusal 1, as of a book, [1]; then comes 24, by the words that the derivation makes; and last, as
 -- document 01 has it, 12, where the room is too little, with the words that are needed. On a refusal no word of the room changes; else the
 -- derivation's words lie at its front, those of what is asked behind them, and the rest stays.
-use Rattle.std.specs.Prelude.{ℕ, ◌+◌, ◌/◌, Bool, ◌||◌, List, [], ◌∷◌, ◌++◌, length, ltb}
+use Rattle.std.specs.Prelude.{ℕ, ◌+◌, ◌/◌, Bool, ◌||◌, List, [], ◌∷◌, ◌++◌, length, ltb, Option, None, Some, Result, Ok, Err}
 use Rattle.std.proofs.lemmas.List.Edits.{sets}
 use Rattle.words.specs.Choice.{pick}
 use Rattle.octets.specs.Octets.{words_in, uneven}
 use Rattle.typing.specs.Apart.{keeps_apart}
 use Rattle.typing.specs.Derivation.{Verdict, verdict}
 use Rattle.checking.specs.declared.Finding.{Finding}
-use Rattle.checking.specs.Finding.{finding_says}
+use Rattle.checking.specs.Finding.{found_verdict}
 use Rattle.checking.specs.Large.{too_large}
+use Rattle.book.specs.declared.Refusal.{Refusal}
 use Rattle.book.specs.Said.{Said, said, refusal_says}
 use Rattle.translation.specs.Outcome.{Outcome}
-use Rattle.summary.specs.declared.Reply.{Reply}
 use Rattle.summary.specs.Reply.{reply_says}
-use Rattle.examining.specs.declared.Checked.{Checked}
-use Rattle.examining.specs.declared.Checked.TheVariants.{Found, Refused}
 pub mod Laws
 
 -- ---- what is said
@@ -30,27 +28,25 @@ verdict_said Verdict.another = said 0 (2 ∷ [])
 verdict_said (Verdict.refused n) = said 24 (n ∷ [])
 
 abbrev pub found_says : Finding → Said
-found_says f = verdict_said (finding_says f)
+found_says f = verdict_said (found_verdict f)
 
-abbrev pub checked_says : Checked → Said
-checked_says (Found f) = found_says f
-checked_says (Refused r) = refusal_says r
+-- what is found of a derivation's bytes, or why they were not checked
+abbrev pub checked_says : Result Finding Refusal → Said
+checked_says (Ok f) = found_says f
+checked_says (Err r) = refusal_says r
 
 -- of bound names: 1 where they are kept apart, else 0
 abbrev pub apart_said : Bool → Said
 apart_said b = said 0 (pick b 1 0 ∷ [])
 
 -- what came of a call: what is said, and the room afterwards
-abbrev pub found : Finding → List ℕ → Outcome
-found f room = record { says = found_says f; lent = room }
-
-abbrev pub checked : Checked → List ℕ → Outcome
+abbrev pub checked : Result Finding Refusal → List ℕ → Outcome
 checked c room = record { says = checked_says c; lent = room }
 
 abbrev pub apart_found : Bool → List ℕ → Outcome
 apart_found b room = record { says = apart_said b; lent = room }
 
-abbrev pub replied : Reply → List ℕ → Outcome
+abbrev pub replied : Result Bool Refusal → List ℕ → Outcome
 replied r room = record { says = reply_says r; lent = room }
 
 -- refusal 1, place 0: what is lent does not change
@@ -64,6 +60,11 @@ short n room = record { says = said 12 (n ∷ []); lent = room }
 -- refusal 24: so many lines or effects, and none of the room changes
 abbrev pub many : ℕ → List ℕ → Outcome
 many n room = record { says = said 24 (n ∷ []); lent = room }
+
+-- where a count is too large, and where none is
+abbrev pub unless_many : Option ℕ → List ℕ → Outcome → Outcome
+unless_many None room o = o
+unless_many (Some n) room o = many n room
 
 -- ---- a derivation
 -- the words of both
@@ -79,7 +80,7 @@ checked_in xs ds room =
 unfoldable pub checked_bytes : List ℕ → List ℕ → List ℕ → Outcome
 checked_bytes xs ds room =
     pick (uneven xs || uneven ds) (odd room)
-    (pick (ltb 0 (too_large (words_in ds))) (many (too_large (words_in ds)) room)
+    (unless_many (too_large (words_in ds)) room
     (pick (ltb (length room) (needed xs ds)) (short (needed xs ds) room) (checked_in xs ds room)))
 
 -- the same where room is no matter

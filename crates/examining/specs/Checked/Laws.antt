@@ -1,10 +1,11 @@
 -- Laws of derivations on bytes: the outcome by its cases; the room after both are loaded into it; and the bytes of words are checked as the
 -- words are. Assumes nothing.
-use Rattle.std.specs.Prelude.{ℕ, ◌+◌, ◌-◌, ◌/◌, ◌≤◌, ◌<◌, Bool, true, false, ◌||◌, ◌≡◌, refl, length, get_or, take, drop}
+use Rattle.std.specs.Prelude.{ℕ, ◌+◌, ◌-◌, ◌/◌, ◌≤◌, ◌<◌, Bool, true, false, ◌||◌, ◌≡◌, refl, ltb, length, get_or, take, drop, Option, None, Some, Result, Ok, Err}
 use mathlib.Core.List.{List, [], ◌∷◌, ◌++◌, append-nil, append_assoc}
 use Rattle.std.proofs.Common.{sym, ◌∙◌, arith, length-drop, length-append, drop_of_length-le, take_all, drop-drop, lt-ltb, le-ltb}
 use Rattle.std.proofs.Math.Path.{ap, ap₂}
-use Rattle.std.proofs.Math.Decide.{dec_lt, ℕ_discrete as dec_eq}
+use Rattle.std.proofs.Math.Decide.{dec_lt}
+use Rattle.std.proofs.Math.Option.{Option as Maybe, some}
 use Rattle.std.proofs.lemmas.List.Edits.{sets, sets-eq}
 use Rattle.std.proofs.Math.Seq.{length-sets, take-append_seam, drop-append_seam}
 use Rattle.words.specs.Choice.{pick}
@@ -20,11 +21,21 @@ use Rattle.checking.specs.declared.Finding.{Finding}
 use Rattle.checking.specs.Finding.{finding_says}
 use Rattle.checking.specs.Large.{too_large}
 use Rattle.checking.specs.Large.Laws.{large-refused, large-front}
+use Rattle.book.specs.declared.Refusal.{Refusal}
+use Rattle.book.specs.declared.Refusal.TheVariants.{Large}
 use Rattle.book.specs.Said.{Said, said}
 use Rattle.translation.specs.Outcome.{Outcome}
-use Rattle.summary.specs.declared.Reply.TheVariants.{Yes, No}
-use Rattle.examining.specs.Checked.{verdict_said, apart_said, odd, short, many, needed, checked_in, checked_bytes, checked_said}
-use Rattle.examining.specs.Checked.{found, apart_found, replied, apart_in, apart_bytes, apart_asked}
+use Rattle.examining.specs.Checked.{verdict_said, checked_says, checked, apart_said, odd, short, many, unless_many, needed, checked_in, checked_bytes, checked_said}
+use Rattle.examining.specs.Checked.{apart_found, replied, apart_in, apart_bytes, apart_asked}
+
+-- ---- what is found, where a verdict is
+some_is : {A : Type 0} {a b : A} → ◌≡◌ {A = Maybe A} (some a) (some b) → a ≡ b
+some_is e = cc
+
+pub finding-said : (c : Result Finding Refusal) (v : Verdict) → finding_says c ≡ some v → checked_says c ≡ verdict_said v
+finding-said (Ok f) v e = ap verdict_said (some_is e)
+finding-said (Err (Large n)) v e = ap verdict_said (some_is e)
+finding-said (Err r) v e = absurd (let z : ◌≡◌ {A = ℕ} 0 1 = cc in omega arith)
 
 -- ---- checked_bytes, by its cases
 module _ (xs ds room : List ℕ) where
@@ -37,26 +48,28 @@ module _ (xs ds room : List ℕ) where
   checked-odd-derivation e f = pick_true _ _ _ (rw (e, f))
 
   module _ (e : uneven xs ≡ false) (f : uneven ds ≡ false) where
-    pub checked-many : (too_large (words_in ds) ≡ 0 → ⊥) → checked_bytes xs ds room ≡ many (too_large (words_in ds)) room
+    pub checked-many : (n : ℕ) → too_large (words_in ds) ≡ Some n → checked_bytes xs ds room ≡ many n room
     unfolding checked_bytes
-    checked-many h = pick-false _ _ _ (rw (e, f)) ∙ pick_true _ _ _ (lt-ltb 0 (too_large (words_in ds)) (omega arith))
+    checked-many n h =
+        pick-false _ _ _ (rw (e, f))
+        ∙ ap (λ (o : Option ℕ). unless_many o room (pick (ltb (length room) (needed xs ds)) (short (needed xs ds) room) (checked_in xs ds room))) h
 
-    module _ (z : too_large (words_in ds) ≡ 0) where
-      pub checked-short : length room < needed xs ds → checked_bytes xs ds room ≡ short (needed xs ds) room
+    module _ (z : too_large (words_in ds) ≡ None) where
+      past-many : checked_bytes xs ds room ≡ pick (ltb (length room) (needed xs ds)) (short (needed xs ds) room) (checked_in xs ds room)
       unfolding checked_bytes
-      checked-short h =
-          pick-false _ _ _ (rw (e, f)) ∙ pick-false _ _ _ (le-ltb 0 (too_large (words_in ds)) (omega arith))
-          ∙ pick_true _ _ _ (lt-ltb (length room) (needed xs ds) h)
+      past-many =
+          pick-false _ _ _ (rw (e, f))
+          ∙ ap (λ (o : Option ℕ). unless_many o room (pick (ltb (length room) (needed xs ds)) (short (needed xs ds) room) (checked_in xs ds room))) z
+
+      pub checked-short : length room < needed xs ds → checked_bytes xs ds room ≡ short (needed xs ds) room
+      checked-short h = past-many ∙ pick_true _ _ _ (lt-ltb (length room) (needed xs ds) h)
 
       pub checked-enough : needed xs ds ≤ length room → checked_bytes xs ds room ≡ checked_in xs ds room
-      unfolding checked_bytes
-      checked-enough h =
-          pick-false _ _ _ (rw (e, f)) ∙ pick-false _ _ _ (le-ltb 0 (too_large (words_in ds)) (omega arith))
-          ∙ pick-false _ _ _ (le-ltb (length room) (needed xs ds) h)
+      checked-enough h = past-many ∙ pick-false _ _ _ (le-ltb (length room) (needed xs ds) h)
 
     -- 24 is the verdict's own
-    pub many-said : (too_large (words_in ds) ≡ 0 → ⊥) → (many (too_large (words_in ds)) room).says ≡ verdict_said (verdict (words_in xs) (words_in ds))
-    many-said h = ap verdict_said (sym (large-refused (words_in xs) (words_in ds) h))
+    pub many-said : (n : ℕ) → too_large (words_in ds) ≡ Some n → (many n room).says ≡ verdict_said (verdict (words_in xs) (words_in ds))
+    many-said n h = ap verdict_said (sym (large-refused (words_in xs) (words_in ds) n h))
 
 -- ---- what holds of all that can be said of a derivation
 module _ (xs ds room : List ℕ) (P : Said → Type 0) (p₁ : P (said 1 (0 ∷ []))) (p₂₄ : (n : ℕ) → P (said 24 (n ∷ [])))
@@ -67,17 +80,17 @@ module _ (xs ds room : List ℕ) (P : Said → Type 0) (p₁ : P (said 1 (0 ∷ 
       from : (o : Outcome) → checked_bytes xs ds room ≡ o → P o.says → P (checked_bytes xs ds room).says
       from o e q = rw e q
 
+      both : uneven xs ≡ false → uneven ds ≡ false → (o : Option ℕ) → too_large (words_in ds) ≡ o → P (checked_bytes xs ds room).says
+      both e f (Some n) d = from (many n room) (checked-many xs ds room e f n d) (p₂₄ n)
+      both e f None z = elim (dec_lt (length room) (needed xs ds)) [
+        | yes h ↦ from (short (needed xs ds) room) (checked-short xs ds room e f z h) (p₁₂ (needed xs ds))
+        | no h ↦ from (checked_in xs ds room) (checked-enough xs ds room e f z (omega arith)) p
+      ]
+
       go : (v : Bool) → uneven xs ≡ v → (w : Bool) → uneven ds ≡ w → P (checked_bytes xs ds room).says
       go true e w f = from (odd room) (checked-odd-asked xs ds room e) p₁
       go false e true f = from (odd room) (checked-odd-derivation xs ds room e f) p₁
-      go false e false f = elim (dec_eq (too_large (words_in ds)) 0) [
-        | no d ↦ from (many (too_large (words_in ds)) room) (checked-many xs ds room e f d) (p₂₄ (too_large (words_in ds)))
-        | yes z ↦
-            elim (dec_lt (length room) (needed xs ds)) [
-              | yes h ↦ from (short (needed xs ds) room) (checked-short xs ds room e f z h) (p₁₂ (needed xs ds))
-              | no h ↦ from (checked_in xs ds room) (checked-enough xs ds room e f z (omega arith)) p
-            ]
-      ]
+      go false e false f = both e f (too_large (words_in ds)) refl
 
 -- ---- apart_bytes, by its cases
 module _ (xs room : List ℕ) where
@@ -94,6 +107,23 @@ module _ (xs room : List ℕ) where
     unfolding apart_bytes
     apart-enough h = pick-false _ _ _ e ∙ pick-false _ _ _ (le-ltb (length room) (length xs / 4) h)
 
+pub replied_apart : (t : Bool) (room : List ℕ) → replied (Ok t) room ≡ apart_found t room
+unfolding pick
+replied_apart true room = refl
+replied_apart false room = refl
+
+-- ---- an outcome by what is tested
+pub ruleset outcomes = (
+  checked-odd-asked,
+  checked-odd-derivation,
+  checked-many,
+  checked-short,
+  checked-enough,
+  apart-odd,
+  apart-short,
+  apart-enough,
+)
+
 -- ---- where there is room for both, room is no matter
 said-odd : (v : Bool) → v ≡ true → (s : Said) → pick v (said 1 (0 ∷ [])) s ≡ said 1 (0 ∷ [])
 said-odd v e s = pick_true _ _ _ e
@@ -105,16 +135,17 @@ pub checked-roomy : (xs ds room : List ℕ) → needed xs ds ≤ length room →
 unfolding checked_said
 checked-roomy xs ds room h = go (uneven xs) refl (uneven ds) refl
   where
+    both : uneven xs ≡ false → uneven ds ≡ false → (o : Option ℕ) → too_large (words_in ds) ≡ o → (checked_bytes xs ds room).says ≡ checked_said xs ds
+    both e f None z = ap (λ (o : Outcome). o.says) (checked-enough xs ds room e f z h) ∙ sym (said-even (uneven xs || uneven ds) (rw (e, f)) _)
+    both e f (Some n) d =
+        ap (λ (o : Outcome). o.says) (checked-many xs ds room e f n d) ∙ many-said xs ds room e f n d
+        ∙ sym (said-even (uneven xs || uneven ds) (rw (e, f)) _)
+
     go : (v : Bool) → uneven xs ≡ v → (w : Bool) → uneven ds ≡ w → (checked_bytes xs ds room).says ≡ checked_said xs ds
     go true e w f = ap (λ (o : Outcome). o.says) (checked-odd-asked xs ds room e) ∙ sym (said-odd (uneven xs || uneven ds) (rw e) _)
     go false e true f =
         ap (λ (o : Outcome). o.says) (checked-odd-derivation xs ds room e f) ∙ sym (said-odd (uneven xs || uneven ds) (rw (e, f)) _)
-    go false e false f = elim (dec_eq (too_large (words_in ds)) 0) [
-      | yes z ↦ ap (λ (o : Outcome). o.says) (checked-enough xs ds room e f z h) ∙ sym (said-even (uneven xs || uneven ds) (rw (e, f)) _)
-      | no d ↦
-          ap (λ (o : Outcome). o.says) (checked-many xs ds room e f d) ∙ many-said xs ds room e f d
-          ∙ sym (said-even (uneven xs || uneven ds) (rw (e, f)) _)
-    ]
+    go false e false f = both e f (too_large (words_in ds)) refl
 
 pub apart-roomy : (xs room : List ℕ) → length xs / 4 ≤ length room → (apart_bytes xs room).says ≡ apart_asked xs
 unfolding apart_asked
@@ -141,7 +172,7 @@ module _ (bs : List ℕ) {old new : List ℕ} {r : ℕ} (w : Wrote (take (length
       omega arith
 
 -- as much of a derivation was loaded as its lines have words
-pub large-loaded : (ds : List ℕ) {old new : List ℕ} {r c : ℕ} → length old ≡ 9217 → Wrote (take (length old) (words_in ds)) old 0 new r
+pub large-loaded : (ds : List ℕ) {old new : List ℕ} {r : ℕ} {c : Option ℕ} → length old ≡ 9217 → Wrote (take (length old) (words_in ds)) old 0 new r
     → c ≡ too_large (take r new) → c ≡ too_large (words_in ds)
 large-loaded ds size w e = e ∙ ap too_large (loaded-front ds size w (omega arith)) ∙ large-front (words_in ds) 9217 (omega arith)
 
@@ -245,9 +276,9 @@ module _ (xs ds : List ℕ) {room mid part new final : List ℕ} {n m : ℕ} (fi
       let w = words-length ds in
       omega arith
 
-  pub checked-loaded : (f : Finding) → finding_says f ≡ verdict (take (n + m - n) (drop n final)) (take n final)
-      → found f final ≡ checked_in xs ds room
-  checked-loaded f e =
+  pub checked-loaded : (c : Result Finding Refusal) → finding_says c ≡ some (verdict (take (n + m - n) (drop n final)) (take n final))
+      → checked c final ≡ checked_in xs ds room
+  checked-loaded c e =
       let D = words_in ds in
       let A = words_in xs in
       let one = laid-list ds first (omega arith) low in
@@ -255,7 +286,7 @@ module _ (xs ds : List ℕ) {room mid part new final : List ℕ} {n m : ℕ} (fi
       let lay = room-laid room D A both one n-is part-is two whole_is in
       let front = room-front room D A both one n-is part-is two whole_is in
       let rest = room-behind room D A both one n-is part-is two whole_is (n + m - n) (let k = m-is in omega arith) in
-      ap₂ (λ (v : Verdict) (y : List ℕ). record { says = verdict_said v; lent = y }) (e ∙ ap₂ verdict rest front) lay
+      ap₂ (λ (s : Said) (y : List ℕ). record { says = s; lent = y }) (finding-said c _ e ∙ ap verdict_said (ap₂ verdict rest front)) lay
 
 -- ---- what is said of bound names, as the code tests it
 module _ {t b : Bool} (tested : t ≡ b) where
@@ -264,13 +295,6 @@ module _ {t b : Bool} (tested : t ≡ b) where
 
   pub said-not-apart : t ≡ false → said 0 (0 ∷ []) ≡ apart_said b
   said-not-apart e = ap (λ n. said 0 (n ∷ [])) (sym (pick-false _ _ _ (sym tested ∙ e)))
-
-module _ {t : Bool} {room : List ℕ} where
-  pub replied-yes : t ≡ true → replied Yes room ≡ apart_found t room
-  replied-yes e = ap (λ (s : Said). record { says = s; lent = room }) (said-apart {t = t} {b = t} refl e)
-
-  pub replied-no : t ≡ false → replied No room ≡ apart_found t room
-  replied-no e = ap (λ (s : Said). record { says = s; lent = room }) (said-not-apart {t = t} {b = t} refl e)
 
 -- ---- no two findings say the same
 pub said-injective : (u v : Verdict) → verdict_said u ≡ verdict_said v → u ≡ v

@@ -11,9 +11,8 @@ use Rattle.octets.specs.Octets.{words_in, bytes_of_all}
 use Rattle.octets.specs.Octets.Laws.{words-length}
 use Rattle.book.specs.declared.Refusal.{Refusal}
 use Rattle.book.specs.Said.{Said, said}
-use Rattle.translation.specs.declared.Answer.{Answer}
-use Rattle.translation.specs.declared.Answer.TheVariants.{Written, Refused}
-use Rattle.translation.specs.Outcome.{Outcome, answer_says, laid, came}
+use Rattle.std.specs.Prelude.{Ok, Err}
+use Rattle.translation.specs.Outcome.{Outcome, laid, came}
 use Rattle.translation.specs.Outcome.Laws.{came_refused, came-written, laid-keeps, laid-lays}
 use Rattle.playing.specs.Rehearsal.{events_done, rehearsal_says}
 use Rattle.playing.specs.Rehearsal.Laws.{exactly-played, played-says, done-length}
@@ -31,38 +30,39 @@ laid-length s out ws = elim (ℕ_discrete s.number 0) [
 
 -- ---- an output ws into words, and from there, as bytes, to what was lent. Of the words between s is said, and t of those that the bytes
 -- make; both are the same, as there are as many words between as the output can have
-module _ {t : Said} (s : Said) (ws lent new : List ℕ) (answer : Answer) (out : List ℕ) (same : s ≡ t) (r : came answer new ≡ laid s lent ws) where
-  pub through-length : length new ≡ length lent
-  through-length = ap (λ (o : Outcome). length o.lent) r ∙ laid-length s lent ws
-
-  told : answer_says answer ≡ t
-  told = ap (λ (o : Outcome). o.says) r ∙ same
-
-  pub through-refused : {f : Refusal} → answer ≡ Refused f → came (Refused f) out ≡ laid t out (bytes_of_all ws)
-  through-refused {f} k = came_refused t out (bytes_of_all ws) f (sym (sym (ap answer_says k) ∙ told))
+module _ {t : Said} (s : Said) (ws lent new out : List ℕ) (same : s ≡ t) where
+  pub through-refused : (f : Refusal) → came (Err f) new ≡ laid s lent ws → came (Err f) out ≡ laid t out (bytes_of_all ws)
+  through-refused f r = came_refused t out (bytes_of_all ws) f (sym (ap (λ (o : Outcome). o.says) r ∙ same))
 
   -- where it is accepted, the words are in front
-  module _ {n : ℕ} (k : answer ≡ Written n) (fits : s.number ≡ 0 → (s ≡ said 0 (length ws ∷ [])) × (length ws ≤ length lent)) where
+  module _ (n : ℕ) (r : came (Ok n) new ≡ laid s lent ws) (fits : s.number ≡ 0 → (s ≡ said 0 (length ws ∷ [])) × (length ws ≤ length lent)) where
     number : s.number ≡ 0
-    number = sym (ap (λ (o : Outcome). o.says.number) r) ∙ ap (λ (a : Answer). (answer_says a).number) k
+    number = sym (ap (λ (o : Outcome). o.says.number) r)
 
-    pub through-many : (n ≡ length ws) × (length ws ≤ length lent)
-    through-many =
-        let says = sym (ap answer_says k) ∙ ap (λ (o : Outcome). o.says) r ∙ (fits number).0 in
+    many : (n ≡ length ws) × (length ws ≤ length lent)
+    many =
+        let says = ap (λ (o : Outcome). o.says) r ∙ (fits number).0 in
         (ap (λ (x : Said). get_or x.values 0 0) says, (fits number).1)
 
-    pub through-front : take n new ≡ ws
-    through-front =
-        let e = through-many.0 in
-        let l = through-many.1 in
+    -- the words between are as many as they were
+    pub through-few : n ≤ length new
+    through-few =
+        let size = ap (λ (o : Outcome). length o.lent) r ∙ laid-length s lent ws in
+        let (e, l) = many in
+        omega arith
+
+    front : take n new ≡ ws
+    front =
+        let (e, l) = many in
         let lays : new ≡ sets lent 0 ws = ap (λ (o : Outcome). o.lent) r ∙ laid-lays s lent ws number in
         let front = sets-eq ws lent 0 (omega arith) in
         ap₂ take e (lays ∙ front) ∙ take-append_seam ws (drop (0 + length ws) lent)
 
     pub through-written : {after : List ℕ} {j : ℕ} → Wrote (bytes_of_all (take n new)) out 0 after j
-        → came (Written n) after ≡ laid t out (bytes_of_all ws)
+        → came (Ok n) after ≡ laid t out (bytes_of_all ws)
     through-written {after} w =
-        came-written t out (bytes_of_all ws) after n (sym (sym (ap answer_says k) ∙ told)) (w.list ∙ ap (λ l. sets out 0 (bytes_of_all l)) through-front)
+        came-written t out (bytes_of_all ws) after n (sym (ap (λ (o : Outcome). o.says) r ∙ same))
+        (w.list ∙ ap (λ l. sets out 0 (bytes_of_all l)) front)
 
 -- a rehearsal, and a summary
 pub rehearsal-fits : (b ms lent : List ℕ) → (rehearsal_says b ms lent).number ≡ 0

@@ -10,8 +10,9 @@ ghost use Rattle.summary.specs.Summary.{asked};
 ghost use Rattle.summary.specs.Reply.{reply_says};
 ghost use Rattle.relaying.specs.Relayed.{rehearsed, summarized_on};
 
+use book::Refusal;
 use octets::{put_words, word_at};
-use summary::{Found, Reply, decide, find};
+use summary::{decide, find};
 use translation::Answer;
 
 // What is kept at most.
@@ -25,30 +26,15 @@ impl Most {
     const SUMMARY: usize = 16387;
 }
 
-// The smaller of two.
-fn smaller(m: usize, n: usize) -> usize
-    ensures { result ≡ min m n }
-{
-    if m < n {
-        return m;
-    }
-    n
-}
-
 // A rehearsal into words, and from there, as bytes, to the output. There are as many words as the output has room for, or as parties
 // can be.
 fn rehearse_through(book: &[u32], schedule: &[u32], done: &mut [u32], out: &mut [u8]) -> Answer
     requires { length done.old ≡ min 16 (length out.old / 4) }
     ensures { came result out.new ≡ rehearsed book.now schedule.now out.old }
 {
-    let answer = rehearsal::rehearse(book, schedule, done);
-    match answer {
-        Answer::Refused(why) => Answer::Refused(why),
-        Answer::Written(n) => {
-            put_words(out, 0, done, n);
-            Answer::Written(n)
-        }
-    }
+    let n = rehearsal::rehearse(book, schedule, done)?;
+    put_words(out, 0, &done[..n]);
+    Ok(n)
 }
 
 // The events done by each party of any words under any schedule, into any lent bytes, or the first refusal that applies.
@@ -56,7 +42,7 @@ pub fn rehearse_words(book: &[u32], schedule: &[u32], out: &mut [u8]) -> Answer
     ensures { came result out.new ≡ rehearsed book.now schedule.now out.old }
 {
     let mut done = [0u32; Most::PARTIES];
-    let room = smaller(Most::PARTIES, out.len() / 4);
+    let room = Most::PARTIES.min(out.len() / 4);
     rehearse_through(book, schedule, &mut done[..room], out)
 }
 
@@ -66,14 +52,9 @@ fn summarize_through(book: &[u32], told: &mut [u32], out: &mut [u8]) -> Answer
     requires { length told.old ≡ min 16387 (length out.old / 4) }
     ensures { came result out.new ≡ summarized_on book.now out.old }
 {
-    let answer = summary::write_summary(book, told);
-    match answer {
-        Answer::Refused(why) => Answer::Refused(why),
-        Answer::Written(n) => {
-            put_words(out, 0, told, n);
-            Answer::Written(n)
-        }
-    }
+    let n = summary::write_summary(book, told)?;
+    put_words(out, 0, &told[..n]);
+    Ok(n)
 }
 
 // The summary of any words into any lent bytes, or the first refusal that applies.
@@ -81,16 +62,16 @@ pub fn summarize_words(book: &[u32], out: &mut [u8]) -> Answer
     ensures { came result out.new ≡ summarized_on book.now out.old }
 {
     let mut told = [0u32; Most::SUMMARY];
-    let room = smaller(Most::SUMMARY, out.len() / 4);
+    let room = Most::SUMMARY.min(out.len() / 4);
     summarize_through(book, &mut told[..room], out)
 }
 
 // Did the party hold the row after the step, by the words that the bytes of a summary make? They are read where they lie: a summary may
 // be of any length.
-pub fn ask_words(summary: &[u8], party: u32, row: u32, step: u32) -> Reply
+pub fn ask_words(summary: &[u8], party: u32, row: u32, step: u32) -> Result<bool, Refusal>
     ensures { reply_says result ≡ asked (words_in summary.now) party row step }
 {
-    let found = find(
+    let i = find(
         summary.len() / 4,
         word_at(summary, 0),
         word_at(summary, 1),
@@ -98,9 +79,6 @@ pub fn ask_words(summary: &[u8], party: u32, row: u32, step: u32) -> Reply
         party,
         row,
         step,
-    );
-    match found {
-        Found::Refused(why) => Reply::Refused(why),
-        Found::At(i) => decide(word_at(summary, i), step),
-    }
+    )?;
+    Ok(decide(word_at(summary, i), step))
 }

@@ -1,12 +1,10 @@
 -- `relaying::summarize_through` meets its contract: the words of the summary, where the book is accepted, are written as
 -- bytes. Assumes nothing.
-use native.Mathlib.Omega.{arith}
-use mathlib.Core.Path.{◌≡◌}
-use mathlib.Core.List.{List}
-use Prim.Native.Nat.{ℕ}
+use Rattle.std.proofs.Common.{ℕ, List, ◌≡◌, sym, length-take-le}
+use Rattle.std.proofs.lemmas.Result.{err_from_is_err_and}
 use Rattle.summary.specs.Summary.{summary, summary_says, summarized}
 use Rattle.translation.specs.Outcome.{Outcome, laid}
-use Rattle.relaying.proofs.Through.{summary-fits, between-summary, through-length, through-refused, through-many, through-written}
+use Rattle.relaying.proofs.Through.{summary-fits, between-summary, through-few, through-refused, through-written}
 use Rattle.relaying.proofs.summarize_through.Goals as goal
 
 -- what came of the summary into the words between
@@ -14,37 +12,37 @@ as-laid : (b out : List ℕ) {o : Outcome} → o ≡ summarized b out → o ≡ 
 unfolding summarized
 as-laid b out e = e
 
--- as many words as the summary has
-pub put_words-requires : goal.put_words-requires
-put_words-requires c = let book = c.args.book.now in
+-- as many words as it has
+pub slice_bounds-put_words-end : goal.slice_bounds-put_words-end
+slice_bounds-put_words-end c =
+    let book = c.args.book.now in
     let told = c.args.told.now in
     let out = c.args.out.now in
-    let same = between-summary book told out c.requires in
-    let laid-there = as-laid book told c.write_summary-answer.ensures in
-    let size = through-length (summary_says book told) (summary book) told _
-    c.write_summary-answer.result out same
-    laid-there in
-    let many = through-many (summary_says book told) (summary book) told _
-    c.write_summary-answer.result out same
-    laid-there c.in-Written.is (summary-fits book told) in
-    omega arith
+    through-few (summary_says book told) (summary book) told _ out (between-summary book told out c.requires) _
+    (as-laid book told c.in_ok-n.ensures) (summary-fits book told)
 
--- the book's refusal, or 12
-pub returns-in-Refused : goal.returns-in-Refused
-returns-in-Refused c = let book = c.args.book.now in
+pub slice_bounds-put_words-end-2 : goal.slice_bounds-put_words-end-2
+slice_bounds-put_words-end-2 c =
+    let book = c.args.book.now in
     let told = c.args.told.now in
     let out = c.args.out.now in
-    through-refused (summary_says book told) (summary book) told _
-    c.write_summary-answer.result out
-    (between-summary book told out c.requires) (as-laid book told c.write_summary-answer.ensures)
-    c.in-Refused.is
+    sym (length-take-le _ _ (through-few (summary_says book told) (summary book) told _ out (between-summary book told out c.requires) _
+    (as-laid book told c.in_ok-n.ensures) (summary-fits book told)))
 
--- and they are the summary
-pub returns-in-Written : goal.returns-in-Written
-returns-in-Written c = let book = c.args.book.now in
+-- the refusal
+pub returns-in_err-n : goal.returns-in_err-n
+returns-in_err-n c =
+    let book = c.args.book.now in
     let told = c.args.told.now in
     let out = c.args.out.now in
-    through-written (summary_says book told) (summary book) told _
-    c.write_summary-answer.result out
-    (between-summary book told out c.requires) (as-laid book told c.write_summary-answer.ensures)
-    c.in-Written.is (summary-fits book told) c.put_words.ensures
+    let p = err_from_is_err_and c.from_residual.result c.from_residual.ensures.1 in
+    rw (p.1, p.2) (through-refused (summary_says book told) (summary book) told _ out (between-summary book told out c.requires) _ (as-laid book told c.in_err-n.ensures))
+
+-- and they are its words
+pub returns : goal.returns
+returns c =
+    let book = c.args.book.now in
+    let told = c.args.told.now in
+    let out = c.args.out.now in
+    through-written (summary_says book told) (summary book) told _ out (between-summary book told out c.requires) _
+    (as-laid book told c.in_ok-n.ensures) (summary-fits book told) c.put_words.ensures

@@ -14,16 +14,6 @@ unfolding says_term
 returns-then-word-ne2 c = pair-type-other _ _ _ _
     (λ S R e. c.if-word-ne2.true (c.word.ensures ∙ shape.pair-word _ _ c.requires.0.type _ _ e))
 
-pub same_at-requires : goal.same_at-requires
-same_at-requires c = (shape.pair-first _ _ c.requires.0.type (sym c.word.ensures ∙ c.if-word-ne2.false), c.requires.1.type)
-
-pub same_changed-requires : goal.same_changed-requires
-same_changed-requires c = (
-  c.behind-e.ensures,
-  c.behind-f.ensures,
-  c.behind-end.ensures,
-)
-
 pub returns-then-same_at : goal.returns-then-same_at
 unfolding says_term change_by join pick
 returns-then-same_at c = let types = shape.pair_parts _ _ c.requires.0.type (sym c.word.ensures ∙ c.if-word-ne2.false) _ c.behind-second.ensures in

@@ -9,10 +9,6 @@ pub returns-then-word-code : goal.returns-then-word-code
 returns-then-word-code c = joined-other _ _ _ _ _ c.requires.3 c.requires.4
     (λ e. c.if-word-code.true (c.word.ensures ∙ sym (term-code _ _ c.requires.0.term) ∙ e))
 
-pub term_premise-requires : goal.term_premise-requires
-term_premise-requires c = let word-is = sym c.word.ensures ∙ c.if-word-code.false in
-    (c.requires.0.environment, c.requires.1, join-left _ _ c.requires.0.term _ c.requires.3 c.requires.4 word-is)
-
 pub term_premise-requires-then-term_premise : goal.term_premise-requires-then-term_premise
 term_premise-requires-then-term_premise c = let word-is = sym c.word.ensures ∙ c.if-word-code.false in
     let parts = join-parts _ _ c.requires.0.term _ c.requires.3 c.requires.4 word-is _ c.behind-right.ensures in

@@ -38,6 +38,3 @@ pub returns-else-term_closed : goal.returns-else-term_closed
 unfolding says_process
 returns-else-term_closed c = let at = label-at _ _ _ _ c.requires.2 c.requires.3 c.in-Some.ensures.1 in
     by-law (label _ c.requires.2 c.requires.3 _ _ _ _ _ _ _ _ at.is) (grind arith)
-
-pub behind-end-requires : goal.behind-end-requires
-behind-end-requires c = (label-at _ _ _ _ c.requires.2 c.requires.3 c.in-Some.ensures.1).m

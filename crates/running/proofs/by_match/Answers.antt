@@ -18,16 +18,6 @@ unfolding says_term
 returns-then-word-ne2 c = match-type-other _ _ _ _ _
     (λ S R e. c.if-word-ne2.true (c.word.ensures ∙ shape.pair-word _ _ c.requires.1.type _ _ e))
 
-pub same_at-requires : goal.same_at-requires
-same_at-requires c = (shape.pair-first _ _ c.requires.1.type (sym c.word.ensures ∙ c.if-word-ne2.false), c.requires.2.type)
-
-pub same_changed-requires : goal.same_changed-requires
-same_changed-requires c = (
-  c.behind-own.ensures,
-  c.behind-last.ensures,
-  c.behind-end.ensures,
-)
-
 pub returns-then-same_at : goal.returns-then-same_at
 unfolding says_process says_term change_by open_process pick
 returns-then-same_at c = let types = shape.pair_parts _ _ c.requires.1.type (sym c.word.ensures ∙ c.if-word-ne2.false) _ c.behind-second.ensures in

@@ -12,10 +12,6 @@ pub returns-in_default : goal.returns-in_default
 unfolding rule_code says_process
 returns-in_default c = other _ _ _ _ _ c.in_default.ensures.1
 
-pub process_premise-requires-then-process_premise : goal.process_premise-requires-then-process_premise
-process_premise-requires-then-process_premise c = let two = c.in-Some.ensures.1.second _ c.behind-q.ensures in
-    (c.requires.0.environment, c.requires.2, two.1)
-
 pub restated-requires : goal.restated-requires
 restated-requires c = (c.requires.0, c.requires.2, none-there _, c.effects_at-first.ensures.0)
 

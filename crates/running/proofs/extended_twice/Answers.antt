@@ -2,7 +2,7 @@
 use Rattle.std.proofs.Common.{arith}
 use borrow.Author.Rules.{rules}
 use Rattle.shapes.specs.Shape.{made_type}
-use Rattle.shapes.specs.Shape.Laws.{environment-inside, no-entry, entry-name, entry-type, entry-older}
+use Rattle.shapes.specs.Shape.Laws.{environment-inside, no-entry, entry-type, entry-older}
 use Rattle.ruling.specs.Rules.Decide.{by-law}
 use Rattle.running.specs.Entries.{entry-tests}
 use Rattle.running.proofs.extended_twice.Goals as goal
@@ -18,9 +18,6 @@ returns-then-w-a-ne2 c = no-entry _ _ c.requires.0 _ _ c.if-w-a-ne2.true
 
 pub behind-older-requires : goal.behind-older-requires
 behind-older-requires c = entry-type _ _ c.requires.0 c.if-w-a-ne2.false
-
-pub bounds-w-a-2 : goal.bounds-w-a-2
-bounds-w-a-2 c = entry-name _ _ c.requires.0 c.if-w-a-ne2.false
 
 pub extended-requires : goal.extended-requires
 extended-requires c = (entry-older _ _ c.requires.0 c.if-w-a-ne2.false _ c.behind-older.ensures, c.requires.2, c.requires.3)

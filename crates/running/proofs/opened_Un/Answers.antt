@@ -11,10 +11,6 @@ pub returns-in_default : goal.returns-in_default
 unfolding says_process
 returns-in_default c = other _ _ _ _ _ (λ e. c.in_default.ensures.1 (e ∙ open-code _ c.requires.4 c.requires.5))
 
-pub opened-requires : goal.opened-requires
-opened-requires c = let at = open-at _ _ _ _ c.requires.4 c.requires.5 c.in-Some.ensures.1 in
-    (c.requires.0, c.requires.1, c.requires.2, c.requires.3, c.in-Some.ensures.0, at.m, at.n, at.t, at.p)
-
 pub returns-then-same_as-2 : goal.returns-then-same_as-2
 unfolding says_process says_term made_type
 returns-then-same_as-2 c = let at = open-at _ _ _ _ c.requires.4 c.requires.5 c.in-Some.ensures.1 in

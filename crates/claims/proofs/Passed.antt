@@ -7,7 +7,7 @@ use lib.ListN.{length}
 use Rattle.words.specs.Run.{values}
 use Rattle.terms.specs.Term.{Term}
 use Rattle.terms.specs.Table.{term}
-use Rattle.book.specs.Layout.{rows, parties, steps, pool, table, name, party_first, party_count, step_first, step_count, pooled, list_at, known}
+use Rattle.book.specs.Layout.{rows, parties, steps, table, name, step_first, step_count, pooled, list_at, known}
 use Rattle.book.specs.Valid.{Valid}
 use Rattle.book.specs.Span.{Span}
 use Rattle.book.specs.Span.Laws.{span-step}
@@ -30,19 +30,6 @@ pub knows_on : {b : List ℕ} {f j r x : ℕ} {l m k : List ℕ} → r ≡ poole
     → Marked (term (table b) r ∷ []) x m k → x ≡ 1 → Knows b f (j + 1) l k
 knows_on {b} {f} {j} d i y o = record { done = marked-pooled b f j i.done (rw (← d) (rw o at y)) }
 
-module _ {b : List ℕ} {p f n : ℕ} (d : f ≡ party_first b p) (e : n ≡ party_count b p) where
-  pub known-inside : Valid b → p < parties b → (j : ℕ) → j < n → f + j < pool b
-  known-inside v h j k = let z = (v.parties_keep p h).listed.inside in omega arith
-
-  pub known-low : Valid b → p < parties b → {j r : ℕ} → j < n → r ≡ pooled b f j → r < rows b
-  known-low v h {j} k x =
-      let z : pooled b f j < rows b = rw d ((v.parties_keep p h).listed.each j (omega arith)) in
-      omega arith
-
-pub knows-end : {b : List ℕ} (p : ℕ) {f j : ℕ} {l m : List ℕ} → f ≡ party_first b p → j ≡ party_count b p → Knows b f j l m
-    → Marked (map (term (table b)) (known b p)) 1 l m
-knows-end p d e i = rw (← e, ← d) i.done
-
 -- ---- the names of the p parties passed, and what they know
 abbrev name_term : List ℕ → ℕ → Term
 name_term b p = term (table b) (name b p)
@@ -56,9 +43,6 @@ pub record Begun (b : List ℕ) (p : ℕ) (l m : List ℕ) : Type 0 where
 pub begun-start : (b : List ℕ) {l : List ℕ} → length l ≡ 1024 → Begun b 0 l l
 unfolding values joined
 begun-start b {l} h = record { done = marked-none 1 l h }
-
-pub name-low : {b : List ℕ} {p r : ℕ} → Valid b → p < parties b → r ≡ name b p → r < rows b
-name-low {p = p} v h d = let z = (v.parties_keep p h).named in omega arith
 
 -- the name and the knowledge of party q were marked, which is the next one
 pub begun-on : {b : List ℕ} {p q r : ℕ} {l m k o : List ℕ} → Begun b p l m → r ≡ name b p → Marked (term (table b) r ∷ []) 1 m k

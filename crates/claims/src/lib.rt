@@ -19,6 +19,9 @@ use book::{
 };
 use words::wide;
 
+// Whether each row was gone through.
+type Seen = [bool; 1024];
+
 // The atom gets an entry, unless it has one.
 fn mark_atom(since: &mut ByRow, row: u32, from: u32)
     requires { (length since.old ≡ 1024) × (row < 1024) }
@@ -31,7 +34,7 @@ fn mark_atom(since: &mut ByRow, row: u32, from: u32)
 
 // The atoms that occur in the row, unless it was gone through before.
 #[cycle(mark_mark_list)]
-fn mark(book: &[u32], since: &mut ByRow, seen: &mut ByRow, row: u32, from: u32)
+fn mark(book: &[u32], since: &mut ByRow, seen: &mut Seen, row: u32, from: u32)
     requires { Valid book.now × Ready book.now since.old seen.old × (row < rows_of book.now) × (0 < from) }
     ensures { Marked (term (table book.now) row ∷ []) from since.old since.new × Ready book.now since.new seen.new }
 {
@@ -39,7 +42,7 @@ fn mark(book: &[u32], since: &mut ByRow, seen: &mut ByRow, row: u32, from: u32)
         mark_atom(since, row, from);
         return;
     }
-    if seen[wide(row)] != 0 {
+    if seen[wide(row)] {
         return;
     }
     mark_list(
@@ -51,7 +54,7 @@ fn mark(book: &[u32], since: &mut ByRow, seen: &mut ByRow, row: u32, from: u32)
         row_count(book, row),
         from,
     );
-    seen[wide(row)] = 1;
+    seen[wide(row)] = true;
 }
 
 // The atoms that occur in a list of rows below a bound.
@@ -60,7 +63,7 @@ fn mark(book: &[u32], since: &mut ByRow, seen: &mut ByRow, row: u32, from: u32)
 fn mark_list(
     book: &[u32],
     since: &mut ByRow,
-    seen: &mut ByRow,
+    seen: &mut Seen,
     bound: u32,
     first: usize,
     left: usize,
@@ -77,7 +80,7 @@ fn mark_list(
 }
 
 // What a party knows at the start: taken from step 0 on.
-fn mark_known(book: &[u32], since: &mut ByRow, seen: &mut ByRow, party: u32)
+fn mark_known(book: &[u32], since: &mut ByRow, seen: &mut Seen, party: u32)
     requires { Valid book.now × Ready book.now since.old seen.old × (party < parties_of book.now) }
     ensures { Marked (map (term (table book.now)) (known book.now party)) 1 since.old since.new × Ready book.now since.new seen.new }
 {
@@ -88,7 +91,7 @@ fn mark_known(book: &[u32], since: &mut ByRow, seen: &mut ByRow, party: u32)
 }
 
 // The names of the parties, and what they know at the start: taken from step 0 on, and so marked with 1.
-fn mark_start(book: &[u32], since: &mut ByRow, seen: &mut ByRow)
+fn mark_start(book: &[u32], since: &mut ByRow, seen: &mut Seen)
     requires { Valid book.now × Ready book.now since.old seen.old }
     ensures { Marked ((narration book.now).names ++ joined (narration book.now).knows) 1 since.old since.new × Ready book.now since.new seen.new }
 {
@@ -99,7 +102,7 @@ fn mark_start(book: &[u32], since: &mut ByRow, seen: &mut ByRow)
 }
 
 // The messages of the steps, in order: those of step s are taken from step s + 1 on.
-fn mark_steps(book: &[u32], since: &mut ByRow, seen: &mut ByRow)
+fn mark_steps(book: &[u32], since: &mut ByRow, seen: &mut Seen)
     requires { Valid book.now × ClaimsBefore book.now 0 since.old × Ready book.now since.old seen.old }
     ensures { Claims book.now since.new }
 {
@@ -123,7 +126,7 @@ pub fn claims(book: &[u32]) -> ByRow
     ensures { Claims book.now result }
 {
     let mut since = [0u32; 1024];
-    let mut seen = [0u32; 1024];
+    let mut seen = [false; 1024];
     mark_start(book, &mut since, &mut seen);
     mark_steps(book, &mut since, &mut seen);
     since

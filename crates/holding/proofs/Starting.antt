@@ -14,7 +14,7 @@ use Rattle.words.specs.Run.{run}
 use Rattle.words.specs.Run.Laws.{run-append}
 use Rattle.terms.specs.Term.{Term, same}
 use Rattle.terms.specs.Table.{term}
-use Rattle.book.specs.Layout.{table, rows, parties, begins, party_first, party_count, known, pooled, list_at}
+use Rattle.book.specs.Layout.{table, rows, parties, begins, party_first, party_count, pooled, list_at}
 use Rattle.book.specs.Valid.{Valid}
 use Rattle.book.specs.Headed.Laws.{few-rows}
 use Rattle.translation.specs.Dictionary.{Held, free, given, Dictionary, enter, start}
@@ -86,7 +86,3 @@ starting-on {b} {e} {f} {j} {w} {r} x v l g d dx dw =
           ∙ ap start (sym (map-append (term (table b)) (list_at b f j) (pooled b f j ∷ [])))
           ∙ ap (λ l. start (map (term (table b)) l)) (sym (list_at-more b f j));
     }
-
-pub starting-done : {b e : List ℕ} (p : ℕ) {f n : ℕ} → Starting b e f n → f ≡ party_first b p → n ≡ party_count b p
-    → view b e ≡ start (map (term (table b)) (known b p))
-starting-done p g d dn = g.holds ∙ rw (d, dn)

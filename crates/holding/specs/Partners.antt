@@ -1,6 +1,6 @@
 -- The partners of a book's rows as a table, an entry for each row. The partner of a key is the other half of its part, which need not be
 -- a row; a key that is no half is its own partner (document 01).
-use Rattle.std.specs.Prelude.{ℕ, ◌≤◌, ◌<◌, List, ◌≡◌, length, get_or}
+use Rattle.std.specs.Prelude.{ℕ, ◌≤◌, ◌<◌, List, ◌≡◌, length, get_or, Option, None, Some}
 use Rattle.terms.specs.Term.{partner}
 use Rattle.terms.specs.Table.{term}
 use Rattle.book.specs.Layout.{table, rows, kind, row_first}
@@ -11,6 +11,11 @@ pub mod Laws
 -- the table l names for each row the row of its partner, and the number of rows where that is no row
 pub record Partners (b l : List ℕ) : Type 0 where
   pub names : (r : ℕ) → r < rows b → get_or l r 0 ≡ row_of b (partner (term (table b) r))
+
+-- the row of the partner of row r, if that is a row
+abbrev pub PartnerRow : List ℕ → ℕ → Option ℕ → Type 0
+PartnerRow b r None = rows b ≤ row_of b (partner (term (table b) r))
+PartnerRow b r (Some o) = (o < rows b) × (o ≡ row_of b (partner (term (table b) r)))
 
 -- ---- on the way there
 -- row r is a half of row p

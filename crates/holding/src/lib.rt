@@ -17,7 +17,7 @@ ghost use Rattle.holding.specs.Entry.{held_of, limit, step_limit};
 ghost use Rattle.holding.specs.View.{row_of, view};
 ghost use Rattle.book.specs.Span.{Span};
 ghost use Rattle.holding.specs.AtRow.{image_at, images_at, head_words, entry_words};
-ghost use Rattle.holding.specs.Partners.{PartnersBefore, Partners};
+ghost use Rattle.holding.specs.Partners.{PartnersBefore, Partners, PartnerRow};
 
 use book::{
     ByRow, ImageCode, Kind, Limit, entry, first_part, is_half, other_half, party_count,
@@ -137,7 +137,7 @@ fn join(book: &[u32], table: &mut ByRow, seen: &mut ByRow, row: u32)
 }
 
 // The row of each row's partner, or the number of rows where that is no row, made once for the book. A row that is no half is its own partner.
-// Kept: the number of rows stands for none in both tables, for a table lent on to other rooms is fixed memory of words.
+// Kept: the number of rows stands for none, for the table is lent on to other rooms as words, and what was seen is copied into it as it stands.
 pub fn partners(book: &[u32]) -> ByRow
     requires { Valid book.now }
     ensures { Partners book.now result }
@@ -155,17 +155,31 @@ pub fn partners(book: &[u32]) -> ByRow
     table
 }
 
+// The row of the key's partner, if that is a row.
+fn partner_row(book: &[u32], partners: &ByRow, key: u32) -> Option<u32>
+    requires { Valid book.now × Partners book.now partners.now × (key < rows_of book.now) }
+    ensures { PartnerRow book.now key result }
+{
+    let other = partners[wide(key)];
+    if other < rows(book) {
+        Some(other)
+    } else {
+        None
+    }
+}
+
 // The partner of the key is buildable. It need not be a row: then it is buildable from its part.
 pub fn can_open(book: &[u32], partners: &ByRow, entries: &ByRow, key: u32) -> bool
     requires { Valid book.now × Partners book.now partners.now × (key < rows_of book.now) }
     ensures { result ≡ buildable_from (view book.now entries.now) (partner (term (table book.now) key)) }
 {
-    let other = partners[wide(key)];
-    if other < rows(book) {
-        return buildable(book, entries, other);
+    match partner_row(book, partners, key) {
+        Some(other) => buildable(book, entries, other),
+        None => {
+            let part = first_part(book, key);
+            buildable(book, entries, part)
+        }
     }
-    let part = first_part(book, key);
-    buildable(book, entries, part)
 }
 
 // How the image of a row begins that is not held.
@@ -254,8 +268,7 @@ pub fn write_partner(
     requires { Valid book.now × Partners book.now partners.now × (key < rows_of book.now) }
     ensures { Wrote (words (row_of book.now) (image (view book.now entries.now) (partner (term (table book.now) key)))) out.old at out.new result }
 {
-    let other = partners[wide(key)];
-    if other < rows(book) {
+    if let Some(other) = partner_row(book, partners, key) {
         return write_image(book, entries, other, out, at);
     }
     let side = row_kind(book, key);

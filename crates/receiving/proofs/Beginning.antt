@@ -11,7 +11,6 @@ use Rattle.terms.specs.Table.{term}
 use Rattle.book.specs.Layout.{table, kind, row_first, row_count}
 use Rattle.translation.specs.Receive.{can_open}
 use Rattle.translation.specs.Listing.{program_words}
-use Rattle.holding.specs.Entry.{limit}
 use Rattle.holding.specs.View.{row_of, view}
 use Rattle.receiving.specs.declared.Received.{Received}
 use Rattle.receiving.specs.Turn.{unlocked}
@@ -36,9 +35,6 @@ module _ {b ps : List ℕ} {r p t : ℕ} {e : List ℕ} {n k a : ℕ} (ready : R
       given : (j : ℕ) (l o : List ℕ) → Going b r (list_did b (f + 1) (c - 1) (standing t e n k j)) (standing t e n k j) l o (f + 1) (c - 1) n
           (standing t e (n + q) k j) l o
       given j l o = going_start (opened-ready ready can df dc j) dq refl
-
-      pub begun-low : n + q ≤ limit
-      begun-low = let h = (given 0 [] []).fits in omega arith
 
       pub begun-ready : (j : ℕ) → RestReady b ps r (f + 1) (c - 1) n (standing t e (n + q) k j)
       begun-ready j = going-ready (given j [] []) ready.timely ready.valid ready.partners (let h = ready.row in omega arith)

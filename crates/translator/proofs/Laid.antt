@@ -36,8 +36,3 @@ bodies-low {b} {q = q} v l low h =
 pub bodies-on : {b : List ℕ} {q : ℕ} {old new later : List ℕ} {at next r : ℕ} → Laid b q old at new next
     → Wrote (part_words b q) new next later r → Laid b (q + 1) old at later r
 bodies-on {b} {q = q} h w = record { wrote = wrote_as (wrote_then h.wrote w) (bodies-more b q) }
-
--- the loop ends behind the last party
-pub bodies-end : {b : List ℕ} {q : ℕ} {old new : List ℕ} {at next : ℕ} → q ≡ parties b → Laid b q old at new next
-    → Wrote (bodies_of b) old at new next
-bodies-end z h = rw z at h.wrote

@@ -9,11 +9,11 @@ use Rattle.claims.proofs.+mark_mark_list.Goals as goal
 pub mark-returns-then-row_kind-eq-ATOM : goal.mark-returns-then-row_kind-eq-ATOM
 mark-returns-then-row_kind-eq-ATOM t c = (search atom-marked, search ready_marked)
 
--- the row's entry in `seen` is not 0
-pub mark-returns-then-seen-wide-ne0 : goal.mark-returns-then-seen-wide-ne0
-mark-returns-then-seen-wide-ne0 t c =
+-- the row was gone through
+pub mark-returns-then-seen-wide : goal.mark-returns-then-seen-wide
+mark-returns-then-seen-wide t c =
     let (valid, ready, inside, some) = c.requires in
-    seen_done {r = c.args.row} c.wide.ensures.0 ready c.if-seen-wide-ne0.true
+    seen_done {r = c.args.row} c.wide.ensures.0 ready c.if-seen-wide.true
 
 -- the parts of a row are rows before it, so they lie below the row
 pub mark-mark_list-requires : goal.mark-mark_list-requires

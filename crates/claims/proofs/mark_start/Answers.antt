@@ -1,5 +1,5 @@
 -- `claims::mark_start` meets its contract: party by party, the names and the knowledge of those passed are marked. Assumes nothing.
-use Rattle.claims.proofs.Passed.{begun-start, name-low, begun-on, begun-end}
+use Rattle.claims.proofs.Passed.{begun-start, begun-on, begun-end}
 use mathlib.Core.Path.{refl}
 use borrow.Author.Rules.{rules}
 use native.Mathlib.Omega.{arith}
@@ -7,9 +7,6 @@ use Rattle.claims.proofs.mark_start.Goals as goal
 
 pub loop-party-init : goal.loop-party-init
 loop-party-init c = search (begun-start, rules)
-
-pub mark-requires : goal.mark-requires
-mark-requires c = (search rules, search rules, name-low c.requires.0 (omega arith) c.party_name.ensures, omega arith)
 
 -- the party whose name and knowledge are marked is the next one
 pub loop-party-preserved : goal.loop-party-preserved

@@ -1,7 +1,7 @@
 -- Laws of marking: one atom, a row by its parts, terms one after another. Assumes nothing.
 use Rattle.std.specs.Prelude.{ℕ, zero, suc, ◌+◌, ◌-◌, ◌≤◌, ◌<◌, Bool, true, false, ◌||◌, List, [], ◌∷◌, ◌++◌, map, ◌≡◌, refl, length, get_or, set, eqb}
 use Rattle.std.proofs.Math.Bool.{or-false, or_assoc}
-use Rattle.std.proofs.Common.{append-nil, append_assoc, sym, ap, ap₂, ◌∙◌, arith, length-set, get_or-set_same, get_or-set_other, eq-eqb, ne_eqb}
+use Rattle.std.proofs.Common.{true≢false, append-nil, append_assoc, sym, ap, ap₂, ◌∙◌, arith, length-set, get_or-set_same, get_or-set_other, eq-eqb, ne_eqb}
 use Rattle.std.proofs.Math.Decide.{ℕ_discrete}
 use Rattle.words.specs.Choice.{pick}
 use Rattle.words.specs.Run.{run, values}
@@ -168,16 +168,16 @@ unfolding marked pick
 filled zero x h z = omega arith
 filled (suc e) x h z = omega arith
 
-pub seen_none : (b k l : List ℕ) → ((r : ℕ) → get_or k r 0 ≡ 0) → Seen b k l
-seen_none b k l z r q n o = absurd (n (z r))
+pub seen_none : (b : List ℕ) (k : List Bool) (l : List ℕ) → ((r : ℕ) → get_or k r false ≡ false) → Seen b k l
+seen_none b k l z r q n o = absurd (true≢false (sym n ∙ z r))
 
 -- marking takes no entry away
-pub seen-marked : (b k : List ℕ) {ts : List Term} {x : ℕ} {l m : List ℕ} → Seen b k l → Marked ts x l m → Seen b k m
+pub seen-marked : (b : List ℕ) (k : List Bool) {ts : List Term} {x : ℕ} {l m : List ℕ} → Seen b k l → Marked ts x l m → Seen b k m
 seen-marked b k {ts} {x} {l} {m} s d r q n o z = s r q n o (sym (kept (get_or l q 0) x (occurs_in_one q ts) (s r q n o)) ∙ sym (d.each q) ∙ z)
 
 -- a row that was marked is seen
-pub seen_more : (b k : List ℕ) (r : ℕ) {x : ℕ} {l m : List ℕ} → 0 < x → r < length k → Marked (term (table b) r ∷ []) x l m → Seen b k m
-    → Seen b (set k r 1) m
+pub seen_more : (b : List ℕ) (k : List Bool) (r : ℕ) {x : ℕ} {l m : List ℕ} → 0 < x → r < length k → Marked (term (table b) r ∷ []) x l m → Seen b k m
+    → Seen b (set k r true) m
 unfolding occurs_in_one
 seen_more b k r {x} {l} {m} h j d s p q n o z = go (ℕ_discrete p r)
   where
@@ -185,10 +185,10 @@ seen_more b k r {x} {l} {m} h j d s p q n o z = go (ℕ_discrete p r)
     go (yes e) =
         let w : (occurs q (term (table b) r) || false) ≡ true = or-false _ ∙ ap (λ i. occurs q (term (table b) i)) (sym e) ∙ o in
         filled (get_or l q 0) x h (ap (λ y. marked (get_or l q 0) y x) (sym w) ∙ sym (d.each q) ∙ z)
-    go (no e) = s p q (λ y. n (get_or-set_other k r p 1 0 e ∙ y)) o z
+    go (no e) = s p q (sym (get_or-set_other k r p true false e) ∙ n) o z
 
 -- and need not be marked again
-pub marked-seen : (b k : List ℕ) (r x : ℕ) (l : List ℕ) → length l ≡ 1024 → Seen b k l → (get_or k r 0 ≡ 0 → ⊥)
+pub marked-seen : (b : List ℕ) (k : List Bool) (r x : ℕ) (l : List ℕ) → length l ≡ 1024 → Seen b k l → get_or k r false ≡ true
     → Marked (term (table b) r ∷ []) x l l
 unfolding occurs_in_one
 marked-seen b k r x l h s n = record { sized = h; each = λ q. go q (occurs q (term (table b) r)) refl }

@@ -3,7 +3,7 @@
 use Prim.Native.Nat.{◌<◌}
 use native.Mathlib.Omega.{arith}
 use Rattle.book.specs.Layout.{parties}
-use Rattle.translator.proofs.Laid.{bodies-start, bodies-low, bodies-on, bodies-end}
+use Rattle.translator.proofs.Laid.{bodies-start, bodies-low, bodies-on}
 use Rattle.translator.proofs.write_bodies.Goals as goal
 
 pub loop-party-init : goal.loop-party-init
@@ -26,6 +26,3 @@ write_program-next-requires c = let (writable, low) = c.requires in
 
 pub loop-party-preserved : goal.loop-party-preserved
 loop-party-preserved c = bodies-on c.loop-party.invariant c.write_program-next.ensures
-
-pub returns : goal.returns
-returns c = bodies-end (omega arith) c.loop-party.invariant

@@ -185,6 +185,7 @@ pub fn by_name(w: &[u32], i: Line, j: Line) -> bool
 }
 
 // Line i's term has this word (2 a pair, 3 a cipher), and is made of the terms of lines j and k, in its environment.
+// Kept: the kind is the word itself. It is only compared with the term's own, so an enum would be made of literals to be turned into them.
 fn joined(w: &[u32], i: Line, j: Line, k: Line, code: u32) -> bool
     requires { TermThere w.now i × TermThere w.now j × TermThere w.now k × (2 ≤ code) × (code ≤ 3) }
     ensures { result ≡ (test (same_term (term_in w.now i.s) (join code (term_in w.now j.s) (term_in w.now k.s))) && (test (same_environment (environment_in w.now j.e) (environment_in w.now i.e)) && test (same_environment (environment_in w.now k.e) (environment_in w.now i.e)))) }

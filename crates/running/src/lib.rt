@@ -95,6 +95,7 @@ fn fresh(w: &[u32], i: Line, x: u32) -> bool
 }
 
 // The pieces of the process at s, if it begins with this word.
+// Kept: the kind is the word itself. It is only compared with the process's own, so an enum would be made of literals to be turned into them.
 fn spelled(w: &[u32], s: usize, code: u32) -> Option<Pieces>
     requires { Reads process_at w.now s }
     ensures { (s < length w.now) × MatchOption result (code_of (process_in w.now s) ≡ code → ⊥) (λ p. KindAt code w.now s p) }

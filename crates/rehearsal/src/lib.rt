@@ -127,7 +127,8 @@ fn rehearse_accepted(
     requires { Plays book.now × Placed book.now sends.now receives.now ends.now }
     ensures { came result out.new ≡ rehearsal book.now schedule.now out.old }
 {
-    if Limit::MOVES < schedule.len() {
+    let moves = schedule.len();
+    if Limit::MOVES < moves {
         return Err(Refusal::Move(narrow(Limit::MOVES)));
     }
     let q = parties(book);

@@ -11,17 +11,17 @@ names : (c : In_default) → All (λ k. k < parties c.args.book.now) c.args.sche
 names c = named c.args.book.now c.args.schedule.now c.parties-q.ensures (sym c.in_default.ensures)
 
 -- there are more than 4,096 moves
-pub returns-then-schedule-gt-MOVES : goal.returns-then-schedule-gt-MOVES
-returns-then-schedule-gt-MOVES c = long c.args.schedule.now _ c.requires.0 c.narrow.ensures c.if-schedule-gt-MOVES.true
+pub returns-then-moves-gt-MOVES : goal.returns-then-moves-gt-MOVES
+returns-then-moves-gt-MOVES c = long c.args.schedule.now _ c.requires.0 c.narrow.ensures c.if-moves-gt-MOVES.true
 
 pub returns-in-Some : goal.returns-in-Some
 returns-in-Some c =
-    bad c.args.book.now c.args.schedule.now c.parties-q.ensures c.in-Some.bad c.args.out.now c.requires.0 c.if-schedule-gt-MOVES.false
+    bad c.args.book.now c.args.schedule.now c.parties-q.ensures c.in-Some.bad c.args.out.now c.requires.0 c.if-moves-gt-MOVES.false
     c.narrow-in-Some.ensures (sym c.in-Some.ensures)
 
 pub returns-then-out-n : goal.returns-then-out-n
 returns-then-out-n c =
-    short c.args.schedule.now c.args.out.now c.requires.0 c.if-schedule-gt-MOVES.false (names (goal.at.returns-then-out-n c).In_default)
+    short c.args.schedule.now c.args.out.now c.requires.0 c.if-moves-gt-MOVES.false (names (goal.at.returns-then-out-n c).In_default)
     c.parties-q.ensures c.wide-n.ensures.0 c.if-out-n.true
 
 -- the book plays, and its events stand where the lists say
@@ -30,5 +30,5 @@ perform-requires c = (c.requires.0, c.requires.1, names (goal.at.perform-require
 
 pub returns : goal.returns
 returns c =
-    told c.args.schedule.now c.args.out.now c.requires.0 c.if-schedule-gt-MOVES.false (names (goal.at.returns c).In_default)
+    told c.args.schedule.now c.args.out.now c.requires.0 c.if-moves-gt-MOVES.false (names (goal.at.returns c).In_default)
     c.parties-q.ensures c.wide-n.ensures.0 c.if-out-n.false c.perform.ensures

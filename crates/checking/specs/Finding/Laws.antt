@@ -231,6 +231,7 @@ module _ (a w : List ℕ) (z : None ≡ too_large w) (n : ℕ) (is : n ≡ lines
       pub found-another : v ≡ false → verdict a w ≡ Verdict.another
       found-another f = past-lines ∙ pick-false _ _ _ (answers-is ∙ f)
 
+-- ---- what the check finds alone: the verdict, and the scan over the lines
 pub ruleset verdicts = (lines-word, large-refused, found-bad, all_pass, found-no-line, found-safe, found-another)
 
 pub ruleset passing = (passed-none, passed-next, passed-bad, passed-all)

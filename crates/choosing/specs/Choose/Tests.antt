@@ -66,4 +66,5 @@ module _ (w : List ℕ) (a k : ℕ) (d : k ≡ 0 → ⊥) where
   effects-others e h r p =
       ends_found w e _ r p ∙ ap found (sym (first_some k (drop a w) (drop e w) d h.rest)) ∙ sym (reads-found (effects k) w a)
 
+-- ---- what is there, by where it ends
 pub ruleset ending = (reads_end, effects-none, effects-no-first, effects-others)

@@ -3,7 +3,7 @@
 // and `pack_checked` of a derivation. Where a value may not fit 32 bits, the largest number that they hold is told.
 #![tactic(auto)]
 
-ghost use Rattle.std.specs.Prelude.{◌≡◌, min};
+ghost use Rattle.std.specs.Prelude.{◌≡◌, Ok};
 ghost use Rattle.book.specs.Said.{told_says};
 ghost use Rattle.translation.specs.Outcome.{answer_says};
 ghost use Rattle.renaming.specs.Verdict.{verdict_says};
@@ -11,12 +11,19 @@ ghost use Rattle.summary.specs.Reply.{reply_says};
 ghost use Rattle.examining.specs.Checked.{found_says, checked_says};
 ghost use Rattle.packing.specs.Packed.{pack as pack_of, capped as capped_of, Small, Packs};
 
-use book::{Told, told_of};
+use book::{Refusal, Told, told_of};
 use checking::Finding;
-use examining::Checked;
 use renaming::Verdict;
-use summary::Reply;
 use translation::Answer;
+
+// What is told at most.
+#[derive(Drop)]
+struct Most {}
+
+impl Most {
+    // The largest number that 32 bits hold.
+    const VALUE: u64 = 4294967295;
+}
 
 // An answer's number and values in one number.
 fn pack_told(told: Told) -> u64
@@ -34,51 +41,62 @@ pub fn pack(answer: Answer) -> u64
     ensures { result ≡ pack_of (answer_says answer) }
 {
     match answer {
-        Answer::Written(n) => pack_told(Told::One(0, n as u64)),
-        Answer::Refused(refusal) => pack_told(told_of(refusal)),
+        Ok(n) => pack_told(Told::One(0, n as u64)),
+        Err(refusal) => pack_told(told_of(refusal)),
     }
 }
 
-// A value, or the largest that 32 bits hold.
-fn cap(value: u64) -> u64
-    ensures { result ≡ min 4294967295 value }
-{
-    if value < 4294967295 {
-        return value;
-    }
-    4294967295
-}
-
+// What is told, where no value is larger than 32 bits hold.
 fn capped(told: Told) -> Told
     ensures { told_says result ≡ capped_of (told_says told) }
 {
     match told {
-        Told::One(number, first) => Told::One(number, cap(first)),
-        Told::Two(number, first, second) => Told::Two(number, cap(first), cap(second)),
+        Told::One(number, first) => Told::One(number, Most::VALUE.min(first)),
+        Told::Two(number, first, second) => {
+            Told::Two(number, Most::VALUE.min(first), Most::VALUE.min(second))
+        }
     }
 }
 
+// The number and the value of a reply.
+fn told_reply(yes: bool) -> Told
+    ensures { told_says result ≡ reply_says (Ok yes) }
+{
+    if yes {
+        return Told::One(0, 1);
+    }
+    Told::One(0, 0)
+}
+
 // A reply in one number.
-pub fn pack_reply(reply: Reply) -> u64
+pub fn pack_reply(reply: Result<bool, Refusal>) -> u64
     requires { Small (capped_of (reply_says reply)) }
     ensures { result ≡ pack_of (capped_of (reply_says reply)) }
 {
     match reply {
-        Reply::Yes => pack_told(Told::One(0, 1)),
-        Reply::No => pack_told(Told::One(0, 0)),
-        Reply::Refused(refusal) => pack_told(capped(told_of(refusal))),
+        Ok(yes) => pack_told(capped(told_reply(yes))),
+        Err(refusal) => pack_told(capped(told_of(refusal))),
+    }
+}
+
+// The number and the values of a verdict.
+fn told_verdict(verdict: Verdict) -> Told
+    ensures { told_says result ≡ verdict_says (Ok verdict) }
+{
+    match verdict {
+        Verdict::Same => Told::One(0, 1),
+        Verdict::Differs(place) => Told::Two(0, 0, place as u64),
     }
 }
 
 // A verdict in one number.
-pub fn pack_verdict(verdict: Verdict) -> u64
+pub fn pack_verdict(verdict: Result<Verdict, Refusal>) -> u64
     requires { Packs (verdict_says verdict) }
     ensures { result ≡ pack_of (verdict_says verdict) }
 {
     match verdict {
-        Verdict::Same => pack_told(Told::One(0, 1)),
-        Verdict::Differs(place) => pack_told(Told::Two(0, 0, place as u64)),
-        Verdict::Refused(refusal) => pack_told(told_of(refusal)),
+        Ok(verdict) => pack_told(told_verdict(verdict)),
+        Err(refusal) => pack_told(told_of(refusal)),
     }
 }
 
@@ -90,17 +108,16 @@ fn told_finding(finding: Finding) -> Told
         Finding::Safe => Told::One(0, 1),
         Finding::Bad(line) => Told::Two(0, 0, line as u64),
         Finding::Another => Told::One(0, 2),
-        Finding::Refused(count) => Told::One(24, count as u64),
     }
 }
 
 // What is said of a derivation, in one number.
-pub fn pack_checked(checked: Checked) -> u64
+pub fn pack_checked(checked: Result<Finding, Refusal>) -> u64
     requires { Packs (capped_of (checked_says checked)) }
     ensures { result ≡ pack_of (capped_of (checked_says checked)) }
 {
     match checked {
-        Checked::Found(finding) => pack_told(capped(told_finding(finding))),
-        Checked::Refused(refusal) => pack_told(capped(told_of(refusal))),
+        Ok(finding) => pack_told(capped(told_finding(finding))),
+        Err(refusal) => pack_told(capped(told_of(refusal))),
     }
 }

@@ -6,10 +6,10 @@ use Rattle.packing.specs.Packed.{capped as capped_of}
 use Rattle.packing.proofs.capped.Goals as goal
 
 pub returns-in-One : goal.returns-in-One
-returns-in-One c = ap (λ v. said c.in-One.number (v ∷ [])) c.cap.ensures
+returns-in-One c = ap (λ v. said c.in-One.number (v ∷ [])) c.min.ensures
     ∙ sym (ap (λ t. capped_of (told_says t)) c.in-One.is)
 
 pub returns-in-Two : goal.returns-in-Two
-returns-in-Two c = ap₂ (λ v w. said c.in-Two.number (v ∷ w ∷ [])) c.cap-in-Two.ensures
-    c.cap-in-Two-2.ensures
+returns-in-Two c = ap₂ (λ v w. said c.in-Two.number (v ∷ w ∷ [])) c.min-in-Two.ensures
+    c.min-in-Two-2.ensures
     ∙ sym (ap (λ t. capped_of (told_says t)) c.in-Two.is)

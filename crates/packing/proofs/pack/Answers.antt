@@ -8,15 +8,15 @@ use Rattle.packing.proofs.pack.Goals as goal
 
 -- a length
 pub pack_told-requires : goal.pack_told-requires
-pack_told-requires c = small-packs (rw c.in-Written.is at c.requires)
+pack_told-requires c = small-packs (rw c.in-Ok.is at c.requires)
 
 -- a refusal
-pub pack_told-requires-in-Refused : goal.pack_told-requires-in-Refused
-pack_told-requires-in-Refused c = rw c.told_of.ensures (small-packs (rw c.in-Refused.is at c.requires))
+pub pack_told-requires-in-Err : goal.pack_told-requires-in-Err
+pack_told-requires-in-Err c = rw c.told_of.ensures (small-packs (rw c.in-Err.is at c.requires))
 
-pub returns-in-Written : goal.returns-in-Written
-returns-in-Written c = c.pack_told.ensures ∙ sym (ap (λ a. pack_of (answer_says a)) c.in-Written.is)
+pub returns-in-Ok : goal.returns-in-Ok
+returns-in-Ok c = c.pack_told.ensures ∙ sym (ap (λ a. pack_of (answer_says a)) c.in-Ok.is)
 
-pub returns-in-Refused : goal.returns-in-Refused
-returns-in-Refused c = c.pack_told-in-Refused.ensures ∙ ap pack_of c.told_of.ensures
-    ∙ sym (ap (λ a. pack_of (answer_says a)) c.in-Refused.is)
+pub returns-in-Err : goal.returns-in-Err
+returns-in-Err c = c.pack_told-in-Err.ensures ∙ ap pack_of c.told_of.ensures
+    ∙ sym (ap (λ a. pack_of (answer_says a)) c.in-Err.is)

@@ -7,7 +7,3 @@ use Rattle.packing.proofs.told_finding.Goals as goal
 -- a bad line
 pub returns-in-Bad : goal.returns-in-Bad
 returns-in-Bad c = ap found_says (sym c.in-Bad.is)
-
--- a count
-pub returns-in-Refused : goal.returns-in-Refused
-returns-in-Refused c = ap found_says (sym c.in-Refused.is)

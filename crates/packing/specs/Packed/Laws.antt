@@ -3,8 +3,7 @@ use Rattle.std.specs.Prelude.{ℕ, suc, ◌+◌, ◌*◌, ◌/◌, ◌%◌, ◌<
 use Rattle.std.proofs.Common.{⊎_elim, ap, ap₂, ◌∙◌, arith, eq-eqb, ne_eqb}
 use Rattle.words.specs.Choice.Laws.{pick_true, pick-false, or_left, or_right}
 use Rattle.book.specs.Said.{Said, said}
-use Rattle.translation.specs.declared.Answer.{Answer}
-use Rattle.translation.specs.Outcome.{Outcome, answer_says, came}
+use Rattle.translation.specs.Outcome.{Answer, Outcome, answer_says, came}
 use Rattle.packing.specs.Packed.{pack, two_values, unpack, unpack_verdict, capped, Small, Packs, returned, packed, packed_capped}
 
 -- ---- read back

@@ -14,7 +14,6 @@ use judge::judge_listing;
 use octets::{is_uneven, load};
 use relaying::{ask_words, rehearse_words, summarize_words};
 use renaming::Verdict;
-use summary::Reply;
 use translation::Answer;
 use writing::translate_words;
 
@@ -34,7 +33,7 @@ pub fn translate(book: &[u8], out: &mut [u8]) -> Answer
     ensures { came result out.new ≡ translation_bytes book.now out.old }
 {
     if is_uneven(book) {
-        return Answer::Refused(Refusal::Short);
+        return Err(Refusal::Short);
     }
     let mut words = [0u32; Most::WORDS];
     let n = load(book, &mut words);
@@ -46,10 +45,10 @@ pub fn rehearse(book: &[u8], schedule: &[u8], out: &mut [u8]) -> Answer
     ensures { came result out.new ≡ rehearsal_bytes book.now schedule.now out.old }
 {
     if is_uneven(book) {
-        return Answer::Refused(Refusal::Short);
+        return Err(Refusal::Short);
     }
     if is_uneven(schedule) {
-        return Answer::Refused(Refusal::Short);
+        return Err(Refusal::Short);
     }
     let mut words = [0u32; Most::WORDS];
     let n = load(book, &mut words);
@@ -59,11 +58,11 @@ pub fn rehearse(book: &[u8], schedule: &[u8], out: &mut [u8]) -> Answer
 }
 
 // Did the party hold the row after the step, by the bytes of a summary?
-pub fn ask(summary: &[u8], party: u32, row: u32, step: u32) -> Reply
+pub fn ask(summary: &[u8], party: u32, row: u32, step: u32) -> Result<bool, Refusal>
     ensures { reply_says result ≡ asked_bytes summary.now party row step }
 {
     if is_uneven(summary) {
-        return Reply::Refused(Refusal::Short);
+        return Err(Refusal::Short);
     }
     ask_words(summary, party, row, step)
 }
@@ -73,7 +72,7 @@ pub fn summarize(book: &[u8], out: &mut [u8]) -> Answer
     ensures { came result out.new ≡ summary_bytes book.now out.old }
 {
     if is_uneven(book) {
-        return Answer::Refused(Refusal::Short);
+        return Err(Refusal::Short);
     }
     let mut words = [0u32; Most::WORDS];
     let n = load(book, &mut words);
@@ -82,14 +81,14 @@ pub fn summarize(book: &[u8], out: &mut [u8]) -> Answer
 
 // The verdict on another translator's listing of a party, of the bytes of a book and of the listing, which is read where it lies: it may be
 // of any length.
-pub fn judge(book: &[u8], party: u32, listing: &[u8]) -> Verdict
+pub fn judge(book: &[u8], party: u32, listing: &[u8]) -> Result<Verdict, Refusal>
     ensures { verdict_says result ≡ judged_bytes book.now party listing.now }
 {
     if is_uneven(book) {
-        return Verdict::Refused(Refusal::Short);
+        return Err(Refusal::Short);
     }
     if is_uneven(listing) {
-        return Verdict::Refused(Refusal::Short);
+        return Err(Refusal::Short);
     }
     let mut words = [0u32; Most::WORDS];
     let n = load(book, &mut words);

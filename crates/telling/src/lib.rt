@@ -2,7 +2,7 @@
 // slices, as words and as bytes, and has a line; the functions of lines leave exactly its bytes.
 #![tactic(auto)]
 
-ghost use Rattle.std.specs.Prelude.{◌≡◌, ◌≤◌, length, take};
+ghost use Rattle.std.specs.Prelude.{◌≡◌, ◌≤◌, length, take, Ok};
 ghost use Rattle.io.specs.Counts.{IsPrefixLen};
 ghost use Rattle.octets.specs.Octets.{words_in};
 ghost use Rattle.renaming.specs.Verdict.{judged, verdict_says};
@@ -16,10 +16,9 @@ ghost use Rattle.telling.specs.Found.{found_line};
 ghost use Rattle.telling.specs.Judgement.{judgement_line};
 ghost use Rattle.telling.specs.Reply.{reply_line};
 
+use book::Refusal;
 use checking::Finding;
-use examining::Checked;
 use renaming::Verdict;
-use summary::Reply;
 
 // The room that is lent for words.
 #[derive(Drop)]
@@ -45,7 +44,7 @@ fn numbered_line(line: &mut [u8], text: &[u8], number: u64) -> usize
 }
 
 // The reply to a question about the words that the bytes of a summary make.
-pub fn ask_words(summary: &[u8], party: u32, row: u32, step: u32) -> Reply
+pub fn ask_words(summary: &[u8], party: u32, row: u32, step: u32) -> Result<bool, Refusal>
     requires { length summary.now ≤ 65536 }
     ensures { reply_says result ≡ asked (words_in summary.now) party row step }
 {
@@ -54,21 +53,32 @@ pub fn ask_words(summary: &[u8], party: u32, row: u32, step: u32) -> Reply
     summary::ask(&words[..n], party, row, step)
 }
 
+// The line of yes or no: that word.
+fn yes_line(line: &mut [u8], yes: bool) -> usize
+    requires { 71 ≤ length line.old }
+    ensures prefix_len { IsPrefixLen result line.new }
+    ensures line_after { take result line.new ≡ reply_line (reply_says (Ok yes)) }
+{
+    if yes {
+        return line::put_text(line, 0, b"yes\n");
+    }
+    line::put_text(line, 0, b"no\n")
+}
+
 // The line of what is replied to a question: the word "yes" or "no", or its refusal.
-pub fn reply_line(line: &mut [u8], reply: Reply) -> usize
+pub fn reply_line(line: &mut [u8], reply: Result<bool, Refusal>) -> usize
     requires { 71 ≤ length line.old }
     ensures prefix_len { IsPrefixLen result line.new }
     ensures line_after { take result line.new ≡ reply_line (reply_says reply) }
 {
     match reply {
-        Reply::Yes => line::put_text(line, 0, b"yes\n"),
-        Reply::No => line::put_text(line, 0, b"no\n"),
-        Reply::Refused(refusal) => line::refusal_line(line, refusal),
+        Ok(yes) => yes_line(line, yes),
+        Err(refusal) => line::refusal_line(line, refusal),
     }
 }
 
 // The verdict on a listing, of the words that the bytes of the book and those of the listing make.
-pub fn judge_words(book: &[u8], party: u32, listing: &[u8]) -> Verdict
+pub fn judge_words(book: &[u8], party: u32, listing: &[u8]) -> Result<Verdict, Refusal>
     requires { (length book.now ≤ 65536) × (length listing.now ≤ 65536) }
     ensures { verdict_says result ≡ judged (words_in book.now) party (words_in listing.now) }
 {
@@ -79,23 +89,34 @@ pub fn judge_words(book: &[u8], party: u32, listing: &[u8]) -> Verdict
     judge::judge(&words[..n], party, &theirs[..m])
 }
 
-// The line of a verdict on a listing: the word "same", or where it differs, or its refusal.
-pub fn judgement_line(line: &mut [u8], verdict: Verdict) -> usize
+// The line of a verdict on a listing: the word "same", or where it differs.
+fn verdict_line(line: &mut [u8], verdict: Verdict) -> usize
+    requires { 71 ≤ length line.old }
+    ensures prefix_len { IsPrefixLen result line.new }
+    ensures line_after { take result line.new ≡ judgement_line (verdict_says (Ok verdict)) }
+{
+    match verdict {
+        Verdict::Same => line::put_text(line, 0, b"same\n"),
+        Verdict::Differs(place) => numbered_line(line, b"differs ", place as u64),
+    }
+}
+
+// The same, or why there is none.
+pub fn judgement_line(line: &mut [u8], verdict: Result<Verdict, Refusal>) -> usize
     requires { 71 ≤ length line.old }
     ensures prefix_len { IsPrefixLen result line.new }
     ensures line_after { take result line.new ≡ judgement_line (verdict_says verdict) }
 {
     match verdict {
-        Verdict::Same => line::put_text(line, 0, b"same\n"),
-        Verdict::Differs(place) => numbered_line(line, b"differs ", place as u64),
-        Verdict::Refused(refusal) => line::refusal_line(line, refusal),
+        Ok(verdict) => verdict_line(line, verdict),
+        Err(refusal) => line::refusal_line(line, refusal),
     }
 }
 
 // What is found in a derivation of what is asked, of the words that the bytes of both make.
-pub fn check_words(asked: &[u8], derivation: &[u8]) -> Finding
+pub fn check_words(asked: &[u8], derivation: &[u8]) -> Result<Finding, Refusal>
     requires { (length asked.now ≤ 65536) × (length derivation.now ≤ 65536) }
-    ensures { found_says result ≡ verdict_said (verdict (words_in asked.now) (words_in derivation.now)) }
+    ensures { checked_says result ≡ verdict_said (verdict (words_in asked.now) (words_in derivation.now)) }
 {
     let mut a = [0u32; Room::WORDS];
     let m = octets::load(asked, &mut a);
@@ -105,7 +126,7 @@ pub fn check_words(asked: &[u8], derivation: &[u8]) -> Finding
 }
 
 // The same on bytes. The room that is lent is enough for both.
-pub fn check_bytes(asked: &[u8], derivation: &[u8]) -> Checked
+pub fn check_bytes(asked: &[u8], derivation: &[u8]) -> Result<Finding, Refusal>
     requires { (length asked.now ≤ 65536) × (length derivation.now ≤ 65536) }
     ensures { checked_says result ≡ checked_said asked.now derivation.now }
 {
@@ -113,7 +134,7 @@ pub fn check_bytes(asked: &[u8], derivation: &[u8]) -> Checked
     examining::check(asked, derivation, &mut room)
 }
 
-// The line of what is found: the word "safe", or "bad" and the line, or "another", or refusal 24.
+// The line of what is found: the word "safe", or "bad" and the line, or "another".
 pub fn finding_line(line: &mut [u8], finding: Finding) -> usize
     requires { 71 ≤ length line.old }
     ensures prefix_len { IsPrefixLen result line.new }
@@ -123,37 +144,33 @@ pub fn finding_line(line: &mut [u8], finding: Finding) -> usize
         Finding::Safe => line::put_text(line, 0, b"safe\n"),
         Finding::Bad(at) => numbered_line(line, b"bad ", at as u64),
         Finding::Another => line::put_text(line, 0, b"another\n"),
-        Finding::Refused(count) => numbered_line(line, b"refused 24 ", count as u64),
     }
 }
 
-// The same, or why nothing was checked.
-pub fn checked_line(line: &mut [u8], checked: Checked) -> usize
+// The same, or why nothing was found.
+pub fn checked_line(line: &mut [u8], checked: Result<Finding, Refusal>) -> usize
     requires { 71 ≤ length line.old }
     ensures prefix_len { IsPrefixLen result line.new }
     ensures line_after { take result line.new ≡ found_line (checked_says checked) }
 {
     match checked {
-        Checked::Found(finding) => finding_line(line, finding),
-        Checked::Refused(refusal) => line::refusal_line(line, refusal),
+        Ok(finding) => finding_line(line, finding),
+        Err(refusal) => line::refusal_line(line, refusal),
     }
 }
 
 // Whether what is asked keeps its bound names apart, by the words that its bytes make.
-pub fn apart_words(asked: &[u8]) -> Reply
+pub fn apart_words(asked: &[u8]) -> Result<bool, Refusal>
     requires { length asked.now ≤ 65536 }
     ensures { reply_says result ≡ apart_said (keeps_apart (words_in asked.now)) }
 {
     let mut a = [0u32; Room::WORDS];
     let n = octets::load(asked, &mut a);
-    if apart::keeps_apart(&a[..n]) {
-        return Reply::Yes;
-    }
-    Reply::No
+    Ok(apart::keeps_apart(&a[..n]))
 }
 
 // The same on bytes.
-pub fn apart_bytes(asked: &[u8]) -> Reply
+pub fn apart_bytes(asked: &[u8]) -> Result<bool, Refusal>
     requires { length asked.now ≤ 65536 }
     ensures { reply_says result ≡ apart_asked asked.now }
 {

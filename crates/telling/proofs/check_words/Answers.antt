@@ -1,11 +1,11 @@
 -- `telling::check_words` meets its contract: what is checked are all the words that the bytes of both make
 -- (`loaded-words`). Assumes nothing.
 use Prim.Native.Nat.{◌≤◌}
-use mathlib.Core.Path.{refl, sym, ap, ◌∙◌}
+use mathlib.Core.Path.{refl, sym, ◌∙◌}
 use native.Mathlib.Omega.{arith}
 use lib.Seq.{length-take-le}
 use Rattle.octets.specs.Octets.Laws.{loaded-many}
-use Rattle.examining.specs.Checked.{verdict_said}
+use Rattle.examining.specs.Checked.Laws.{finding-said}
 use Rattle.telling.specs.Loaded.{loaded-words, checks-loaded}
 use Rattle.telling.proofs.check_words.Goals as goal
 use Rattle.telling.proofs.check_words.Goals.{After-load-m, After-load-n}
@@ -34,4 +34,4 @@ pub returns : goal.returns
 returns c = let args = c.args in
     let a = loaded-words args.asked.now refl c.load-m.ensures c.requires.0 in
     let b = loaded-words args.derivation.now refl c.load-n.ensures c.requires.1 in
-    ap verdict_said c.check.ensures ∙ checks-loaded args.asked.now args.derivation.now a b
+    finding-said _ _ c.check.ensures ∙ checks-loaded args.asked.now args.derivation.now a b

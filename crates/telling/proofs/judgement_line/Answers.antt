@@ -1,19 +1,13 @@
--- `telling::judgement_line` meets its contract: by the verdict (`line-same`, `line-differs`, `line-unjudged`). Assumes
--- nothing.
-use mathlib.Core.Path.{refl, ◌∙◌}
-use Rattle.telling.specs.Judgement.Laws.{line_same, line-differs, line-unjudged}
+-- `telling::judgement_line` meets its contract: a verdict, or a refusal (`line-unjudged`). Assumes nothing.
+use mathlib.Core.Path.{sym, ap, ◌∙◌}
+use Rattle.renaming.specs.Verdict.{verdict_says}
+use Rattle.telling.specs.Judgement.{judgement_line}
+use Rattle.telling.specs.Judgement.Laws.{line-unjudged}
 use Rattle.telling.proofs.judgement_line.Goals as goal
 
--- the same
-pub returns-in-Same-clause-line_after : goal.returns-in-Same-clause-line_after
-returns-in-Same-clause-line_after c = line_same c.put_text.ensures refl c.in-Same.is
-
--- a place
-pub returns-in-Differs-clause-line_after : goal.returns-in-Differs-clause-line_after
-returns-in-Differs-clause-line_after c =
-    c.numbered_line.ensures.line_after ∙ line-differs c.in-Differs.place refl c.in-Differs.is
+pub returns-in-Ok-clause-line_after : goal.returns-in-Ok-clause-line_after
+returns-in-Ok-clause-line_after c = c.verdict_line.ensures.line_after ∙ ap (λ r. judgement_line (verdict_says r)) (sym c.in-Ok.is)
 
 -- a refusal
-pub returns-in-Refused-clause-line_after : goal.returns-in-Refused-clause-line_after
-returns-in-Refused-clause-line_after c =
-    c.refusal_line.ensures.line_after ∙ line-unjudged c.in-Refused.refusal c.in-Refused.is
+pub returns-in-Err-clause-line_after : goal.returns-in-Err-clause-line_after
+returns-in-Err-clause-line_after c = c.refusal_line.ensures.line_after ∙ line-unjudged c.in-Err.refusal c.in-Err.is

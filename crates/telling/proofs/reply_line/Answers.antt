@@ -1,17 +1,13 @@
--- `telling::reply_line` meets its contract: by the reply (`line-yes`, `line-no`, `line-refusal`). Assumes nothing.
-use mathlib.Core.Path.{refl, ◌∙◌}
-use Rattle.telling.specs.Reply.Laws.{line-yes, line-no, line-refusal}
+-- `telling::reply_line` meets its contract: yes or no, or a refusal (`line-refusal`). Assumes nothing.
+use mathlib.Core.Path.{sym, ap, ◌∙◌}
+use Rattle.summary.specs.Reply.{reply_says}
+use Rattle.telling.specs.Reply.{reply_line}
+use Rattle.telling.specs.Reply.Laws.{line-refusal}
 use Rattle.telling.proofs.reply_line.Goals as goal
 
--- yes
-pub returns-in-Yes-clause-line_after : goal.returns-in-Yes-clause-line_after
-returns-in-Yes-clause-line_after c = line-yes c.put_text.ensures refl c.in-Yes.is
-
--- no
-pub returns-in-No-clause-line_after : goal.returns-in-No-clause-line_after
-returns-in-No-clause-line_after c = line-no c.put_text-in-No.ensures refl c.in-No.is
+pub returns-in-Ok-clause-line_after : goal.returns-in-Ok-clause-line_after
+returns-in-Ok-clause-line_after c = c.yes_line.ensures.line_after ∙ ap (λ r. reply_line (reply_says r)) (sym c.in-Ok.is)
 
 -- a refusal
-pub returns-in-Refused-clause-line_after : goal.returns-in-Refused-clause-line_after
-returns-in-Refused-clause-line_after c =
-    c.refusal_line.ensures.line_after ∙ line-refusal c.in-Refused.refusal c.in-Refused.is
+pub returns-in-Err-clause-line_after : goal.returns-in-Err-clause-line_after
+returns-in-Err-clause-line_after c = c.refusal_line.ensures.line_after ∙ line-refusal c.in-Err.refusal c.in-Err.is

@@ -138,7 +138,7 @@ fn typing_line(line: &mut [u8], function: u32, asked: &[u8], derivation: &[u8]) 
     ensures line_after { take result line.new ≡ typing_line function asked.now derivation.now }
 {
     if function == Function::CHECK {
-        return telling::finding_line(line, telling::check_words(asked, derivation));
+        return telling::checked_line(line, telling::check_words(asked, derivation));
     }
     if function == Function::CHECK_BYTES {
         return telling::checked_line(line, telling::check_bytes(asked, derivation));

@@ -149,7 +149,9 @@ fn read_next<R: Read, E: Write>(reader: &mut R, errors: &mut E) -> Option<u32>
     ensures numbered { Numbered result (R.remaining reader.old) (R.remaining reader.new) }
 {
     let mut head = [0u8; 4];
-    let n = input::fill(reader, errors, b"standard input", &mut head).ok()?;
+    let Ok(n) = input::fill(reader, errors, b"standard input", &mut head) else {
+        return None;
+    };
     if n == 0 {
         return None;
     }

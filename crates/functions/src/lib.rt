@@ -1,35 +1,15 @@
-// What a request's number says: which function it is, whose slices are of bytes, which function asks a question and which judges a listing,
-// how many slices and numbers follow, and how many bytes a slice has. The numbers are those of docs/CALLS.md; each function here but
-// `Function::try_from` has an answer for any number.
+// What a request's number says: whose slices are of bytes, which function asks a question and which judges a listing, how many slices and
+// numbers follow, and how many bytes a slice has. The numbers are those of docs/CALLS.md.
 #![tactic(auto)]
 
 ghost use Rattle.std.specs.Prelude.{◌≡◌, ◌^◌, ◌≤◌, ◌<◌};
 ghost use Rattle.octets.specs.Octets.{word_at};
 ghost use Rattle.functions.specs.Functions.{on_bytes, asks, judges, slices_of, numbers_of, slice_size};
-ghost use Rattle.functions.specs.Numbers.{number_of, Numbers};
 
-// The functions, in the order of their numbers.
-#[derive(Clone, Copy, Debug, PartialEq, Eq)]
-pub enum Function {
-    Read,
-    Accept,
-    Translate,
-    Rehearse,
-    TranslateBytes,
-    RehearseBytes,
-    WriteSummary,
-    Ask,
-    SummaryBytes,
-    AskBytes,
-    Judge,
-    JudgeBytes,
-    Check,
-    CheckBytes,
-    Apart,
-    ApartBytes,
-}
+// The functions' numbers. Each stays its function's own.
+#[derive(Drop)]
+pub struct Function {}
 
-// Their numbers. Each stays its function's own.
 impl Function {
     pub const READ: u32 = 1;
 
@@ -64,64 +44,6 @@ impl Function {
     pub const APART_BYTES: u32 = 16;
 }
 
-// A number that is no function's.
-#[derive(Clone, Copy, Debug, PartialEq, Eq)]
-pub struct Unknown(pub u32);
-
-impl TryFrom<u32> for Function {
-    type Error = Unknown;
-
-    ghost try_from_gives = { Numbers };
-
-    fn try_from(number: u32) -> Result<Self, Unknown> {
-        match number {
-            Function::READ => Ok(Function::Read),
-            Function::ACCEPT => Ok(Function::Accept),
-            Function::TRANSLATE => Ok(Function::Translate),
-            Function::REHEARSE => Ok(Function::Rehearse),
-            Function::TRANSLATE_BYTES => Ok(Function::TranslateBytes),
-            Function::REHEARSE_BYTES => Ok(Function::RehearseBytes),
-            Function::WRITE_SUMMARY => Ok(Function::WriteSummary),
-            Function::ASK => Ok(Function::Ask),
-            Function::SUMMARY_BYTES => Ok(Function::SummaryBytes),
-            Function::ASK_BYTES => Ok(Function::AskBytes),
-            Function::JUDGE => Ok(Function::Judge),
-            Function::JUDGE_BYTES => Ok(Function::JudgeBytes),
-            Function::CHECK => Ok(Function::Check),
-            Function::CHECK_BYTES => Ok(Function::CheckBytes),
-            Function::APART => Ok(Function::Apart),
-            Function::APART_BYTES => Ok(Function::ApartBytes),
-            _ => Err(Unknown(number)),
-        }
-    }
-}
-
-impl Function {
-    // The function's number.
-    pub fn number(self) -> u32
-        ensures { result ≡ number_of self }
-    {
-        match self {
-            Function::Read => Function::READ,
-            Function::Accept => Function::ACCEPT,
-            Function::Translate => Function::TRANSLATE,
-            Function::Rehearse => Function::REHEARSE,
-            Function::TranslateBytes => Function::TRANSLATE_BYTES,
-            Function::RehearseBytes => Function::REHEARSE_BYTES,
-            Function::WriteSummary => Function::WRITE_SUMMARY,
-            Function::Ask => Function::ASK,
-            Function::SummaryBytes => Function::SUMMARY_BYTES,
-            Function::AskBytes => Function::ASK_BYTES,
-            Function::Judge => Function::JUDGE,
-            Function::JudgeBytes => Function::JUDGE_BYTES,
-            Function::Check => Function::CHECK,
-            Function::CheckBytes => Function::CHECK_BYTES,
-            Function::Apart => Function::APART,
-            Function::ApartBytes => Function::APART_BYTES,
-        }
-    }
-}
-
 // What is read at most.
 #[derive(Drop)]
 struct Most {}
@@ -130,8 +52,6 @@ impl Most {
     // Behind the summary of a question: a party, a row and a step.
     const NUMBERS: usize = 3;
 }
-
-// Kept: the six that follow take a number, as docs/PROMISES.md has them, for they answer for any, also for one that is no function's.
 
 // The function's slices are of bytes.
 pub fn on_bytes(function: u32) -> bool

@@ -1,9 +1,10 @@
 -- What `run` knows in its loop. Assumes nothing.
-use Rattle.std.specs.Prelude.{ℕ, suc, ◌+◌, ◌-◌, ◌<◌, ◌≤◌, ◌≡◌, Bool, true, false, ◌&&◌, Option, None, Some, IfSome, List, [], ◌++◌, length}
+use Rattle.std.specs.Prelude.{ℕ, suc, ◌+◌, ◌-◌, ◌<◌, ◌≤◌, ◌≡◌, Bool, true, false, ◌&&◌, Option, None, Some, IfSome, Result, Ok, Err, is_ok, List, [], ◌++◌, length}
 use Rattle.std.proofs.Common.{arith, sym, ap, ap₂, ◌∙◌, subst, append-nil, append_assoc}
 use Rattle.std.proofs.KnownBytes.{Appends-trans}
 use Rattle.std.specs.Io.KnownBytes.{Appends, Consumes}
 use Rattle.book.specs.Layout.{loaded_bytes}
+use Rattle.input.specs.declared.Failed.{Failed}
 use Rattle.line.specs.Line.{Printed}
 use Rattle.shelf.specs.Lines.{bytes_lines}
 use Rattle.shelf.specs.Shelf.{has_book, shelf_lines, Counted, Ran}
@@ -18,15 +19,15 @@ Going true k (Some bs) (Some rest) old out =
     (done : List ℕ) × Appends old out done × (shelf_lines 65536 bs ≡ done ++ shelf_lines (65536 - k) rest)
 
 -- a book more
-pub going-more : (all printed : Bool) (k : ℕ) (left rest new old out next : Option (List ℕ)) (head book line : List ℕ) → k < 65536
+pub going-more : (all : Bool) (printed : Result (Unit {0}) Failed) (k : ℕ) (left rest new old out next : Option (List ℕ)) (head book line : List ℕ) → k < 65536
     → Going all k left rest old out → Counted head book → length book ≤ loaded_bytes → Consumes rest new (head ++ book)
-    → line ≡ bytes_lines book → Printed printed out next line → Going (all && printed) (k + 1) left new old next
+    → line ≡ bytes_lines book → Printed printed out next line → Going (all && is_ok printed) (k + 1) left new old next
 going-more false printed k left rest new old out next head book line h going counted most came e p = tt
-going-more true false k left rest new old out next head book line h going counted most came e p = tt
-going-more true true k None rest new old out next head book line h going counted most came e p = tt
-going-more true true k (Some bs) None new old out next head book line h going counted most came e p = absurd going
-going-more true true k (Some bs) (Some rest) None old out next head book line h going counted most came e p = absurd came
-going-more true true k (Some bs) (Some rest) (Some new) old out next head book line h going counted most came e p =
+going-more true (Err f) k left rest new old out next head book line h going counted most came e p = tt
+going-more true (Ok u) k None rest new old out next head book line h going counted most came e p = tt
+going-more true (Ok u) k (Some bs) None new old out next head book line h going counted most came e p = absurd going
+going-more true (Ok u) k (Some bs) (Some rest) None old out next head book line h going counted most came e p = absurd came
+going-more true (Ok u) k (Some bs) (Some rest) (Some new) old out next head book line h going counted most came e p =
     let less : 65536 - k ≡ suc (65536 - (k + 1)) = omega arith in
     let front : rest ≡ head ++ (book ++ new) = came ∙ append_assoc head book new in
     let lines : shelf_lines (65536 - k) rest ≡ line ++ shelf_lines (65536 - (k + 1)) new =

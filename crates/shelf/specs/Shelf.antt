@@ -1,12 +1,11 @@
 -- What the program prints of all that it reads: of each book its lines, as long as whole books stand there. Assumes nothing.
-use Rattle.std.specs.Prelude.{ℕ, zero, suc, ◌+◌, ◌*◌, ◌<◌, ◌≡◌, Bool, true, false, ◌&&◌, Option, IfSome, List, [], ◌++◌, length, take, drop, nat_le}
+use Rattle.std.specs.Prelude.{ℕ, zero, suc, ◌+◌, ◌*◌, ◌<◌, ◌≡◌, Bool, true, false, ◌&&◌, Option, Some, None, Ok, Err, IfSome, List, [], ◌++◌, length, take, drop, nat_le}
 use Rattle.std.specs.Io.KnownBytes.{Appends, Consumes}
 use Rattle.words.specs.Choice.{pick}
 use Rattle.octets.specs.Octets.{word_at}
 use Rattle.book.specs.Layout.{loaded_bytes}
 use Rattle.shelf.specs.Lines.{bytes_lines}
-use Rattle.shelf.specs.declared.Next.{Next}
-use Rattle.shelf.specs.declared.Next.TheVariants.{Book, Nothing, Failed}
+use Rattle.shelf.specs.Next.{Next}
 pub mod Laws
 
 -- the bytes of a book behind its count of words, which is the word of the first four bytes
@@ -31,9 +30,9 @@ shelf_lines (suc n) bs = pick (has_book bs) (bytes_lines (book_in bs) ++ shelf_l
 
 -- the bytes that were asked for came, or the reader had fewer
 abbrev pub Filled : Next → Option (List ℕ) → Option (List ℕ) → List ℕ → Type 0
-Filled (Book n) left rest bytes = (n ≡ length bytes) × Consumes left rest bytes
-Filled Nothing left rest bytes = IfSome left (λ bs. length bs < length bytes)
-Filled Failed left rest bytes = Unit {0}
+Filled (Ok (Some n)) left rest bytes = (n ≡ length bytes) × Consumes left rest bytes
+Filled (Ok None) left rest bytes = IfSome left (λ bs. length bs < length bytes)
+Filled (Err f) left rest bytes = Unit {0}
 
 -- a book and its count
 pub record Counted (head book : List ℕ) : Type 0 where
@@ -42,9 +41,9 @@ pub record Counted (head book : List ℕ) : Type 0 where
 
 -- a book came, behind its count, or none stands there
 abbrev pub Found : Next → Option (List ℕ) → Option (List ℕ) → List ℕ → Type 0
-Found (Book n) left rest bytes = (head : List ℕ) × Counted head (take n bytes) × Consumes left rest (head ++ take n bytes)
-Found Nothing left rest bytes = IfSome left (λ bs. has_book bs ≡ false)
-Found Failed left rest bytes = Unit {0}
+Found (Ok (Some n)) left rest bytes = (head : List ℕ) × Counted head (take n bytes) × Consumes left rest (head ++ take n bytes)
+Found (Ok None) left rest bytes = IfSome left (λ bs. has_book bs ≡ false)
+Found (Err f) left rest bytes = Unit {0}
 
 -- where no read and no write failed, the lines of all books were printed, of no more than 65,536
 abbrev pub Ran : Bool → Option (List ℕ) → Option (List ℕ) → Option (List ℕ) → Type 0

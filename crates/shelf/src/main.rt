@@ -3,7 +3,7 @@
 // the lines' bytes, for any bytes that were read of a book; `run` prints these of each book that its reader has.
 #![tactic(auto)]
 
-ghost use Rattle.std.specs.Prelude.{◌≡◌, ◌+◌, ◌*◌, ◌^◌, ◌≤◌, ◌<◌, length, take};
+ghost use Rattle.std.specs.Prelude.{◌≡◌, ◌+◌, ◌*◌, ◌^◌, ◌≤◌, ◌<◌, length, take, Ok, None};
 ghost use Rattle.io.specs.Counts.{IsPrefixLen};
 ghost use Rattle.words.specs.Run.{values};
 ghost use Rattle.octets.specs.Octets.{word_at, words_in};
@@ -13,10 +13,9 @@ ghost use Rattle.shelf.specs.Lines.{translated_line, rehearsed_line, played_line
 ghost use Rattle.shelf.specs.Next.{Fits};
 ghost use Rattle.shelf.specs.Shelf.{Filled, Found, Ran};
 ghost use Rattle.shelf.specs.Turns.{turn, seats};
-ghost use Rattle.shelf.specs.declared.Next.TheVariants.{Nothing};
 
 use book::{Layout, Limit};
-use input::Input;
+use input::Failed;
 use std::io::{Read, Write};
 
 // What is read, lent, played and printed at most.
@@ -46,22 +45,15 @@ impl Most {
     const BOOKS: usize = 65536;
 }
 
-// What came next: a book of so many bytes, or nothing more, and where that is no proper end, it was
-// told. Or reading failed, which was told too.
-#[derive(Drop)]
-enum Next {
-    Book(usize),
-    Nothing,
-    Failed,
-}
+// What came next: a book of so many bytes, or nothing more, and where that is no proper end, it was told. Or reading failed.
+type Next = Result<Option<usize>, Failed>;
 
 // Says on standard error why there is nothing more.
 fn stop<E: Write>(errors: &mut E, why: &[u8]) -> Next
-    ensures fits { Fits result }
-    ensures nothing { result ≡ Nothing }
+    ensures { result ≡ Ok None }
 {
     let _ = errors.write_all(why);
-    Next::Nothing
+    Ok(None)
 }
 
 // Reads bytes until those that are lent for them are full.
@@ -70,16 +62,11 @@ fn read_bytes<R: Read, E: Write>(reader: &mut R, errors: &mut E, bytes: &mut [u8
     ensures fits { Fits result }
     ensures filled { Filled result (R.remaining reader.old) (R.remaining reader.new) bytes.new }
 {
-    let input = input::fill(reader, errors, b"standard input", bytes);
-    match input {
-        Input::Bytes(n) => {
-            if n < bytes.len() {
-                return stop(errors, b"standard input ends inside a book\n");
-            }
-            Next::Book(n)
-        }
-        Input::Failed => Next::Failed,
+    let n = input::fill(reader, errors, b"standard input", bytes)?;
+    if n < bytes.len() {
+        return stop(errors, b"standard input ends inside a book\n");
     }
+    Ok(Some(n))
 }
 
 // How many bytes a book takes: four for each of its words, whose count is the word that the first four bytes make.
@@ -96,24 +83,19 @@ fn read_book<R: Read, E: Write>(reader: &mut R, errors: &mut E, bytes: &mut [u8]
     ensures found { Found result (R.remaining reader.old) (R.remaining reader.new) bytes.new }
 {
     let mut head = [0u8; 4];
-    let input = input::fill(reader, errors, b"standard input", &mut head);
-    match input {
-        Input::Bytes(n) => {
-            if n == 0 {
-                return Next::Nothing;
-            }
-            if n < 4 {
-                return stop(errors, b"standard input ends inside a book\n");
-            }
-            let size = size_of(&head);
-            let most = Most::BYTES;
-            if most < size {
-                return stop(errors, b"a book has more words than are read\n");
-            }
-            read_bytes(reader, errors, &mut bytes[0..size])
-        }
-        Input::Failed => Next::Failed,
+    let n = input::fill(reader, errors, b"standard input", &mut head)?;
+    if n == 0 {
+        return Ok(None);
     }
+    if n < 4 {
+        return stop(errors, b"standard input ends inside a book\n");
+    }
+    let size = size_of(&head);
+    let most = Most::BYTES;
+    if most < size {
+        return stop(errors, b"a book has more words than are read\n");
+    }
+    read_bytes(reader, errors, &mut bytes[0..size])
 }
 
 // How many parties the schedules are for: as many as a book may have, or one.
@@ -152,10 +134,8 @@ fn fill_turns(out: &mut [u32], parties: u32, times: usize, back: bool)
     requires { (0 < parties) × (0 < times) }
     ensures { out.new ≡ values (turn parties times back) 0 (length out.old) }
 {
-    let mut i = 0;
-    while i < out.len() {
-        out[i] = turn_of(i, parties, times, back);
-        i += 1;
+    for (i, party) in out.iter_mut().enumerate() {
+        *party = turn_of(i, parties, times, back);
     }
 }
 
@@ -292,17 +272,15 @@ fn run<R: Read, W: Write, E: Write>(reader: &mut R, out: &mut W, errors: &mut E)
     let mut bytes = [0u8; Most::BYTES];
     let mut lines = [0u8; Most::LINES];
     let mut all = true;
-    let mut books = 0;
-    while books < Most::BOOKS {
+    for books in 0..Most::BOOKS {
         match read_book(reader, errors, &mut bytes) {
-            Next::Book(n) => {
+            Ok(Some(n)) => {
                 let end = lines_of(&bytes[..n], &mut lines);
-                all &= line::print(out, errors, &lines[..end]);
+                all &= line::print(out, errors, &lines[..end]).is_ok();
             }
-            Next::Nothing => return all,
-            Next::Failed => return false,
+            Ok(None) => return all,
+            Err(Failed) => return false,
         }
-        books += 1;
     }
     let _ = errors.write_all(b"no more than 65536 books are tried\n");
     all

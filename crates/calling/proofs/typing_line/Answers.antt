@@ -9,13 +9,13 @@ use Rattle.calling.proofs.typing_line.Goals as goal
 pub returns-then-function-eq-CHECK-clause-line_after : goal.returns-then-function-eq-CHECK-clause-line_after
 returns-then-function-eq-CHECK-clause-line_after c = let args = c.args in
     let checks = calls-check args.function args.asked.now args.derivation.now in
-    c.finding_line.ensures.line_after ∙ checks (omega arith) c.check_words.ensures
+    c.checked_line.ensures.line_after ∙ checks (omega arith) c.check_words.ensures
 
 -- and on bytes
 pub returns-then-function-eq-CHECK_BYTES-clause-line_after : goal.returns-then-function-eq-CHECK_BYTES-clause-line_after
 returns-then-function-eq-CHECK_BYTES-clause-line_after c = let args = c.args in
     let checks = calls-check-bytes args.function args.asked.now args.derivation.now in
-    c.checked_line.ensures.line_after ∙ checks (omega arith) c.check_bytes.ensures
+    c.checked_line-then-function-eq-CHECK_BYTES.ensures.line_after ∙ checks (omega arith) c.check_bytes.ensures
 
 -- bound names, on words
 pub returns-then-function-eq-APART-clause-line_after : goal.returns-then-function-eq-APART-clause-line_after

@@ -1,6 +1,6 @@
 -- Laws of a call: the function that has the number is picked, and called with its slices and numbers; what it writes has room. Assumes
 -- nothing.
-use Rattle.std.specs.Prelude.{ℕ, ◌/◌, ◌≤◌, ◌<◌, Bool, true, false, List, ◌≡◌, length, get_or, take}
+use Rattle.std.specs.Prelude.{ℕ, ◌/◌, ◌≤◌, ◌<◌, Bool, true, false, List, ◌≡◌, length, get_or, take, Ok, Err}
 use Rattle.std.proofs.Math.Bool.{not}
 use Rattle.std.proofs.Math.Path.{refl, sym, ap}
 use Rattle.std.proofs.Common.{◌∙◌, ap₂, length-take, lt-ltb, le-ltb}
@@ -11,9 +11,7 @@ use Rattle.octets.specs.Octets.{words_in, uneven}
 use Rattle.octets.specs.Octets.Laws.{words-length}
 use Rattle.book.specs.Said.{Said}
 use Rattle.book.specs.Refusals.{verdict}
-use Rattle.translation.specs.Outcome.{Outcome, acceptance, outcome, came}
-use Rattle.translation.specs.declared.Answer.{Answer}
-use Rattle.translation.specs.declared.Answer.TheVariants.{Written, Refused}
+use Rattle.translation.specs.Outcome.{Answer, Outcome, acceptance, outcome, came}
 use Rattle.playing.specs.Rehearsal.{rehearsal}
 use Rattle.renaming.specs.Verdict.{judged}
 use Rattle.summary.specs.Summary.{summarized, asked}
@@ -196,17 +194,17 @@ front-few n l h = let e = length-take n l in omega arith
 pub inside-summarized : (a : Answer) (b lent new : List ℕ) {room : ℕ} → came a new ≡ summarized b lent → length lent ≤ room
     → Inside a room
 unfolding summarized
-inside-summarized (Written n) b lent new e h =
+inside-summarized (Ok n) b lent new e h =
     let says = ap (λ (o : Outcome). o.says) e in
     let fits = (exactly-summarized b lent).0 (sym (ap (λ (s : Said). s.number) says)) in
     let long = ap (λ (s : Said). get_or s.values 0 0) (says ∙ summarized-says b lent fits.0 fits.1) in
     omega (arith, fits.1)
-inside-summarized (Refused f) b lent new e h = tt
+inside-summarized (Err f) b lent new e h = tt
 
 -- what a function on bytes writes lies in the lent bytes
 inside-odd : (a : Answer) (lent new : List ℕ) (room : ℕ) → came a new ≡ odd lent → Inside a room
-inside-odd (Written n) lent new room e = let number = ap (λ (o : Outcome). o.says.number) e in absurd (omega arith)
-inside-odd (Refused r) lent new room e = tt
+inside-odd (Ok n) lent new room e = let number = ap (λ (o : Outcome). o.says.number) e in absurd (omega arith)
+inside-odd (Err r) lent new room e = tt
 
 -- as on words
 same-words : (a : Answer) (new : List ℕ) {w o : Outcome} (lent : List ℕ) → came a new ≡ o → AsWords w lent o → came a (words_in new) ≡ w

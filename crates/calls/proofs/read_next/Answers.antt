@@ -7,5 +7,5 @@ use Rattle.calls.proofs.read_next.Goals as goal
 pub returns-clause-numbered : goal.returns-clause-numbered
 unfolding word_at
 returns-clause-numbered g c =
-    let came = came-all _ _ _ c.in-Bytes.ensures.came (omega arith) in
-    (c.fill-input.new.bytes, search rules, sym c.word-function.ensures, came)
+    let came = came-all _ _ _ c.in-Ok.ensures.came (omega arith) in
+    (c.fill.new.bytes, search rules, sym c.word-function.ensures, came)

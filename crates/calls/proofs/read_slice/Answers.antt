@@ -11,5 +11,5 @@ returns-clause-came g c =
     let filled = c.read_all-2.new.bytes in (
       _,
       slice_behind c.args.function c.slice_size-size.result head filled _ c.slice_size-size.ensures.0 (search rules) (search rules),
-      Consumes-trans _ _ _ head filled c.if-not-read_all.ensures c.if-not-read_all-2.ensures,
+      Consumes-trans _ _ _ head filled c.in_ok-read_all.ensures c.in_ok-read_all-2.ensures,
     )

@@ -1,6 +1,6 @@
 -- Laws of a shelf that is read: a book that came behind its count is the book that stands there, and its lines go in front of the
 -- others'. Assumes nothing.
-use Rattle.std.specs.Prelude.{ℕ, zero, suc, ◌+◌, ◌*◌, ◌<◌, ◌≤◌, ◌≡◌, refl, true, false, Option, None, Some, IfSome, List, [], ◌++◌, length, take, drop, get_or}
+use Rattle.std.specs.Prelude.{ℕ, zero, suc, ◌+◌, ◌*◌, ◌<◌, ◌≤◌, ◌≡◌, refl, true, false, Option, None, Some, IfSome, Ok, Err, List, [], ◌++◌, length, take, drop, get_or}
 use Rattle.std.proofs.Common.{arith, sym, ap, ap₂, ◌∙◌, subst, length-append}
 use Rattle.std.proofs.lemmas.Bool.{le-leb, lt-leb}
 use Rattle.std.proofs.KnownBytes.{Consumes-trans}
@@ -12,8 +12,7 @@ use Rattle.octets.specs.Octets.{word_at}
 use Rattle.book.specs.Layout.{loaded_bytes}
 use Rattle.shelf.specs.Lines.{bytes_lines}
 use Rattle.shelf.specs.Shelf.{size_in, has_book, book_in, behind_book, shelf_lines, Filled, Counted, Found}
-use Rattle.shelf.specs.declared.Next.{Next}
-use Rattle.shelf.specs.declared.Next.TheVariants.{Book, Nothing, Failed}
+use Rattle.shelf.specs.Next.{Next}
 
 -- ---- the first word is that of the first four bytes
 word_front : (head rest : List ℕ) → length head ≡ 4 → word_at (head ++ rest) 0 ≡ word_at head 0
@@ -56,7 +55,7 @@ none_short head rest e most short =
     (omega (arith, size_front head rest e, length-append head rest))
 
 -- ---- Found
-pub found_none : (next : Next) (left rest : Option (List ℕ)) (bytes : List ℕ) → next ≡ Nothing → IfSome left (λ bs. has_book bs ≡ false)
+pub found_none : (next : Next) (left rest : Option (List ℕ)) (bytes : List ℕ) → next ≡ Ok None → IfSome left (λ bs. has_book bs ≡ false)
     → Found next left rest bytes
 found_none next left rest bytes e none = subst (λ n. Found n left rest bytes) (sym e) none
 
@@ -75,18 +74,18 @@ found_above (Some bs) (Some rest) head came e most = subst (λ l. has_book l ≡
 -- the bytes behind the count were asked for
 pub found_filled : (next : Next) (left mid rest : Option (List ℕ)) (head bytes behind : List ℕ) → Consumes left mid head → length head ≡ 4
     → length bytes ≡ size_in head → size_in head ≤ loaded_bytes → Filled next mid rest bytes → Found next left rest (bytes ++ behind)
-found_filled (Book n) left mid rest head bytes behind came e size most filled =
+found_filled (Ok (Some n)) left mid rest head bytes behind came e size most filled =
     let all : bytes ≡ take n (bytes ++ behind) = sym (ap (λ m. take m (bytes ++ behind)) filled.0 ∙ take-append_seam bytes behind) in
     let counted : Counted head bytes = record { four = e; size = size } in (
       head,
       subst (Counted head) all counted,
       subst (λ l. Consumes left rest (head ++ l)) all (Consumes-trans left mid rest head bytes came filled.1),
     )
-found_filled Nothing None mid rest head bytes behind came e size most filled = tt
-found_filled Nothing (Some bs) None rest head bytes behind came e size most filled = absurd came
-found_filled Nothing (Some bs) (Some mid) rest head bytes behind came e size most filled =
+found_filled (Ok None) None mid rest head bytes behind came e size most filled = tt
+found_filled (Ok None) (Some bs) None rest head bytes behind came e size most filled = absurd came
+found_filled (Ok None) (Some bs) (Some mid) rest head bytes behind came e size most filled =
     subst (λ l. has_book l ≡ false) (sym came) (none_short head mid e most (omega arith))
-found_filled Failed left mid rest head bytes behind came e size most filled = tt
+found_filled (Err f) left mid rest head bytes behind came e size most filled = tt
 
 -- ---- a book that came
 module _ (head book rest : List ℕ) (counted : Counted head book) where

@@ -32,16 +32,18 @@ const APART: &CStr = c"apart::keeps_apart";
 const CHECK_BYTES: &CStr = c"nghiralum_check";
 const APART_BYTES: &CStr = c"nghiralum_apart";
 
-/// Rattle's `Answer`: case 0 with a length, or 1 with a refusal. And two that are as large: its `Reply`, case 0 for yes, 1
-/// for no, 2 with a refusal; and its `Verdict`, case 0 for the same, 1 with a place, 2 with a refusal.
+/// Rattle's `Result` with a refusal: case 0 with what is answered, or 1 with the refusal. A `bool` stands in the byte behind the
+/// case, all else where its own size lets it stand.
 #[repr(C)]
 #[derive(Default)]
 struct Answer {
     case: u8,
+    flag: u8,
     value: Value,
 }
 
-/// A length, or a refusal: its case in the first byte, then its values, each where its own size lets it stand.
+/// A length; or a refusal, a verdict on a listing or a finding: its case in the first byte, then its values, each where its own
+/// size lets it stand.
 #[repr(C, align(8))]
 #[derive(Default, Clone, Copy)]
 struct Value {
@@ -62,7 +64,7 @@ impl Value {
 
 impl Value {
     /// The refusal as the host gives it. Rattle's `Refusal` has a case for each number, in the order in which they came
-    /// up: 1 to 12, 20, 21, 13, 22. Which values a case has, this can only take from its number. A new refusal, or a case with
+    /// up: 1 to 12, 20, 21, 13, 22, 24. Which values a case has, this can only take from its number. A new refusal, or a case with
     /// other values, needs a line here. All bytes were set before the call, so whatever case comes back, what is read here
     /// was written.
     fn refusal(self) -> Refusal {
@@ -71,6 +73,7 @@ impl Value {
             case @ 12..14 => u32::from(case) + 8,
             14 => 13,
             15 => 22,
+            16 => 24,
             _ => NO_REFUSAL,
         };
         let place = match number {
@@ -98,40 +101,31 @@ impl Answer {
     /// The reply to a question, as the host gives it.
     fn reply(&self) -> Result<bool, Refusal> {
         match self.case {
-            0 => Ok(true),
-            1 => Ok(false),
+            0 => Ok(self.flag != 0),
             _ => Err(self.value.refusal()),
         }
     }
 
-    /// The verdict on a listing, as the host gives it.
+    /// The verdict on a listing, as the host gives it: case 0 for the same, 1 with a place.
     fn verdict(&self) -> Result<Verdict, Refusal> {
-        match self.case {
-            0 => Ok(Verdict::Same),
-            1 => Ok(Verdict::Differs(self.value.length(0))),
+        match (self.case, self.value.bytes[0]) {
+            (0, 0) => Ok(Verdict::Same),
+            (0, _) => Ok(Verdict::Differs(self.value.length(8))),
             _ => Err(self.value.refusal()),
         }
     }
-}
 
-/// Rattle's `Finding`, the verdict on a derivation: case 0 for safe, 1 with a line, 2 for another, 3 with the count of
-/// refusal 24; each value where its own size lets it stand.
-#[repr(C)]
-#[derive(Default)]
-struct Finding {
-    case: u8,
-    count: u32,
-    line: usize,
-}
-
-impl Finding {
-    /// The verdict as the host gives it.
-    fn read(&self) -> types::Verdict {
-        match self.case {
-            0 => types::Verdict::Safe,
-            1 => types::Verdict::Bad(u32::try_from(self.line).unwrap_or(u32::MAX)),
-            2 => types::Verdict::Another,
-            _ => types::Verdict::Refused(self.count),
+    /// The verdict on a derivation, as the host gives it: case 0 for safe, 1 with a line, 2 for another. Its one refusal is 24, and any
+    /// other is given as no count that a derivation has.
+    fn finding(&self) -> types::Verdict {
+        match (self.case, self.value.bytes[0]) {
+            (0, 0) => types::Verdict::Safe,
+            (0, 1) => types::Verdict::Bad(u32::try_from(self.value.length(8)).unwrap_or(u32::MAX)),
+            (0, _) => types::Verdict::Another,
+            _ => match self.value.refusal() {
+                Refusal { number: 24, place } => types::Verdict::Refused(place[0]),
+                _ => types::Verdict::Refused(0),
+            },
         }
     }
 }
@@ -184,7 +178,7 @@ type Ask = unsafe extern "C" fn(*mut Answer, *const u32, usize, u32, u32, u32);
 type AskBytes = unsafe extern "C" fn(*const u8, usize, u32, u32, u32) -> u64;
 type Judge = unsafe extern "C" fn(*mut Answer, *const u32, usize, u32, *const u32, usize);
 type JudgeBytes = unsafe extern "C" fn(*const u8, usize, u32, *const u8, usize) -> u64;
-type Check = unsafe extern "C" fn(*mut Finding, *const u32, usize, *const u32, usize);
+type Check = unsafe extern "C" fn(*mut Answer, *const u32, usize, *const u32, usize);
 type Apart = unsafe extern "C" fn(*const u32, usize) -> bool;
 type CheckBytes = unsafe extern "C" fn(*const u8, usize, *const u8, usize, *mut u32, usize) -> u64;
 type ApartBytes = unsafe extern "C" fn(*const u8, usize, *mut u32, usize) -> u64;
@@ -385,18 +379,18 @@ impl Library {
     /// The proved `checking::check`, which the library must have.
     pub fn check(&self, asked: &[u32], derivation: &[u32]) -> types::Verdict {
         let check = self.check.expect("the library has `check`");
-        let mut finding = Finding::default();
-        // SAFETY: the slices are what they say, and the finding is as large as Rattle's.
+        let mut answer = Answer::default();
+        // SAFETY: the slices are what they say, and the answer is as large as Rattle's.
         unsafe {
             check(
-                &mut finding,
+                &mut answer,
                 asked.as_ptr(),
                 asked.len(),
                 derivation.as_ptr(),
                 derivation.len(),
             )
         };
-        finding.read()
+        answer.finding()
     }
 
     /// The proved `apart::keeps_apart`, which the library must have.

@@ -118,6 +118,6 @@ pub fn pack_checked(checked: Result<Finding, Refusal>) -> u64
 {
     match checked {
         Ok(finding) => pack_told(capped(told_finding(finding))),
-        Err(refusal) => pack_told(capped(told_of(refusal))),
+        Err(why) => pack_told(capped(told_of(why))),
     }
 }

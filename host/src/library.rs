@@ -454,9 +454,13 @@ fn opened(path: &Path) -> Result<*mut c_void, String> {
 mod tests {
     use super::*;
 
-    fn answer(case: u8, bytes: [u8; 16]) -> Result<usize, Refusal> {
+    fn answered(case: u8, flag: u8, bytes: [u8; 16]) -> Answer {
         let value = Value { bytes };
-        Answer { case, value }.read()
+        Answer { case, flag, value }
+    }
+
+    fn answer(case: u8, bytes: [u8; 16]) -> Result<usize, Refusal> {
+        answered(case, 0, bytes).read()
     }
 
     #[test]
@@ -488,8 +492,10 @@ mod tests {
         assert_eq!(answer(1, bytes), Err(Refusal::new(21, &[1_024])));
         bytes[0] = 15;
         assert_eq!(answer(1, bytes), Err(Refusal::new(22, &[1_024])));
+        bytes[0] = 16;
+        assert_eq!(answer(1, bytes), Err(Refusal::new(24, &[1_024])));
         // Whatever comes back is read, and a case that there is none of is no refusal's.
-        for case in 16..=255 {
+        for case in 17..=255 {
             bytes[0] = case;
             assert_eq!(answer(0xff, bytes), Err(Refusal::new(255, &[1_024])));
         }
@@ -497,41 +503,55 @@ mod tests {
 
     #[test]
     fn replies_are_read() {
-        let reply = |case: u8, bytes: [u8; 16]| {
-            let value = Value { bytes };
-            Answer { case, value }.reply()
-        };
-        assert_eq!(reply(0, [0xff; 16]), Ok(true));
-        assert_eq!(reply(1, [0xff; 16]), Ok(false));
+        let reply = |case: u8, flag: u8, bytes: [u8; 16]| answered(case, flag, bytes).reply();
+        assert_eq!(reply(0, 1, [0xff; 16]), Ok(true));
+        assert_eq!(reply(0, 0, [0xff; 16]), Ok(false));
         let mut bytes = [0; 16];
         bytes[0] = 12;
         // A length is told as at most the largest word.
         for (length, told) in [(0, 0), (13, 13), (u64::from(u32::MAX), u32::MAX), (1 << 32, u32::MAX)] {
             bytes[8..].copy_from_slice(&length.to_ne_bytes());
-            assert_eq!(reply(2, bytes), Err(Refusal::new(20, &[told])));
+            assert_eq!(reply(1, 0xff, bytes), Err(Refusal::new(20, &[told])));
         }
         bytes[0] = 13;
         bytes[4..8].copy_from_slice(&u32::MAX.to_ne_bytes());
-        assert_eq!(reply(2, bytes), Err(Refusal::new(21, &[u32::MAX])));
+        assert_eq!(reply(1, 0xff, bytes), Err(Refusal::new(21, &[u32::MAX])));
     }
 
     #[test]
     fn verdicts_are_read() {
-        let verdict = |case: u8, bytes: [u8; 16]| {
-            let value = Value { bytes };
-            Answer { case, value }.verdict()
-        };
-        assert_eq!(verdict(0, [0xff; 16]), Ok(Verdict::Same));
+        let verdict = |case: u8, bytes: [u8; 16]| answered(case, 0xff, bytes).verdict();
         let mut bytes = [0xff; 16];
+        bytes[0] = 0;
+        assert_eq!(verdict(0, bytes), Ok(Verdict::Same));
+        bytes[0] = 1;
         for place in [0, 1, 70_000, 1_051_906] {
-            bytes[..8].copy_from_slice(&(place as u64).to_ne_bytes());
-            assert_eq!(verdict(1, bytes), Ok(Verdict::Differs(place)));
+            bytes[8..].copy_from_slice(&(place as u64).to_ne_bytes());
+            assert_eq!(verdict(0, bytes), Ok(Verdict::Differs(place)));
         }
         bytes[0] = 15;
         for party in [2, 0x1_0000, u32::MAX] {
             bytes[4..8].copy_from_slice(&party.to_ne_bytes());
-            assert_eq!(verdict(2, bytes), Err(Refusal::new(22, &[party])));
+            assert_eq!(verdict(1, bytes), Err(Refusal::new(22, &[party])));
         }
+    }
+
+    #[test]
+    fn findings_are_read() {
+        let finding = |case: u8, bytes: [u8; 16]| answered(case, 0xff, bytes).finding();
+        let mut bytes = [0xff; 16];
+        bytes[0] = 0;
+        assert_eq!(finding(0, bytes), types::Verdict::Safe);
+        bytes[0] = 2;
+        assert_eq!(finding(0, bytes), types::Verdict::Another);
+        bytes[0] = 1;
+        for line in [0, 1, 1_023] {
+            bytes[8..].copy_from_slice(&u64::from(line).to_ne_bytes());
+            assert_eq!(finding(0, bytes), types::Verdict::Bad(line));
+        }
+        bytes[0] = 16;
+        bytes[4..8].copy_from_slice(&1_025u32.to_ne_bytes());
+        assert_eq!(finding(1, bytes), types::Verdict::Refused(1_025));
     }
 
     #[test]

@@ -332,7 +332,7 @@ impl Library {
     pub fn ask(&self, summary: &[u32], [party, row, step]: [u32; 3]) -> Result<bool, Refusal> {
         let ask = self.ask.expect("the library has `ask`");
         let mut answer = Answer::default();
-        // SAFETY: the slice is what it says, and the answer is as large as Rattle's `Reply`.
+        // SAFETY: the slice is what it says, and the answer is as large as Rattle's `Result<bool, Refusal>`.
         unsafe { ask(&mut answer, summary.as_ptr(), summary.len(), party, row, step) };
         answer.reply()
     }
@@ -355,7 +355,7 @@ impl Library {
     pub fn judge(&self, book: &[u32], party: u32, listing: &[u32]) -> Result<Verdict, Refusal> {
         let judge = self.judge.expect("the library has `judge`");
         let mut answer = Answer::default();
-        // SAFETY: the slices are what they say, and the answer is as large as Rattle's `Verdict`.
+        // SAFETY: the slices are what they say, and the answer is as large as Rattle's `Result<Verdict, Refusal>`.
         unsafe {
             judge(
                 &mut answer,

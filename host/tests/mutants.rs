@@ -32,6 +32,21 @@ impl Kind {
     pub const MOST: usize = 9;
 }
 
+pub trait Walk {
+    fn count(book: &[u32]) -> usize
+        ensures { result < 3 };
+
+    ghost inside: { (b : List ℕ) (k : ℕ) → k < 3 → b ≡ [] };
+}
+
+impl Walk for Kind {
+    fn count(book: &[u32]) -> usize {
+        twice
+    }
+
+    ghost inside = { λ b k l. 1 < 4 };
+}
+
 #[tactic(auto, using(crate::proofs::Few::few_1))]
 fn twice<'a>(n: u32) -> u32
     requires { n < 7 }

@@ -4,7 +4,8 @@
 // nonces.
 #![tactic(auto)]
 
-ghost use Rattle.std.specs.Prelude.{◌≡◌, ℕ, Bool, List, ◌+◌, ◌≤◌, ◌<◌, length, drop, get_or};
+ghost use Rattle.std.specs.Prelude.{◌≡◌, ℕ, Bool, List, ◌+◌, ◌≤◌, ◌<◌, length, drop, get_or, eqb};
+ghost use Rattle.std.specs.Cmp.Lexicographic.{pointwise};
 ghost use Rattle.std.proofs.Math.Option.{some};
 ghost use Rattle.words.specs.Run.{run, same_words};
 ghost use Rattle.std.specs.List.{list_all, count_by};
@@ -29,6 +30,13 @@ pub fn same_run(u: &[u32], a: usize, v: &[u32], b: usize, n: usize) -> bool
     u[a..a + n] == v[b..b + n]
 }
 
+// A few words are the same. One by one: `==` of slices makes a call for each pair of them, which takes longer than two or three words do.
+pub fn same_few(x: &[u32], y: &[u32]) -> bool
+    ensures { result ≡ pointwise eqb x.now y.now }
+{
+    x.iter().eq(y)
+}
+
 // The terms from a to e and from b to f are the same.
 pub fn same_term(u: &[u32], a: usize, e: usize, v: &[u32], b: usize, f: usize) -> bool
     requires { At u.now a (rest_of (term (drop a u.now))) e × At v.now b (rest_of (term (drop b v.now))) f }
@@ -50,7 +58,7 @@ pub fn count_effect(
     requires { (rest_of (effects k (drop a u.now)) ≡ some (drop end u.now)) × At v.now b (rest_of (effect_of (drop b v.now))) f }
     ensures { result ≡ count (effect_in v.now b) (effects_in u.now a k) }
 {
-    count_where(u, a, k, end, |i, e| u[i..e] == v[b..f])
+    count_where(u, a, k, end, |i, e| same_few(&u[i..e], &v[b..f]))
 }
 
 // The k effects from a to end and the l effects from b to last are one multiset.

@@ -13,7 +13,7 @@ ghost use Rattle.alike.specs.Same.Each.{EffectAt};
 ghost use Rattle.alike.specs.Same.{term_in, effect_in, test};
 ghost use Rattle.balance.specs.Sum.{effect_by, list_of, There, level_at};
 
-use alike::{count_where, every_effect, same_term};
+use alike::{count_where, every_effect, same_few};
 
 // Effects in the words: one, by its word and its term's place and end; or several, by their place, their number and their end.
 // Kept: an effect's kind is its word, 1 or 2, as callers read it and as it is compared with those in the words.
@@ -28,7 +28,7 @@ fn is_effect(w: &[u32], d: u32, a: usize, e: usize, c: u32, b: usize, f: usize) 
     requires { (0 < d) × (d ≤ 2) × At w.now a (rest_of (term (drop a w.now))) e × (0 < c) × (c ≤ 2) × At w.now b (rest_of (term (drop b w.now))) f }
     ensures { result ≡ test (same_effect (effect_by d (term_in w.now a)) (effect_by c (term_in w.now b))) }
 {
-    d == c && same_term(w, a, e, w, b, f)
+    d == c && same_few(&w[a..e], &w[b..f])
 }
 
 // How often the effect with the word c and the term from b to f stands among those of a list.

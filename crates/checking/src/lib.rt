@@ -13,7 +13,7 @@ ghost use Rattle.checking.specs.Finding.{finding_says};
 
 use alike::same_environment;
 use book::Refusal;
-use choosing::{Kind, Rule, UnknownRule, is_there};
+use choosing::{Kind, Rule, UnknownRule};
 use parts::same_process;
 use ruling::Line;
 use spans::{environment_end, process_end};
@@ -138,7 +138,7 @@ fn line_passes(w: &[u32], i: usize) -> bool
         return false;
     };
     let own = line_at(w, i);
-    if !is_there(w, rule.conclusion(), own) || !all_fit(w, i, rule) {
+    if !rule.conclusion().is_there(w, own) || !all_fit(w, i, rule) {
         return false;
     }
     let j = line_at(w, line_place(w, i, 1));

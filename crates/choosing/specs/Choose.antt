@@ -1,5 +1,5 @@
 -- What lines say by their kinds, and whether one follows from others by the rule of a number.
-use Rattle.std.specs.Prelude.{ℕ, Bool, true, false, ◌&&◌, List, [], ◌∷◌, drop}
+use Rattle.std.specs.Prelude.{ℕ, zero, suc, Bool, true, false, ◌&&◌, List, [], ◌∷◌, drop}
 use Rattle.std.proofs.Math.Option.{Option, none, some}
 use Rattle.typing.specs.Judgement.{Judgement}
 use Rattle.typing.specs.Check.{follows}
@@ -37,6 +37,16 @@ is_there Kind.of_type w l = reads environment_at w l.e && reads type_at w l.t
 is_there Kind.of_effect w l = reads environment_at w l.e && reads (effects l.k) w l.f
 is_there Kind.of_term w l = reads environment_at w l.e && (reads term w l.s && reads type_at w l.t)
 is_there Kind.of_process w l = reads environment_at w l.e && (reads process_at w l.s && reads (effects l.k) w l.f)
+
+-- of a kind by its number, and of no other number
+unfoldable pub number_there : ℕ → List ℕ → Line → Bool
+number_there zero w l = false
+number_there (suc zero) w l = is_there Kind.of_environment w l
+number_there (suc (suc zero)) w l = is_there Kind.of_type w l
+number_there (suc (suc (suc zero))) w l = is_there Kind.of_effect w l
+number_there (suc (suc (suc (suc zero)))) w l = is_there Kind.of_term w l
+number_there (suc (suc (suc (suc (suc zero))))) w l = is_there Kind.of_process w l
+number_there (suc (suc (suc (suc (suc (suc k)))))) w l = false
 
 -- ---- lines of some kinds; what stands behind them is not looked at
 unfoldable pub says_all : List Kind → List ℕ → List Line → List Judgement

@@ -1,5 +1,5 @@
 // The rules by their names: by what number each is named in a derivation, of what kinds its conclusion and premises are, and whether a line
-// follows by it (`follows`). `is_there` says whether what a line of a kind names is there.
+// follows by it (`follows`). `Kind::is_there` says whether what a line of a kind names is there, and `is_there` the same of the kind's number.
 #![tactic(auto)]
 
 ghost use Rattle.std.specs.Prelude.{◌≡◌, [], ◌∷◌, map};
@@ -8,7 +8,7 @@ ghost use Rattle.typing.specs.Reading.{effects};
 ghost use Rattle.typing.specs.Derivation.{rule_of};
 ghost use Rattle.choosing.specs.Named.{number_of, kind_says, Names};
 ghost use Rattle.choosing.specs.Kinds.{kind_at, premises_of};
-ghost use Rattle.choosing.specs.Choose.{reads, is_there, Ready, follows_by};
+ghost use Rattle.choosing.specs.Choose.{reads, is_there, number_there, Ready, follows_by};
 
 use ruling::{
     Line, by_cipher, by_cipher_Un, by_effect_check, by_effect_end, by_effect_none, by_empty,
@@ -236,17 +236,34 @@ fn effects_there(w: &[u32], a: usize, k: usize) -> bool
     effects_end(w, end, k - 1).is_some()
 }
 
-// What a line of a kind names is there.
-#[tactic(auto, using(crate::specs::Choose::Tests::reads_end), unfolding(crate::specs::Choose::is_there))]
-pub fn is_there(w: &[u32], kind: Kind, l: Line) -> bool
-    ensures { result ≡ is_there (kind_says kind) w.now l }
+impl Kind {
+    // What a line of the kind names is there.
+    #[tactic(auto, using(crate::specs::Choose::Tests::reads_end), unfolding(crate::specs::Choose::is_there))]
+    pub fn is_there(self, w: &[u32], l: Line) -> bool
+        ensures { result ≡ is_there (kind_says self) w.now l }
+    {
+        environment_end(w, l.e).is_some()
+            && match self {
+                Kind::Environment => true,
+                Kind::Type => type_end(w, l.t).is_some(),
+                Kind::Effect => effects_there(w, l.f, l.k),
+                Kind::Term => term_end(w, l.s).is_some() && type_end(w, l.t).is_some(),
+                Kind::Process => process_end(w, l.s).is_some() && effects_there(w, l.f, l.k),
+            }
+    }
+}
+
+// The same of a kind by its number; of a number that is no kind's nothing is there.
+#[tactic(auto, unfolding(crate::specs::Choose::number_there))]
+pub fn is_there(w: &[u32], kind: u32, l: Line) -> bool
+    ensures { result ≡ number_there kind w.now l }
 {
-    environment_end(w, l.e).is_some()
-        && match kind {
-            Kind::Environment => true,
-            Kind::Type => type_end(w, l.t).is_some(),
-            Kind::Effect => effects_there(w, l.f, l.k),
-            Kind::Term => term_end(w, l.s).is_some() && type_end(w, l.t).is_some(),
-            Kind::Process => process_end(w, l.s).is_some() && effects_there(w, l.f, l.k),
-        }
+    match kind {
+        1 => Kind::Environment.is_there(w, l),
+        2 => Kind::Type.is_there(w, l),
+        3 => Kind::Effect.is_there(w, l),
+        4 => Kind::Term.is_there(w, l),
+        5 => Kind::Process.is_there(w, l),
+        _ => false,
+    }
 }

@@ -111,13 +111,20 @@ fn told_finding(finding: Finding) -> Told
     }
 }
 
+// The number and the values of what is said of a derivation.
+fn told_checked(checked: Result<Finding, Refusal>) -> Told
+    ensures { told_says result ≡ checked_says checked }
+{
+    match checked {
+        Ok(finding) => told_finding(finding),
+        Err(why) => told_of(why),
+    }
+}
+
 // What is said of a derivation, in one number.
 pub fn pack_checked(checked: Result<Finding, Refusal>) -> u64
     requires { Packs (capped_of (checked_says checked)) }
     ensures { result ≡ pack_of (capped_of (checked_says checked)) }
 {
-    match checked {
-        Ok(finding) => pack_told(capped(told_finding(finding))),
-        Err(why) => pack_told(capped(told_of(why))),
-    }
+    pack_told(capped(told_checked(checked)))
 }

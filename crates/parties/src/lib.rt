@@ -15,7 +15,7 @@ use book::{
     Kind, Limit, Mark, parties, party_count, party_first, party_mark, party_name, pooled, row_kind,
     rows, step_count, step_first, step_receiver, step_sender, steps,
 };
-use rows::{Records, list_breaks, scan};
+use rows::{Records, Stopped, list_breaks, scan};
 
 // An earlier party has the party's name.
 fn name_repeats(book: &[u32], party: u32) -> bool
@@ -93,7 +93,7 @@ impl Records for Parties {
 }
 
 // Refusal 7: the first party that breaks its rule, or the sum of all rows' and parties' counts.
-pub fn scan_parties(book: &[u32], before: usize) -> Result<usize, u32>
+pub fn scan_parties(book: &[u32], before: usize) -> Result<usize, Stopped>
     requires { Headed book.now × (before ≡ rows_before book.now (rows_of book.now)) × (before ≤ pool_of book.now) }
     ensures { Scanned book.now (party_breaks book.now) (parties_before book.now) (parties_of book.now) result }
 {
@@ -136,7 +136,7 @@ impl Records for Steps {
 }
 
 // Refusal 8: the first step that breaks its rule, or the sum of all counts.
-pub fn scan_steps(book: &[u32], before: usize) -> Result<usize, u32>
+pub fn scan_steps(book: &[u32], before: usize) -> Result<usize, Stopped>
     requires { Headed book.now × (before ≡ parties_before book.now (parties_of book.now)) × (before ≤ pool_of book.now) }
     ensures { Scanned book.now (step_breaks book.now) (steps_before book.now) (steps_of book.now) result }
 {

@@ -20,8 +20,8 @@ fn read_parties(book: &[u32], before: usize) -> Result<(), Refusal>
     requires { Headed book.now × (before ≡ rows_before book.now (rows_of book.now)) × (before ≤ pool_of book.now) }
     ensures { reading_says result ≡ first_of (drop 6 (reading_table book.now)) accepted }
 {
-    let known = scan_parties(book, before).map_err(Refusal::Party)?;
-    let all = scan_steps(book, known).map_err(Refusal::Step)?;
+    let known = scan_parties(book, before).map_err(|stop| Refusal::Party(stop.place))?;
+    let all = scan_steps(book, known).map_err(|stop| Refusal::Step(stop.place))?;
     if all != pool(book) {
         return Err(Refusal::Sum);
     }
@@ -33,7 +33,7 @@ fn read_rows(book: &[u32]) -> Result<(), Refusal>
     requires { Headed book.now }
     ensures { reading_says result ≡ first_of (drop 3 (reading_table book.now)) accepted }
 {
-    let parts = scan_rows(book).map_err(Refusal::Row)?;
+    let parts = scan_rows(book).map_err(|stop| Refusal::Row(stop.place))?;
     if let Some(row) = oversize(book) {
         return Err(Refusal::Size(row));
     }

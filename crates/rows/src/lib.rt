@@ -77,15 +77,22 @@ pub trait Records {
     ghost inside: { (b : List ℕ) (k : ℕ) → breaks b k ≡ false → before b (k + 1) ≤ pool_of b };
 }
 
-// The first record that breaks its rule; or, where none does, all counts with those before the first.
-pub fn scan<R: Records>(book: &[u32], before: usize) -> Result<usize, u32>
+// Where a walk stopped: at the first place that breaks its rule, and the counts before it.
+#[derive(Drop)]
+pub struct Stopped {
+    pub place: u32,
+    pub sum: usize,
+}
+
+// All counts with those before the first; or the first record that breaks its rule, and the counts before it.
+pub fn scan<R: Records>(book: &[u32], before: usize) -> Result<usize, Stopped>
     requires { Headed book.now × (before ≡ R.before book.now 0) × (before ≤ pool_of book.now) }
     ensures { Scanned book.now (R.breaks book.now) (R.before book.now) (R.among book.now) result }
 {
     let mut sum = before;
     for place in 0..R::among(book) {
         if R::breaks(book, place, sum) {
-            return Err(place);
+            return Err(Stopped { place, sum });
         }
         sum += R::count(book, place);
     }
@@ -128,7 +135,7 @@ impl Records for Rows {
 }
 
 // Refusal 4: the first row that breaks its rule, or the sum of all counts.
-pub fn scan_rows(book: &[u32]) -> Result<usize, u32>
+pub fn scan_rows(book: &[u32]) -> Result<usize, Stopped>
     requires { Headed book.now }
     ensures { Scanned book.now (row_breaks book.now) (rows_before book.now) (rows_of book.now) result }
 {

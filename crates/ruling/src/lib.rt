@@ -214,16 +214,18 @@ pub fn by_pair(w: &[u32], i: Line, j: Line, k: Line) -> bool
     requires { TermThere w.now i × TermThere w.now j × TermThere w.now k }
     ensures { result ≡ follows Rule.pair (says_term w.now j ∷ says_term w.now k ∷ []) (says_term w.now i) }
 {
-    if word(w, i.t) != 2 {
+    if word(w, i.s) != 2 || word(w, i.t) != 2 {
         return false;
     }
+    let left = i.s + 1;
+    let right = behind::<Term>(w, left);
     let second = behind::<Type>(w, i.t + 1);
     let e = behind::<Type>(w, k.t);
     let f = behind::<Type>(w, second);
-    let end = behind::<Term>(w, j.s);
-    joined(w, i, j, k, 2)
+    term_premise(w, i, j, left)
+        && term_premise(w, i, k, right)
         && same_at::<Type>(w, i.t + 1, j.t)
-        && same_changed(w, k.t, e, second, f, By::Put(j.s, end))
+        && same_changed(w, k.t, e, second, f, By::Put(left, right))
 }
 
 // E ⊢ M : T, E ⊢ N : symkey(T)  ⟹  E ⊢ {M}N : Un

@@ -352,7 +352,7 @@ fn matching(tokens: &[Token], open: usize) -> usize {
     tokens.len()
 }
 
-/// The tokens of what runs and of declarations: no remark, attribute, contract or `use`.
+/// The tokens of what runs and of declarations: no remark, attribute, contract, ghost member or `use`.
 fn code(text: &str) -> Vec<Token<'_>> {
     let all = tokens(text);
     let mut code = Vec::new();
@@ -360,7 +360,8 @@ fn code(text: &str) -> Vec<Token<'_>> {
     while i < all.len() {
         match all[i].text {
             "use" => i = find(&all, i, ";"),
-            "ghost" => {}
+            "ghost" if said(&all, i + 1) == "use" => {}
+            "ghost" => i = matching(&all, find(&all, i, "{")),
             "#" => i = matching(&all, find(&all, i, "[")),
             "requires" | "ensures" => i = matching(&all, find(&all, i, "{")),
             _ => code.push(all[i]),

@@ -1,9 +1,10 @@
 -- `reader::read_parties` meets its contract: the lines 7 to 9 of the table, one after the other. Assumes nothing.
-use Rattle.std.proofs.Common.{◌≡◌, ℕ, Ok, Err, rules}
+use Rattle.std.proofs.Common.{◌≡◌, Ok, Err, rules}
 use Rattle.book.specs.declared.Refusal.TheVariants.{Party, Step}
 use Rattle.book.specs.Layout.{parties, parties_before, steps, steps_before}
 use Rattle.book.specs.Rules.{party_breaks, step_breaks}
 use Rattle.rows.specs.Scanned.{Scanned}
+use Rattle.rows.specs.declared.Stopped.{Stopped}
 use Rattle.reader.proofs.Verdict.{says-party, says-step, says-sum, says-accepted}
 use Rattle.reader.proofs.read_parties.Goals as goal
 use Rattle.reader.proofs.read_parties.Goals.{In_ok-known, In_ok-all}
@@ -19,14 +20,14 @@ all c = let scanned : c.scan_steps.result ≡ Ok c.in_ok-all.all = search rules 
 
 -- where it returns, the refusal is that of the place found
 pub returns-in_err-known : goal.returns-in_err-known
-returns-in_err-known c = let (party, scanned, refused) : (k : ℕ) × (c.scan_parties.result ≡ Err k) × (c.from_residual.result ≡ Err (Party k)) = search rules in
-    let (found, inside) = rw scanned at c.scan_parties.ensures in
-    rw refused (says-party _ party found)
+returns-in_err-known c = let (stop, scanned, refused) : (s : Stopped) × (c.scan_parties.result ≡ Err s) × (c.from_residual.result ≡ Err (Party s.place)) = search rules in
+    let (found, summed, inside) = rw scanned at c.scan_parties.ensures in
+    rw refused (says-party _ stop.place found)
 
 pub returns-in_err-all : goal.returns-in_err-all
-returns-in_err-all c = let (step, scanned, refused) : (k : ℕ) × (c.scan_steps.result ≡ Err k) × (c.from_residual-in_err-all.result ≡ Err (Step k)) = search rules in
-    let (found, inside) = rw scanned at c.scan_steps.ensures in
-    rw refused (says-step _ (known (goal.at.returns-in_err-all c).In_ok-known).0 step found)
+returns-in_err-all c = let (stop, scanned, refused) : (s : Stopped) × (c.scan_steps.result ≡ Err s) × (c.from_residual-in_err-all.result ≡ Err (Step s.place)) = search rules in
+    let (found, summed, inside) = rw scanned at c.scan_steps.ensures in
+    rw refused (says-step _ (known (goal.at.returns-in_err-all c).In_ok-known).0 stop.place found)
 
 pub returns-then-all-pool : goal.returns-then-all-pool
 returns-then-all-pool c = let (met, total, inside) = all (goal.at.returns-then-all-pool c).In_ok-all in

@@ -1,9 +1,10 @@
 -- `reader::read_rows` meets its contract: the lines 4 to 6 of the table, and then the rest. Assumes nothing.
-use Rattle.std.proofs.Common.{◌≡◌, ℕ, Ok, Err, rules}
+use Rattle.std.proofs.Common.{◌≡◌, Ok, Err, rules}
 use Rattle.book.specs.declared.Refusal.TheVariants.{Row}
 use Rattle.book.specs.Layout.{rows, rows_before}
 use Rattle.book.specs.Rules.{row_breaks}
 use Rattle.rows.specs.Scanned.{Scanned}
+use Rattle.rows.specs.declared.Stopped.{Stopped}
 use Rattle.reader.proofs.Verdict.{says_row, says-size, says-repeat, says-rest, rows-kept}
 use Rattle.reader.proofs.read_rows.Goals as goal
 use Rattle.reader.proofs.read_rows.Goals.{In_ok-parts}
@@ -15,9 +16,9 @@ parts c = let scanned : c.scan_rows.result ≡ Ok c.in_ok-parts.parts = search r
 
 -- where it returns, the refusal is that of the place found
 pub returns-in_err-parts : goal.returns-in_err-parts
-returns-in_err-parts c = let (row, scanned, refused) : (k : ℕ) × (c.scan_rows.result ≡ Err k) × (c.from_residual.result ≡ Err (Row k)) = search rules in
-    let (found, inside) = rw scanned at c.scan_rows.ensures in
-    rw refused (says_row _ row found)
+returns-in_err-parts c = let (stop, scanned, refused) : (s : Stopped) × (c.scan_rows.result ≡ Err s) × (c.from_residual.result ≡ Err (Row s.place)) = search rules in
+    let (found, summed, inside) = rw scanned at c.scan_rows.ensures in
+    rw refused (says_row _ stop.place found)
 
 -- the rows keep their rules
 pub oversize-requires : goal.oversize-requires

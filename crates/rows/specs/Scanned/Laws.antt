@@ -14,8 +14,8 @@ module _ {b : List ℕ} {breaks : ℕ → Bool} {before : ℕ → ℕ} where
 
   -- it stops at place k, of which a call said v, or behind the last of n places
   pub summed-stops : (n k s : ℕ) → Summed b breaks before k s → k < n → (v : Bool) → v ≡ breaks k → v ≡ true
-      → Scanned b breaks before n (Err k)
-  summed-stops n k s w l v d h = let e = w.summed in let i = w.inside in (found_at breaks n k w.passed l v d h, omega arith)
+      → Scanned b breaks before n (Err (record { place = k; sum = s }))
+  summed-stops n k s w l v d h = (found_at breaks n k w.passed l v d h, w.summed, w.inside)
 
   pub summed-ends : (n k s : ℕ) → Summed b breaks before k s → k ≤ n → n ≤ k → Scanned b breaks before n (Ok s)
   summed-ends n k s w l m =

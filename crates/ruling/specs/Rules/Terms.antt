@@ -66,6 +66,23 @@ pair E E1 E2 M0 M1 M2 T0 T S T1 T2 n =
     let q = w.conclusion in
     ((cc, (cc, cc)), (cc, cc))))
 
+-- the same of a pair by its parts, with its own first part put in
+pub pair-parts : (E E1 E2 : Environment) (M0 A B M1 M2 : Term) (T0 T S T1 T2 : Ty) → M0 ≡ Term.pair A B → T0 ≡ Ty.pair T S
+    → follows Rule.pair (Judgement.term E1 M1 T1 ∷ Judgement.term E2 M2 T2 ∷ []) (Judgement.term E M0 T0)
+    ≡ ((test (same_environment E1 E) && test (same_term M1 A)) && ((test (same_environment E2 E) && test (same_term M2 B))
+    && (test (same_type T T1) && test (same_type T2 (putting A S)))))
+unfolding left right name_of second promised parts_of environment_of term_of type_of effects_of process_of first rest printed asks
+pair-parts E E1 E2 M0 A B M1 M2 T0 T S T1 T2 m n =
+    rw (m, n) (by-tests ((is (same_environment E1 E) & is (same_term M1 A)) & (is (same_environment E2 E) & is (same_term M2 B))
+    & is (same_type T T1) & is (same_type T2 (putting A S)))
+    (λ p.
+    let a = p.0.1 in
+    record { premises = cc; conclusion = cc; asked = refl })
+    (λ w.
+    let p = w.premises in
+    let q = w.conclusion in
+    ((cc, cc), ((cc, cc), (cc, cc)))))
+
 -- E ⊢ M : T, E ⊢ N : symkey(T)  ⟹  E ⊢ {M}N : Un
 pub cipher : (E E1 E2 : Environment) (M0 M1 M2 : Term) (T T1 T2 : Ty)
     → follows Rule.cipher (Judgement.term E1 M1 T1 ∷ Judgement.term E2 M2 T2 ∷ []) (Judgement.term E M0 T)
@@ -128,6 +145,38 @@ pub name-other : (Js : List Judgement) (E : Environment) (M : Term) (T : Ty) →
     → false ≡ follows Rule.name Js (Judgement.term E M T)
 unfolding left right name_of second promised parts_of environment_of term_of type_of effects_of process_of first rest printed asks
 name-other Js E M T d = never-follows (λ w. d (ap code_of (subject w.conclusion)))
+  where
+    subject : {N : Term} {S : Ty} → Judgement.term E M T ≡ Judgement.term E N S → M ≡ N
+    subject z = cc
+
+pub pair-other : (Js : List Judgement) (E : Environment) (M : Term) (T : Ty) → (code_of M ≡ 2 → ⊥)
+    → false ≡ follows Rule.pair Js (Judgement.term E M T)
+unfolding left right name_of second promised parts_of environment_of term_of type_of effects_of process_of first rest printed asks
+pair-other Js E M T d = never-follows (λ w. d (ap code_of (subject w.conclusion)))
+  where
+    subject : {N : Term} {S : Ty} → Judgement.term E M T ≡ Judgement.term E N S → M ≡ N
+    subject z = cc
+
+pub cipher-other : (Js : List Judgement) (E : Environment) (M : Term) (T : Ty) → (code_of M ≡ 3 → ⊥)
+    → false ≡ follows Rule.cipher Js (Judgement.term E M T)
+unfolding left right name_of second promised parts_of environment_of term_of type_of effects_of process_of first rest printed asks
+cipher-other Js E M T d = never-follows (λ w. d (ap code_of (subject w.conclusion)))
+  where
+    subject : {N : Term} {S : Ty} → Judgement.term E M T ≡ Judgement.term E N S → M ≡ N
+    subject z = cc
+
+pub cipher-Un-other : (Js : List Judgement) (E : Environment) (M : Term) (T : Ty) → (code_of M ≡ 3 → ⊥)
+    → false ≡ follows Rule.cipher-Un Js (Judgement.term E M T)
+unfolding left right name_of second promised parts_of environment_of term_of type_of effects_of process_of first rest printed asks
+cipher-Un-other Js E M T d = never-follows (λ w. d (ap code_of (subject w.conclusion)))
+  where
+    subject : {N : Term} {S : Ty} → Judgement.term E M T ≡ Judgement.term E N S → M ≡ N
+    subject z = cc
+
+pub pair-Un-other : (Js : List Judgement) (E : Environment) (M : Term) (T : Ty) → (code_of M ≡ 2 → ⊥)
+    → false ≡ follows Rule.pair-Un Js (Judgement.term E M T)
+unfolding left right name_of second promised parts_of environment_of term_of type_of effects_of process_of first rest printed asks
+pair-Un-other Js E M T d = never-follows (λ w. d (ap code_of (subject w.conclusion)))
   where
     subject : {N : Term} {S : Ty} → Judgement.term E M T ≡ Judgement.term E N S → M ≡ N
     subject z = cc
